@@ -1,0 +1,17 @@
+-- An answer: a value, or the number of a refusal. The order of tests is the order of lines.
+use Prim.Native.Nat.{ℕ}
+use mathlib.Core.Bool.{Bool, true, false}
+
+pub data Res (A : Type 0) : Type 0 where
+  ok : A → Res A
+  refuse : ℕ → Res A
+
+-- go on with what was answered; a refusal ends the call
+abbrev pub bind : {A B : Type 0} → Res A → (A → Res B) → Res B
+bind (ok a) f = f a
+bind (refuse n) f = refuse n
+
+-- refuse with n when the test holds
+abbrev pub guard : {A : Type 0} → Bool → ℕ → Res A → Res A
+guard true n k = refuse n
+guard false n k = k

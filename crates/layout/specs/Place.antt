@@ -1,0 +1,41 @@
+-- Numbers at a place of the data: the number, and where what follows it starts. What a lent buffer holds after bytes are put at a place of it.
+use Prim.Native.Nat.{ℕ, zero, suc, _+_}
+use mathlib.Core.Bool.{Bool, true, false, cond}
+use mathlib.Core.List.{List, [], _∷_, _++_}
+use lib.Dec.{ltb}
+use lib.ListN.{length, take, drop}
+use Rattle.layout.specs.Answer.{Res, ok, refuse, bind, guard}
+use Rattle.layout.specs.Varint.{readVarint, Num}
+use Rattle.layout.specs.Fixed.{unbig}
+
+pub record NumAt : Type 0 where
+  pub val : ℕ
+  pub next : ℕ
+
+abbrev pub numAt : ℕ → ℕ → NumAt
+numAt v n = record { val = v; next = n }
+
+abbrev pub placed : ℕ → Num → Res NumAt
+placed at n = ok (numAt (n .val) (at + n .len))
+
+-- a varint
+unfoldable pub varintAt : List ℕ → ℕ → Res NumAt
+varintAt d at = bind (readVarint (drop at d)) (placed at)
+
+-- a number of n bytes, high byte first
+unfoldable pub fixedAt : ℕ → List ℕ → ℕ → Res NumAt
+fixedAt n d at = guard (ltb (length d) (at + n)) 9 (ok (numAt (unbig (take n (drop at d))) (at + n)))
+
+-- ---- what is written
+
+-- a list with w in the place of as many elements from `at` on
+unfoldable pub splice : List ℕ → ℕ → List ℕ → List ℕ
+splice xs at w = take at xs ++ (w ++ drop (at + length w) xs)
+
+-- the place after w, put at `at` of a buffer of `room` bytes: 6 where it does not hold it
+unfoldable pub putAt : ℕ → ℕ → List ℕ → Res ℕ
+putAt room at w = guard (ltb room (at + length w)) 6 (ok (at + length w))
+
+-- the buffer after that: a refusal writes nothing
+unfoldable pub afterPut : List ℕ → ℕ → List ℕ → List ℕ
+afterPut buf at w = cond (ltb (length buf) (at + length w)) buf (splice buf at w)

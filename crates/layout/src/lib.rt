@@ -1,0 +1,1 @@
+// No code: this crate is the definitions of specs/ and what is proved of them.
