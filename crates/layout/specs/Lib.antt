@@ -4,4 +4,13 @@ pub mod Varint
 pub mod Fixed
 pub mod Place
 pub mod Key
+pub mod Row
+pub mod RowRead
+pub mod Block
+pub mod Trailer
+pub mod Builder
+pub mod Check
+pub mod Cursor
+pub mod Seek
+pub mod Cases
 pub mod Laws

@@ -1,0 +1,135 @@
+-- The builder: its state, what a state must be (18), new, the fit question, adding and building, each with both buffers after.
+use Prim.Native.Nat.{ℕ, zero, suc, _+_, _-_, _*_, _/_}
+use mathlib.Core.Bool.{Bool, true, false, cond, not, _&&_, _||_}
+use mathlib.Core.List.{List, [], _∷_}
+use lib.Dec.{ltb, leb, eqb}
+use lib.ListN.{length, take, set}
+use Rattle.layout.specs.Answer.{Res, ok, refuse, bind, guard}
+use Rattle.layout.specs.Limits.{maxKey, maxBlock, maxInterval, maxOffset, maxRestarts, leastRow}
+use Rattle.layout.specs.Place.{splice}
+use Rattle.layout.specs.Key.{Key}
+use Rattle.layout.specs.Row.{Fields, valueOf, ifSo, lengthTests}
+use Rattle.layout.specs.Block.{isRestart, laidRow, trailer}
+
+-- the last key is known by its length and its bytes: those past the length tell nothing
+pub record Builder : Type 0 where
+  pub size : ℕ
+  pub interval : ℕ
+  pub used : ℕ
+  pub restarts : ℕ
+  pub rows : ℕ
+  pub lastLen : ℕ
+  pub last : Key
+
+abbrev pub fresh : ℕ → ℕ → Builder
+fresh size interval = record { size = size; interval = interval; used = 0; restarts = 0; rows = 0; lastLen = 0; last = [] }
+
+-- block size or interval outside its limits: 8
+unfoldable pub newBuilder : ℕ → ℕ → Res Builder
+newBuilder size interval =
+    guard (ltb maxBlock size) 8
+    (guard (eqb interval 0) 8
+    (guard (ltb maxInterval interval) 8
+    (ok (fresh size interval))))
+
+-- what a refused constructor gives
+abbrev pub built : Res Builder → Builder
+built (ok b) = b
+built (refuse n) = fresh 0 1
+
+unfoldable pub isEmpty : Builder → Bool
+isEmpty b = eqb (b .rows) 0
+
+-- ---- state 18, over a data buffer and a restart buffer of these lengths
+
+-- rows divided by interval, rounded up
+abbrev pub restartsOf : ℕ → ℕ → ℕ
+restartsOf rows interval = (rows + (interval - 1)) / interval
+
+unfoldable pub stateTests : Builder → ℕ → ℕ → Res (Unit {0})
+stateTests b dataLen placesLen =
+    guard (ltb maxBlock (b .size)) 18
+    (guard (eqb (b .interval) 0) 18
+    (guard (ltb maxInterval (b .interval)) 18
+    (guard (ltb dataLen (b .used)) 18
+    (guard (ltb placesLen (b .restarts)) 18
+    (guard (ltb maxRestarts (b .restarts)) 18
+    (guard (not (eqb (b .restarts) (restartsOf (b .rows) (b .interval)))) 18
+    (guard (ltb (b .used) (leastRow * b .rows)) 18
+    (guard (eqb (b .rows) 0 && ltb 0 (b .used)) 18
+    (guard (ltb maxKey (b .lastLen)) 18
+    (ok tt))))))))))
+
+-- ---- the fit question: 18, 1, 2, 3, 4
+
+abbrev pub atRestart : Builder → Bool
+atRestart b = isRestart (b .interval) (b .rows)
+
+abbrev pub nextRow : Builder → Key → Fields → List ℕ
+nextRow b key f = laidRow (atRestart b) (b .last) key f
+
+abbrev pub presentSize : Builder → ℕ
+presentSize b = b .used + 2 * b .restarts + 2
+
+-- the present size after one more row
+abbrev pub grownSize : Builder → Key → Fields → ℕ
+grownSize b key f = presentSize b + length (nextRow b key f) + ifSo (atRestart b) 2
+
+-- an empty builder accepts a first row of any allowed size
+unfoldable pub fits : Builder → Key → Fields → Bool
+fits b key f = eqb (b .rows) 0 || leb (grownSize b key f) (b .size)
+
+unfoldable pub wouldFit : Builder → ℕ → ℕ → Key → Fields → Res (Unit {0})
+wouldFit b dataLen placesLen key f =
+    bind (stateTests b dataLen placesLen) λ _.
+    bind (lengthTests (length key) (length (valueOf f))) λ _.
+    guard (not (fits b key f)) 4
+    (ok tt)
+
+-- ---- adding: 18, 1, 2, 3, 4, 5, 6
+
+abbrev pub grown : Builder → Key → Fields → Builder
+grown b key f =
+    record {
+      size = b .size;
+      interval = b .interval;
+      used = b .used + length (nextRow b key f);
+      restarts = b .restarts + ifSo (atRestart b) 1;
+      rows = b .rows + 1;
+      lastLen = length key;
+      last = key;
+    }
+
+unfoldable pub add : Builder → ℕ → ℕ → Key → Fields → Res Builder
+add b dataLen placesLen key f =
+    bind (wouldFit b dataLen placesLen key f) λ _.
+    guard (atRestart b && ltb maxOffset (b .used)) 5
+    (guard (ltb dataLen (grownSize b key f)) 6
+    (guard (atRestart b && leb placesLen (b .restarts)) 6
+    (ok (grown b key f))))
+
+-- the state given back, and both buffers: the row goes to the free rest of the data, a restart's offset to the next place
+abbrev pub stateAfter : Res Builder → Builder → Builder
+stateAfter (ok b′) b = b′
+stateAfter (refuse n) b = b
+
+abbrev pub dataAfter : Res Builder → Builder → Key → Fields → List ℕ → List ℕ
+dataAfter (ok b′) b key f bytes = splice bytes (b .used) (nextRow b key f)
+dataAfter (refuse n) b key f bytes = bytes
+
+abbrev pub placesAfter : Res Builder → Builder → List ℕ → List ℕ
+placesAfter (ok b′) b places = cond (atRestart b) (set places (b .restarts) (b .used)) places
+placesAfter (refuse n) b places = places
+
+-- ---- building: 18, 7, 6; the trailer goes after the rows, and the answer is the block's length
+
+unfoldable pub build : Builder → ℕ → ℕ → Res ℕ
+build b dataLen placesLen =
+    bind (stateTests b dataLen placesLen) λ _.
+    guard (eqb (b .rows) 0) 7
+    (guard (ltb dataLen (presentSize b)) 6
+    (ok (presentSize b)))
+
+abbrev pub blockAfter : Res ℕ → Builder → List ℕ → List ℕ → List ℕ
+blockAfter (ok n) b bytes places = splice bytes (b .used) (trailer (take (b .restarts) places))
+blockAfter (refuse n) b bytes places = bytes

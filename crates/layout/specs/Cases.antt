@@ -1,0 +1,200 @@
+-- "Rows from the desk", cases 1 to 10, in a single list; `cases-hold` is the one fact over it, by computation against the definitions.
+use Prim.Native.Nat.{ℕ, zero, suc, _+_}
+use mathlib.Core.Path.{_≡_, refl}
+use mathlib.Core.Bool.{Bool, true, false, cond}
+use mathlib.Core.List.{List, [], _∷_, _++_}
+use lib.Count.{leadingZeros}
+use lib.Dec.{eqb}
+use lib.ListN.{length, take, drop, replicate, set}
+use Rattle.layout.specs.Answer.{Res, ok, refuse, bind}
+use Rattle.layout.specs.Varint.{varint, varintIn, varintLength, Num, num, readVarint, readVarintIn}
+use Rattle.layout.specs.Fixed.{big, unbig, bits, unbits}
+use Rattle.layout.specs.Place.{varintAt, fixedAt, splice}
+use Rattle.layout.specs.Key.{Key, below, common}
+use Rattle.layout.specs.Row.{Kind, value, tombstone, Time, Absent, Fields, Row, present, timeBytes, rowBytes, rowSize, sizeAlone, keyLengthTests, lengthTests}
+use Rattle.layout.specs.RowRead.{RowRead, decodeRow, lengthsAt, headAt, flagsAt, bodyAt, timeAt, timesAt, rowAt, readRow, readKey}
+use Rattle.layout.specs.Block.{isRestart, shareOf, laidRow, offsetBytes, trailer}
+use Rattle.layout.specs.Trailer.{shortAt, trailerOf, risingFrom, allOffsets, regionOf}
+use Rattle.layout.specs.Builder.{Builder, fresh, stateTests, fits, wouldFit, add, stateAfter, dataAfter, placesAfter, build, blockAfter}
+use Rattle.layout.specs.Cursor.{Direction, ascending, descending, Cursor, opened, Answer, found, done, Step, rowEndingAt, stepUp, stepBackIn, stepDown, next}
+use Rattle.layout.specs.Seek.{Found, middle, searchIn, search, restartKey, restartBelow, searchRestarts, walkRegion, walkUp, seekUp, lastEqual, startDown, lastAtOrBelow, walkDown, seekDown, Sought, seek}
+
+-- ---- a builder that is offered rows, over buffers that hold something before
+
+pub record Run : Type 0 where
+  pub builder : Builder
+  pub bytes : List ℕ
+  pub places : List ℕ
+
+abbrev pub started : ℕ → ℕ → Run
+started size interval = record { builder = fresh size interval; bytes = replicate 96 255; places = replicate 4 255 }
+
+abbrev pub answerTo : Run → Row → Res Builder
+answerTo u r = add (u .builder) (length (u .bytes)) (length (u .places)) (r .key) (r .fields)
+
+abbrev pub runAfter : Res Builder → Run → Row → Run
+runAfter a u r =
+    record {
+      builder = stateAfter a (u .builder);
+      bytes = dataAfter a (u .builder) (r .key) (r .fields) (u .bytes);
+      places = placesAfter a (u .builder) (u .places);
+    }
+
+-- 0 for a row that is taken, else the refusal's number
+abbrev pub numberOf : {A : Type 0} → Res A → ℕ
+numberOf (ok a) = 0
+numberOf (refuse n) = n
+
+unfoldable pub answers : Run → List Row → List ℕ
+answers u [] = []
+answers u (r ∷ rs) = numberOf (answerTo u r) ∷ answers (runAfter (answerTo u r) u r) rs
+
+unfoldable pub offered : Run → List Row → Run
+offered u [] = u
+offered u (r ∷ rs) = offered (runAfter (answerTo u r) u r) rs
+
+-- the block's length is answered, and the block stands at the buffer's start
+abbrev pub blockIn : Res ℕ → Run → List ℕ
+blockIn (ok n) u = take n (blockAfter (ok n) (u .builder) (u .bytes) (u .places))
+blockIn (refuse n) u = []
+
+unfoldable pub finished : Run → List ℕ
+finished u = blockIn (build (u .builder) (length (u .bytes)) (length (u .places))) u
+
+unfoldable pub blockFor : ℕ → ℕ → List Row → List ℕ
+blockFor size interval rows = finished (offered (started size interval) rows)
+
+-- ---- the number of the row that is found
+
+-- where the rows start, by steps from an opened cursor
+abbrev pub follow : Answer → List ℕ → List ℕ
+follow (found r key) more = r .start ∷ more
+follow done more = []
+
+abbrev pub stepped : Res Step → (Cursor → List ℕ) → List ℕ
+stepped (ok s) k = follow (s .answer) (k (s .cursor))
+stepped (refuse n) k = []
+
+unfoldable pub rowStarts : ℕ → Cursor → List ℕ → List ℕ
+rowStarts zero c b = []
+rowStarts (suc n) c b = stepped (next c b 1024) (λ c′. rowStarts n c′ b)
+
+unfoldable pub numberIn : List ℕ → ℕ → ℕ
+numberIn [] at = 0
+numberIn (s ∷ ss) at = cond (eqb s at) 0 (suc (numberIn ss at))
+
+pub data Landed : Type 0 where
+  row : ℕ → ℕ → Landed
+  none : ℕ → Landed
+
+-- the row after a seek, and how many restart keys the search read
+abbrev pub landedBy : List ℕ → ℕ → Answer → Res Landed
+landedBy starts reads (found r key) = ok (row (numberIn starts (r .start)) reads)
+landedBy starts reads done = ok (none reads)
+
+unfoldable pub landed : Direction → List ℕ → Key → Res Landed
+landed d b target =
+    bind (trailerOf b) λ t.
+    bind (seek d b target) λ s.
+    bind (next (s .cursor) b 1024) λ a.
+    landedBy (rowStarts 9 (opened ascending t) b) (s .reads) (a .answer)
+
+-- ---- the cases
+
+pub data Case : Type 0 where
+  -- a row alone at a restart: its bytes, and its size from lengths alone
+  lays : Row → List ℕ → ℕ → Case
+  -- block size, interval and the rows offered: the answer to each, and the finished block
+  builds : ℕ → ℕ → List Row → List ℕ → List ℕ → Case
+  -- a number's varint
+  spells : ℕ → List ℕ → Case
+  -- the varint that bytes spell
+  reads : List ℕ → Res Num → Case
+  -- a single row's bytes are refused
+  refuses : List ℕ → ℕ → Case
+  -- a seek in a block of rows with these keys
+  seeks : ℕ → List Row → Direction → Key → Landed → Case
+
+abbrev pub Holds : Case → Type 0
+Holds (lays r bytes n) =
+    (laidRow true [] (r .key) (r .fields) ≡ bytes)
+    × (sizeAlone 0 (length (r .key)) (r .fields .kind) (length (r .fields .val)) (present (r .fields .expire)) (present (r .fields .create)) ≡ ok n)
+    × (length bytes ≡ n)
+Holds (builds size interval rows said block) = (answers (started size interval) rows ≡ said) × (blockFor size interval rows ≡ block)
+Holds (spells v bytes) = (varint v ≡ bytes) × (readVarint bytes ≡ ok (num v (length bytes)))
+Holds (reads bytes answer) = readVarint bytes ≡ answer
+Holds (refuses bytes n) = decodeRow bytes 0 ≡ refuse n
+Holds (seeks interval rows d target answer) = landed d (blockFor 4096 interval rows) target ≡ ok answer
+
+abbrev pub AllHold : List Case → Type 0
+AllHold [] = Unit {0}
+AllHold (c ∷ cs) = Holds c × AllHold cs
+
+abbrev pub rowWith : Key → List ℕ → ℕ → Row
+rowWith key val seq = record { key = key; fields = record { kind = value; val = val; seq = seq; expire = Absent; create = Absent } }
+
+-- the letters of the cases
+abbrev keyA : Key
+keyA = 97 ∷ []
+
+abbrev keyAB : Key
+keyAB = 97 ∷ 98 ∷ []
+
+abbrev rowA : Row
+rowA = rowWith keyA [] 1
+
+abbrev rowAB : Row
+rowAB = rowWith keyAB (120 ∷ []) 2
+
+abbrev bytesA : List ℕ
+bytesA = 0 ∷ 1 ∷ 0 ∷ 97 ∷ 0 ∷ 0 ∷ 0 ∷ 0 ∷ 0 ∷ 0 ∷ 0 ∷ 1 ∷ 0 ∷ []
+
+abbrev bytesAB : List ℕ
+bytesAB = 1 ∷ 1 ∷ 1 ∷ 98 ∷ 120 ∷ 0 ∷ 0 ∷ 0 ∷ 0 ∷ 0 ∷ 0 ∷ 0 ∷ 2 ∷ 0 ∷ []
+
+abbrev bytesABAlone : List ℕ
+bytesABAlone = 0 ∷ 2 ∷ 1 ∷ 97 ∷ 98 ∷ 120 ∷ 0 ∷ 0 ∷ 0 ∷ 0 ∷ 0 ∷ 0 ∷ 0 ∷ 2 ∷ 0 ∷ []
+
+-- keys a, b, b, b, c
+abbrev rows8 : List Row
+rows8 = rowWith (97 ∷ []) [] 1 ∷ rowWith (98 ∷ []) [] 2 ∷ rowWith (98 ∷ []) [] 3 ∷ rowWith (98 ∷ []) [] 4 ∷ rowWith (99 ∷ []) [] 5 ∷ []
+
+abbrev pub cases : List Case
+cases =
+    -- 1
+    lays rowA bytesA 13
+    -- 2
+    ∷ builds 4096 16 (rowA ∷ rowAB ∷ []) (0 ∷ 0 ∷ []) (bytesA ++ (bytesAB ++ (0 ∷ 0 ∷ 0 ∷ 1 ∷ [])))
+    -- 3
+    ∷ builds 31 16 (rowA ∷ rowAB ∷ []) (0 ∷ 0 ∷ []) (bytesA ++ (bytesAB ++ (0 ∷ 0 ∷ 0 ∷ 1 ∷ [])))
+    ∷ builds 30 16 (rowA ∷ rowAB ∷ []) (0 ∷ 4 ∷ []) (bytesA ++ (0 ∷ 0 ∷ 0 ∷ 1 ∷ []))
+    -- 4
+    ∷ lays rowAB bytesABAlone 15
+    ∷ builds 4096 1 (rowA ∷ rowAB ∷ []) (0 ∷ 0 ∷ []) (bytesA ++ (bytesABAlone ++ (0 ∷ 0 ∷ 0 ∷ 13 ∷ 0 ∷ 2 ∷ [])))
+    -- 5
+    ∷ spells 127 (127 ∷ [])
+    ∷ spells 128 (128 ∷ 1 ∷ [])
+    ∷ spells 16383 (255 ∷ 127 ∷ [])
+    ∷ spells 16384 (128 ∷ 128 ∷ 1 ∷ [])
+    -- 6
+    ∷ reads (255 ∷ 255 ∷ 255 ∷ 255 ∷ 15 ∷ []) (ok (num 4294967295 5))
+    ∷ reads (255 ∷ 255 ∷ 255 ∷ 255 ∷ 16 ∷ []) (refuse 10)
+    -- 7
+    ∷ refuses (0 ∷ 1 ∷ 0 ∷ 97 ∷ 0 ∷ 0 ∷ 0 ∷ 0 ∷ 0 ∷ 0 ∷ 0 ∷ 1 ∷ 9 ∷ []) 12
+    ∷ refuses (0 ∷ 1 ∷ 0 ∷ 97 ∷ 0 ∷ 0 ∷ 0 ∷ 0 ∷ 0 ∷ 0 ∷ 0 ∷ 1 ∷ 16 ∷ []) 11
+    -- 8
+    ∷ seeks 2 rows8 ascending (98 ∷ []) (row 1 2)
+    ∷ seeks 2 rows8 descending (98 ∷ []) (row 3 2)
+    -- 9
+    ∷ seeks 2 rows8 ascending (98 ∷ 98 ∷ []) (row 4 2)
+    ∷ seeks 2 rows8 descending (98 ∷ 98 ∷ []) (row 3 2)
+    -- 10
+    ∷ seeks 2 rows8 ascending (100 ∷ []) (none 2)
+    ∷ seeks 2 rows8 descending [] (none 2)
+    ∷ seeks 2 rows8 ascending [] (row 0 2)
+    ∷ []
+
+pub cases-hold : AllHold cases
+unfolding leadingZeros answers offered finished blockFor rowStarts numberIn landed varint varintIn varintLength readVarint readVarintIn big unbig bits unbits varintAt fixedAt splice below common timeBytes rowBytes rowSize sizeAlone keyLengthTests lengthTests decodeRow lengthsAt headAt flagsAt bodyAt timeAt timesAt rowAt readRow readKey isRestart shareOf laidRow offsetBytes trailer shortAt trailerOf risingFrom allOffsets regionOf stateTests fits wouldFit add build rowEndingAt stepUp stepBackIn stepDown next middle searchIn search restartKey restartBelow searchRestarts walkRegion walkUp seekUp lastEqual startDown lastAtOrBelow walkDown seekDown seek
+cases-hold =
+    ((refl, refl, refl), ((refl, refl), ((refl, refl), ((refl, refl), ((refl, refl, refl), ((refl, refl), ((refl, refl), ((refl, refl), ((refl, refl), ((refl, refl), (refl, (refl, (refl, (refl, (refl, (refl, (refl, (refl, (refl, (refl, (refl, tt)))))))))))))))))))))

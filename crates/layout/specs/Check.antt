@@ -1,0 +1,42 @@
+-- "The check": the trailer (14), all offsets (15), then rows one after another from 0 to the data's end, 17 last of its row. It answers the number of rows.
+use Prim.Native.Nat.{ℕ, zero, suc, _+_}
+use mathlib.Core.Bool.{Bool, true, false, cond, not}
+use mathlib.Core.List.{List, [], _∷_}
+use lib.Dec.{ltb, eqb}
+use lib.ListN.{length}
+use Rattle.layout.specs.Answer.{Res, ok, refuse, bind, guard}
+use Rattle.layout.specs.Key.{Key, mayFollow}
+use Rattle.layout.specs.RowRead.{RowRead, readRow, keyOf}
+use Rattle.layout.specs.Trailer.{Trailer, trailerOf, dataOf, Region, regionOf, allOffsets}
+
+-- how far the check has come: the place of the next row, its region, the key before it, and the rows passed
+pub record Passed : Type 0 where
+  pub at : ℕ
+  pub region : ℕ
+  pub before : Key
+  pub rows : ℕ
+
+abbrev pub passedIs : ℕ → ℕ → Key → ℕ → Passed
+passedIs at region before rows = record { at = at; region = region; before = before; rows = rows }
+
+-- past a row: its region's end is where the next region starts
+abbrev pub passedRow : List ℕ → Passed → Region → RowRead → Passed
+passedRow d p g r = passedIs (r .next) (cond (ltb (r .next) (g .end)) (p .region) (p .region + 1)) (keyOf d (p .before) r) (p .rows + 1)
+
+unfoldable pub checkRow : List ℕ → Trailer → Passed → Res Passed
+checkRow b t p =
+    bind (regionOf b t (p .region)) λ g.
+    bind (readRow (dataOf b t) (p .at) (g .end) (length (p .before)) (eqb (p .at) (g .start))) λ r.
+    guard (not (mayFollow (p .before) (keyOf (dataOf b t) (p .before) r))) 17
+    (ok (passedRow (dataOf b t) p g r))
+
+-- as many steps as there are bytes are enough: each row moves on
+unfoldable pub checkFrom : ℕ → List ℕ → Trailer → Passed → Res ℕ
+checkFrom zero b t p = ok (p .rows)
+checkFrom (suc left) b t p = cond (ltb (p .at) (t .size)) (bind (checkRow b t p) λ q. checkFrom left b t q) (ok (p .rows))
+
+unfoldable pub check : List ℕ → Res ℕ
+check b =
+    bind (trailerOf b) λ t.
+    bind (allOffsets b t) λ _.
+    checkFrom (t .size) b t (passedIs 0 0 [] 0)

@@ -1,0 +1,149 @@
+-- "How a cursor travels": opening, a step in both directions, `is_empty`; what each gives back, and the key buffer after.
+use Prim.Native.Nat.{ℕ, zero, suc, _+_, _-_}
+use mathlib.Core.Bool.{Bool, true, false, cond, _||_}
+use mathlib.Core.List.{List, [], _∷_}
+use lib.Dec.{ltb, leb, eqb}
+use lib.ListN.{length}
+use Rattle.layout.specs.Answer.{Res, ok, refuse, bind, guard}
+use Rattle.layout.specs.Limits.{maxKey}
+use Rattle.layout.specs.Place.{splice}
+use Rattle.layout.specs.Key.{Key}
+use Rattle.layout.specs.RowRead.{RowRead, readRow, keyLength, keyOf}
+use Rattle.layout.specs.Trailer.{Trailer, trailerOf, dataOf, Region, regionOf, allOffsets}
+
+pub data Direction : Type 0 where
+  ascending descending : Direction
+
+-- the carried key is known by its length and its bytes: those past the length tell nothing
+pub record Cursor : Type 0 where
+  pub direction : Direction
+  pub region : ℕ
+  pub at : ℕ
+  pub keyLen : ℕ
+  pub key : Key
+  pub mark : Bool
+
+abbrev pub cursorIs : Direction → ℕ → ℕ → Key → Bool → Cursor
+cursorIs d region at key mark = record { direction = d; region = region; at = at; keyLen = length key; key = key; mark = mark }
+
+abbrev pub marked : Cursor → Cursor
+marked c = record { direction = c .direction; region = c .region; at = c .at; keyLen = c .keyLen; key = c .key; mark = true }
+
+-- ---- opening tests 14 and all of 15
+
+abbrev pub opened : Direction → Trailer → Cursor
+opened ascending t = cursorIs ascending 0 0 [] false
+opened descending t = cursorIs descending (t .count - 1) (t .size) [] false
+
+unfoldable pub openBlock : List ℕ → Direction → Res Cursor
+openBlock b d =
+    bind (trailerOf b) λ t.
+    bind (allOffsets b t) λ _.
+    ok (opened d t)
+
+-- what a refused opening gives
+abbrev pub cursorOr : Direction → Res Cursor → Cursor
+cursorOr d (ok c) = c
+cursorOr d (refuse n) = cursorIs d 0 0 [] false
+
+-- ---- one step
+
+-- the row's place and fields, and its full key, for the lent buffer
+pub data Answer : Type 0 where
+  found : RowRead → Key → Answer
+  done : Answer
+
+pub record Step : Type 0 where
+  pub cursor : Cursor
+  pub answer : Answer
+
+abbrev pub stepIs : Cursor → Answer → Step
+stepIs c a = record { cursor = c; answer = a }
+
+-- 19 only for the key that is given
+abbrev pub give : ℕ → RowRead → Key → Cursor → Res Step
+give room r key c = guard (ltb room (keyLength r)) 19 (ok (stepIs c (found r key)))
+
+-- ascending, past a row: a finished region hands over to the next at once, then with no key
+abbrev pub pastRow : Cursor → Region → RowRead → Key → Cursor
+pastRow c g r key = cond (ltb (g .reach) (r .next)) (cursorIs ascending (c .region + 1) (r .next) [] false) (cursorIs ascending (c .region) (r .next) key false)
+
+unfoldable pub stepUp : Cursor → List ℕ → Trailer → ℕ → Res Step
+stepUp c b t room =
+    bind (regionOf b t (c .region)) λ g.
+    guard (ltb (c .at) (g .start)) 18
+    (guard (ltb (g .reach) (c .at)) 18
+    (cond (eqb (c .at) (g .end)) (ok (stepIs (marked c) done))
+    (bind (readRow (dataOf b t) (c .at) (g .end) (c .keyLen) (eqb (c .at) (g .start))) λ r.
+    give room r (keyOf (dataOf b t) (c .key) r) (pastRow c g r (keyOf (dataOf b t) (c .key) r)))))
+
+-- descending: the row of a region that ends at `stop`, read from the region's start; rows up to there are tested as read, a row that straddles it is 18
+pub record Keyed : Type 0 where
+  pub row : RowRead
+  pub key : Key
+
+abbrev pub keyed : RowRead → Key → Keyed
+keyed r k = record { row = r; key = k }
+
+unfoldable pub rowEndingAt : ℕ → List ℕ → Region → ℕ → ℕ → Key → Res Keyed
+rowEndingAt zero d g stop at before = refuse 18
+rowEndingAt (suc left) d g stop at before =
+    bind (readRow d at (g .end) (length before) (eqb at (g .start))) λ r.
+    cond (ltb (r .next) stop) (rowEndingAt left d g stop (r .next) (keyOf d before r))
+    (guard (ltb stop (r .next)) 18
+    (ok (keyed r (keyOf d before r))))
+
+-- back past a row: the key is neither used nor changed
+abbrev pub backPast : Cursor → ℕ → RowRead → Cursor
+backPast c region r = record { direction = c .direction; region = region; at = r .start; keyLen = c .keyLen; key = c .key; mark = c .mark }
+
+unfoldable pub stepBackIn : Cursor → List ℕ → Trailer → ℕ → ℕ → Region → Res Step
+stepBackIn c b t room region g =
+    bind (rowEndingAt (c .at) (dataOf b t) g (c .at) (g .start) []) λ k.
+    give room (k .row) (k .key) (backPast c region (k .row))
+
+-- at a region's start the region before is next
+unfoldable pub stepDown : Cursor → List ℕ → Trailer → ℕ → Res Step
+stepDown c b t room =
+    bind (regionOf b t (c .region)) λ g.
+    guard (ltb (c .at) (g .start)) 18
+    (guard (ltb (g .end) (c .at)) 18
+    (cond (eqb (c .at) (g .start))
+    (cond (eqb (c .region) 0) (ok (stepIs (marked c) done))
+    (bind (regionOf b t (c .region - 1)) λ h. stepBackIn c b t room (c .region - 1) h))
+    (stepBackIn c b t room (c .region) g)))
+
+abbrev pub stepAlong : Direction → Cursor → List ℕ → Trailer → ℕ → Res Step
+stepAlong ascending c b t room = stepUp c b t room
+stepAlong descending c b t room = stepDown c b t room
+
+-- 14; 18 for region number and key; a marked cursor says "done"; then 15, 18 for the position, row tests, 19
+unfoldable pub next : Cursor → List ℕ → ℕ → Res Step
+next c b room =
+    bind (trailerOf b) λ t.
+    guard (leb (t .count) (c .region)) 18
+    (guard (ltb maxKey (c .keyLen)) 18
+    (cond (c .mark) (ok (stepIs c done))
+    (stepAlong (c .direction) c b t room)))
+
+-- what a step gives back, and the lent key buffer after it: its other bytes stay
+abbrev pub cursorAfter : Res Step → Cursor → Cursor
+cursorAfter (ok s) c = s .cursor
+cursorAfter (refuse n) c = c
+
+abbrev pub keyGiven : Answer → List ℕ → List ℕ
+keyGiven (found r key) out = splice out 0 key
+keyGiven done out = out
+
+abbrev pub keyAfter : Res Step → List ℕ → List ℕ
+keyAfter (ok s) out = keyGiven (s .answer) out
+keyAfter (refuse n) out = out
+
+-- ---- `is_empty`: 14 only
+
+abbrev pub exhausted : Direction → Cursor → Trailer → Bool
+exhausted ascending c t = c .mark || leb (t .size) (c .at)
+exhausted descending c t = c .mark
+
+unfoldable pub isEmpty : Cursor → List ℕ → Res Bool
+isEmpty c b = bind (trailerOf b) λ t. ok (exhausted (c .direction) c t)

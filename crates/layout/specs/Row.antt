@@ -1,0 +1,129 @@
+-- "A row on the wire", as it is written: its bytes, its size from lengths alone, and the tests before one row is encoded.
+use Prim.Native.Nat.{ℕ, zero, suc, _+_}
+use mathlib.Core.Bool.{Bool, true, false}
+use mathlib.Core.List.{List, [], _∷_, _++_}
+use lib.Dec.{ltb, eqb}
+use lib.IntN.{ℤ}
+use lib.ListN.{length, take, drop}
+use Rattle.layout.specs.Answer.{Res, ok, refuse, bind, guard}
+use Rattle.layout.specs.Limits.{maxKey, maxValue}
+use Rattle.layout.specs.Varint.{varint, varintLength}
+use Rattle.layout.specs.Fixed.{big, bits}
+use Rattle.layout.specs.Place.{splice}
+use Rattle.layout.specs.Key.{Key}
+
+pub data Kind : Type 0 where
+  value tombstone merge : Kind
+
+pub data Time : Type 0 where
+  Absent : Time
+  At : ℤ → Time
+
+-- what a row holds beside its key
+pub record Fields : Type 0 where
+  pub kind : Kind
+  pub val : List ℕ
+  pub seq : ℕ
+  pub expire : Time
+  pub create : Time
+
+pub record Row : Type 0 where
+  pub key : Key
+  pub fields : Fields
+
+-- a tombstone's value is empty: offered bytes are ignored
+abbrev pub kept : Kind → List ℕ → List ℕ
+kept value v = v
+kept tombstone v = []
+kept merge v = v
+
+abbrev pub keptLength : Kind → ℕ → ℕ
+keptLength value n = n
+keptLength tombstone n = 0
+keptLength merge n = n
+
+abbrev pub valueOf : Fields → List ℕ
+valueOf f = kept (f .kind) (f .val)
+
+-- ---- flags
+
+abbrev pub tombstoneBit : ℕ
+tombstoneBit = 1
+
+abbrev pub expireBit : ℕ
+expireBit = 2
+
+abbrev pub createBit : ℕ
+createBit = 4
+
+abbrev pub mergeBit : ℕ
+mergeBit = 8
+
+abbrev pub kindBits : Kind → ℕ
+kindBits value = 0
+kindBits tombstone = tombstoneBit
+kindBits merge = mergeBit
+
+-- n if the test holds, else 0
+abbrev pub ifSo : Bool → ℕ → ℕ
+ifSo true n = n
+ifSo false n = 0
+
+abbrev pub present : Time → Bool
+present Absent = false
+present (At t) = true
+
+abbrev pub flagsOf : Kind → Bool → Bool → ℕ
+flagsOf k expire create = kindBits k + ifSo expire expireBit + ifSo create createBit
+
+-- ---- bytes
+
+unfoldable pub timeBytes : Time → List ℕ
+timeBytes Absent = []
+timeBytes (At t) = big 8 (bits t)
+
+-- shared, unshared, value length; suffix, value, seq, flags; expire time, create time
+unfoldable pub rowBytes : ℕ → List ℕ → Fields → List ℕ
+rowBytes shared suffix f =
+    varint shared ++ (varint (length suffix) ++ (varint (length (valueOf f)) ++ (suffix ++ (valueOf f ++
+    (big 8 (f .seq) ++ (flagsOf (f .kind) (present (f .expire)) (present (f .create)) ∷ (timeBytes (f .expire) ++ timeBytes (f .create))))))))
+
+-- the three varint lengths, suffix, value, 9, and 8 for each time
+unfoldable pub rowSize : ℕ → ℕ → ℕ → Bool → Bool → ℕ
+rowSize shared suffixLen valueLen expire create =
+    varintLength shared + varintLength suffixLen + varintLength valueLen + suffixLen + valueLen + 9 + ifSo expire 8 + ifSo create 8
+
+-- ---- one row alone
+
+unfoldable pub keyLengthTests : ℕ → Res (Unit {0})
+keyLengthTests n = guard (eqb n 0) 1 (guard (ltb maxKey n) 2 (ok tt))
+
+unfoldable pub lengthTests : ℕ → ℕ → Res (Unit {0})
+lengthTests keyLen valueLen = bind (keyLengthTests keyLen) λ _. guard (ltb maxValue valueLen) 3 (ok tt)
+
+-- its size alone: 1, 2, 3
+unfoldable pub sizeAlone : ℕ → ℕ → Kind → ℕ → Bool → Bool → Res ℕ
+sizeAlone shared suffixLen kind offered expire create =
+    bind (lengthTests (shared + suffixLen) (keptLength kind offered)) λ _.
+    ok (rowSize shared suffixLen (keptLength kind offered) expire create)
+
+-- its bytes after a key of `prevLen` bytes, into a buffer of `room` bytes: 13, 1, 2, 3, 6
+unfoldable pub encodeRow : ℕ → ℕ → List ℕ → Fields → ℕ → Res (List ℕ)
+encodeRow prevLen shared suffix f room =
+    guard (ltb prevLen shared) 13
+    (bind (lengthTests (shared + length suffix) (length (valueOf f))) λ _.
+    guard (ltb room (length (rowBytes shared suffix f))) 6
+    (ok (rowBytes shared suffix f)))
+
+-- a buffer after bytes were answered at its start, or refused: then it is as it was
+abbrev pub written : Res (List ℕ) → List ℕ → List ℕ
+written (ok w) buf = splice buf 0 w
+written (refuse n) buf = buf
+
+-- the full key is the first `shared` bytes of the previous key, then the suffix: 13, 1, 2, and 19 for a buffer of `room` bytes
+unfoldable pub restoreKey : Key → ℕ → List ℕ → ℕ → Res Key
+restoreKey prev shared suffix room =
+    guard (ltb (length prev) shared) 13
+    (bind (keyLengthTests (shared + length suffix)) λ _.
+    guard (ltb room (shared + length suffix)) 19
+    (ok (take shared prev ++ suffix)))

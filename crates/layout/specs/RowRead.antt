@@ -1,0 +1,215 @@
+-- "A row on the wire", as it is read: the order of tests is 01's. A read gives places; key and content stand at them.
+use Prim.Native.Nat.{ℕ, zero, suc, _+_, _/_, _%_}
+use mathlib.Core.Bool.{Bool, true, false, cond, _&&_}
+use mathlib.Core.List.{List, [], _∷_, _++_}
+use lib.Dec.{ltb, eqb}
+use lib.ListN.{length, take, drop, getD}
+use Rattle.layout.specs.Answer.{Res, ok, refuse, bind, guard}
+use Rattle.layout.specs.Limits.{maxKey, maxValue}
+use Rattle.layout.specs.Fixed.{unbits}
+use Rattle.layout.specs.Place.{varintAt, fixedAt}
+use Rattle.layout.specs.Key.{Key}
+use Rattle.layout.specs.Row.{Kind, value, tombstone, merge, Time, Absent, At, Fields, Row, tombstoneBit, expireBit, createBit, mergeBit, keyLengthTests}
+
+-- ---- the three varints: 9, 10 as met
+
+pub record Lengths : Type 0 where
+  pub shared : ℕ
+  pub unshared : ℕ
+  pub vlen : ℕ
+  pub body : ℕ
+
+abbrev pub lengthsIs : ℕ → ℕ → ℕ → ℕ → Lengths
+lengthsIs s u v b = record { shared = s; unshared = u; vlen = v; body = b }
+
+unfoldable pub lengthsAt : List ℕ → ℕ → Res Lengths
+lengthsAt d at =
+    bind (varintAt d at) λ a.
+    bind (varintAt d (a .next)) λ b.
+    bind (varintAt d (b .next)) λ c.
+    ok (lengthsIs (a .val) (b .val) (c .val) (c .next))
+
+-- where the value starts, and where seq does
+abbrev pub valueAt : Lengths → ℕ
+valueAt l = l .body + l .unshared
+
+abbrev pub seqAt : Lengths → ℕ
+seqAt l = l .body + l .unshared + l .vlen
+
+-- ---- shared longer than the previous key, or not 0 at a restart (13); full key empty (1); over the limit (2)
+
+abbrev pub mayShare : Bool → ℕ → ℕ
+mayShare true prevLen = 0
+mayShare false prevLen = prevLen
+
+unfoldable pub headAt : List ℕ → ℕ → ℕ → Bool → Res Lengths
+headAt d at prevLen restart =
+    bind (lengthsAt d at) λ l.
+    guard (ltb (mayShare restart prevLen) (l .shared)) 13
+    (bind (keyLengthTests (l .shared + l .unshared)) λ _.
+    ok l)
+
+-- ---- flags: unknown (11), tombstone with merge (12)
+
+pub record Flags : Type 0 where
+  pub kind : Kind
+  pub expire : Bool
+  pub create : Bool
+
+abbrev pub flagsIs : Kind → Bool → Bool → Flags
+flagsIs k e c = record { kind = k; expire = e; create = c }
+
+abbrev pub hasBit : ℕ → ℕ → Bool
+hasBit bit f = eqb (f / bit % 2) 1
+
+unfoldable pub flagsAt : ℕ → Res Flags
+flagsAt f =
+    guard (ltb 15 f) 11
+    (guard (hasBit tombstoneBit f && hasBit mergeBit f) 12
+    (ok (flagsIs (cond (hasBit tombstoneBit f) tombstone (cond (hasBit mergeBit f) merge value)) (hasBit expireBit f) (hasBit createBit f))))
+
+-- ---- value length over the limit (3); bytes missing (9); flags
+
+-- where the value's bytes stand; a tombstone has none: value bytes read are dropped
+pub data Held : Type 0 where
+  holds : ℕ → ℕ → Held
+  gone : Held
+  merges : ℕ → ℕ → Held
+
+abbrev pub heldAs : Kind → ℕ → ℕ → Held
+heldAs value at n = holds at n
+heldAs tombstone at n = gone
+heldAs merge at n = merges at n
+
+pub record Body : Type 0 where
+  pub held : Held
+  pub seq : ℕ
+  pub flags : Flags
+  pub next : ℕ
+
+abbrev pub bodyIs : Held → ℕ → Flags → ℕ → Body
+bodyIs h q f n = record { held = h; seq = q; flags = f; next = n }
+
+unfoldable pub bodyAt : List ℕ → Lengths → Res Body
+bodyAt d l =
+    guard (ltb maxValue (l .vlen)) 3
+    (guard (ltb (length d) (seqAt l + 9)) 9
+    (bind (fixedAt 8 d (seqAt l)) λ q.
+    bind (flagsAt (getD d (q .next) 0)) λ f.
+    ok (bodyIs (heldAs (f .kind) (valueAt l) (l .vlen)) (q .val) f (seqAt l + 9))))
+
+-- ---- times missing (9)
+
+pub record TimeAt : Type 0 where
+  pub time : Time
+  pub next : ℕ
+
+abbrev pub timeIs : Time → ℕ → TimeAt
+timeIs t n = record { time = t; next = n }
+
+unfoldable pub timeAt : Bool → List ℕ → ℕ → Res TimeAt
+timeAt true d at = bind (fixedAt 8 d at) λ w. ok (timeIs (At (unbits (w .val))) (w .next))
+timeAt false d at = ok (timeIs Absent at)
+
+pub record Times : Type 0 where
+  pub expire : Time
+  pub create : Time
+  pub next : ℕ
+
+abbrev pub timesIs : Time → Time → ℕ → Times
+timesIs e c n = record { expire = e; create = c; next = n }
+
+unfoldable pub timesAt : List ℕ → ℕ → Flags → Res Times
+timesAt d at f =
+    bind (timeAt (f .expire) d at) λ e.
+    bind (timeAt (f .create) d (e .next)) λ c.
+    ok (timesIs (e .time) (c .time) (c .next))
+
+-- ---- the row at `at`, in a region that ends at `end`, after a key of `prevLen` bytes; its end past its region (16)
+
+pub record RowRead : Type 0 where
+  pub start : ℕ
+  pub next : ℕ
+  pub shared : ℕ
+  pub suffixAt : ℕ
+  pub suffixLen : ℕ
+  pub held : Held
+  pub seq : ℕ
+  pub expire : Time
+  pub create : Time
+
+abbrev pub rowIs : ℕ → Lengths → Body → Times → RowRead
+rowIs at l b t =
+    record {
+      start = at;
+      next = t .next;
+      shared = l .shared;
+      suffixAt = l .body;
+      suffixLen = l .unshared;
+      held = b .held;
+      seq = b .seq;
+      expire = t .expire;
+      create = t .create;
+    }
+
+unfoldable pub rowAt : List ℕ → ℕ → ℕ → Bool → Res RowRead
+rowAt d at prevLen restart =
+    bind (headAt d at prevLen restart) λ l.
+    bind (bodyAt d l) λ b.
+    bind (timesAt d (b .next) (b .flags)) λ t.
+    ok (rowIs at l b t)
+
+unfoldable pub readRow : List ℕ → ℕ → ℕ → ℕ → Bool → Res RowRead
+readRow d at end prevLen restart =
+    bind (rowAt d at prevLen restart) λ r.
+    guard (ltb end (r .next)) 16
+    (ok r)
+
+-- a single row has the whole input as its region, and isn't a restart
+unfoldable pub decodeRow : List ℕ → ℕ → Res RowRead
+decodeRow s prevLen = readRow s 0 (length s) prevLen false
+
+-- ---- a key-only read makes the same tests but for the value length, and stops after the suffix, whose end takes the test 16
+
+pub record KeyRead : Type 0 where
+  pub shared : ℕ
+  pub suffixAt : ℕ
+  pub suffixLen : ℕ
+
+abbrev pub keyIs : Lengths → KeyRead
+keyIs l = record { shared = l .shared; suffixAt = l .body; suffixLen = l .unshared }
+
+unfoldable pub readKey : List ℕ → ℕ → ℕ → ℕ → Bool → Res KeyRead
+readKey d at end prevLen restart =
+    bind (headAt d at prevLen restart) λ l.
+    guard (ltb (length d) (valueAt l)) 9
+    (guard (ltb end (valueAt l)) 16
+    (ok (keyIs l)))
+
+-- ---- what stands at the places
+
+abbrev pub keyLength : RowRead → ℕ
+keyLength r = r .shared + r .suffixLen
+
+-- the first `shared` bytes of the previous key, then the suffix
+abbrev pub joined : List ℕ → Key → ℕ → ℕ → ℕ → Key
+joined d prev shared at n = take shared prev ++ take n (drop at d)
+
+abbrev pub keyOf : List ℕ → Key → RowRead → Key
+keyOf d prev r = joined d prev (r .shared) (r .suffixAt) (r .suffixLen)
+
+abbrev pub kindOf : Held → Kind
+kindOf (holds at n) = value
+kindOf gone = tombstone
+kindOf (merges at n) = merge
+
+abbrev pub heldBytes : List ℕ → Held → List ℕ
+heldBytes d (holds at n) = take n (drop at d)
+heldBytes d gone = []
+heldBytes d (merges at n) = take n (drop at d)
+
+abbrev pub fieldsOf : List ℕ → RowRead → Fields
+fieldsOf d r = record { kind = kindOf (r .held); val = heldBytes d (r .held); seq = r .seq; expire = r .expire; create = r .create }
+
+abbrev pub rowOf : List ℕ → Key → RowRead → Row
+rowOf d prev r = record { key = keyOf d prev r; fields = fieldsOf d r }
