@@ -4,3 +4,7 @@ pub mod Fixed
 pub mod Place
 pub mod Splice
 pub mod Key
+pub mod Row
+pub mod Tells
+pub mod RowExits
+pub mod Local
