@@ -8,3 +8,7 @@ pub mod Row
 pub mod Tells
 pub mod RowExits
 pub mod Local
+pub mod First
+pub mod Search
+pub mod Block
+pub mod Trailer

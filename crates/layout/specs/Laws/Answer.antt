@@ -59,3 +59,7 @@ handed f e = rw e
 
 pub went : {A B : Type 0} {x : Res A} {a : A} (f : A → Res B) → x ≡ ok a → f a ≡ bind x f
 went f e = rw e
+
+-- a test has one value
+pub clash : {b : Bool} → b ≡ true → b ≡ false → ⊥
+clash p q = let z : _≡_ {A = ℕ} 0 1 = cc in omega arith
