@@ -3,10 +3,11 @@ use Prim.Native.Nat.{ℕ, zero, suc, _+_}
 use mathlib.Core.Bool.{Bool, true, false, cond}
 use mathlib.Core.List.{List, [], _∷_, _++_}
 use lib.Dec.{ltb}
+use lib.IntN.{ℤ}
 use lib.ListN.{length, take, drop}
 use Rattle.layout.specs.Answer.{Res, ok, refuse, bind, guard}
 use Rattle.layout.specs.Varint.{readVarint, Num}
-use Rattle.layout.specs.Fixed.{unbig}
+use Rattle.layout.specs.Fixed.{unbig, unbits}
 
 pub record NumAt : Type 0 where
   pub val : ℕ
@@ -25,6 +26,20 @@ varintAt d at = bind (readVarint (drop at d)) (placed at)
 -- a number of n bytes, high byte first
 unfoldable pub fixedAt : ℕ → List ℕ → ℕ → Res NumAt
 fixedAt n d at = guard (ltb (length d) (at + n)) 9 (ok (numAt (unbig (take n (drop at d))) (at + n)))
+
+-- a signed number: eight bytes, read as 64 bits in two's complement
+pub record SignedAt : Type 0 where
+  pub val : ℤ
+  pub next : ℕ
+
+abbrev pub signed : ℤ → ℕ → SignedAt
+signed z n = record { val = z; next = n }
+
+abbrev pub asSigned : NumAt → Res SignedAt
+asSigned n = ok (signed (unbits (n .val)) (n .next))
+
+abbrev pub signedAt : List ℕ → ℕ → Res SignedAt
+signedAt d at = bind (fixedAt 8 d at) asSigned
 
 -- ---- what is written
 

@@ -6,8 +6,7 @@ use lib.Dec.{ltb, leb, eqb}
 use lib.ListN.{length, take, drop, getD}
 use Rattle.layout.specs.Answer.{Res, ok, refuse, bind, guard}
 use Rattle.layout.specs.Limits.{maxKey, maxValue}
-use Rattle.layout.specs.Fixed.{unbits}
-use Rattle.layout.specs.Place.{varintAt, fixedAt}
+use Rattle.layout.specs.Place.{varintAt, fixedAt, signedAt}
 use Rattle.layout.specs.Key.{Key}
 use Rattle.layout.specs.Row.{Kind, value, tombstone, merge, Time, Absent, At, Fields, Row, tombstoneBit, expireBit, createBit, mergeBit, keyLengthTests}
 
@@ -108,7 +107,7 @@ abbrev pub timeIs : Time → ℕ → TimeAt
 timeIs t n = record { time = t; next = n }
 
 unfoldable pub timeAt : Bool → List ℕ → ℕ → Res TimeAt
-timeAt true d at = bind (fixedAt 8 d at) λ w. ok (timeIs (At (unbits (w .val))) (w .next))
+timeAt true d at = bind (signedAt d at) λ w. ok (timeIs (At (w .val)) (w .next))
 timeAt false d at = ok (timeIs Absent at)
 
 pub record Times : Type 0 where

@@ -12,7 +12,7 @@ use borrow.Author.Tests.{le-ltb, ltb-false}
 use Rattle.layout.specs.Answer.{Res, ok, refuse, bind, guard}
 use Rattle.layout.specs.Limits.{maxKey, maxValue}
 use Rattle.layout.specs.Varint.{readVarint, readVarintIn, Num, num}
-use Rattle.layout.specs.Place.{NumAt, varintAt, fixedAt}
+use Rattle.layout.specs.Place.{NumAt, varintAt, fixedAt, SignedAt, signedAt}
 use Rattle.layout.specs.Row.{keyLengthTests}
 use Rattle.layout.specs.RowRead.{Lengths, valueAt, seqAt, lengthsAt, mayShare, headAt, Flags, flagsAt, Body, bodyAt, TimeAt, timeAt, Times, timesAt, RowRead, rowAt, readRow, KeyRead, readKey}
 use Rattle.layout.specs.Laws.Answer.{bind-then, guard-then, ok-inj, cond-ok}
@@ -56,6 +56,12 @@ module _ (p s s′ : List ℕ) where
       )
       e₂
 
+  signedAt-local : (at : ℕ) (r : SignedAt) → signedAt (p ++ s) at ≡ ok r → r .next ≤ length p → signedAt (p ++ s′) at ≡ ok r
+  signedAt-local at r e h =
+      bind-then (fixedAt 8 (p ++ s) at) _ r e λ w e₁ e₂.
+      let n = ap (λ (x : SignedAt). x .next) (ok-inj e₂) in
+      rw (fixedAt-local 8 at w e₁ (omega arith)) e₂
+
   lengthsAt-local : (at : ℕ) (l : Lengths) → lengthsAt (p ++ s) at ≡ ok l → l .body ≤ length p → lengthsAt (p ++ s′) at ≡ ok l
   unfolding lengthsAt
   lengthsAt-local at l e h =
@@ -98,9 +104,9 @@ module _ (p s s′ : List ℕ) where
   timeAt-local : (f : Bool) (at : ℕ) (t : TimeAt) → timeAt f (p ++ s) at ≡ ok t → t .next ≤ length p → timeAt f (p ++ s′) at ≡ ok t
   unfolding timeAt
   timeAt-local true at t e h =
-      bind-then (fixedAt 8 (p ++ s) at) _ t e λ w e₁ e₂.
+      bind-then (signedAt (p ++ s) at) _ t e λ w e₁ e₂.
       let n = ap (λ (x : TimeAt). x .next) (ok-inj e₂) in
-      rw (fixedAt-local 8 at w e₁ (omega arith)) e₂
+      rw (signedAt-local at w e₁ (omega arith)) e₂
   timeAt-local false at t e h = e
 
   timesAt-local : (at : ℕ) (f : Flags) (t : Times) → timesAt (p ++ s) at f ≡ ok t → at ≤ length p → t .next ≤ length p → timesAt (p ++ s′) at f ≡ ok t

@@ -11,7 +11,7 @@ use borrow.Author.Tests.{lt-ltb, le-ltb, ltb-false}
 use Rattle.layout.specs.Answer.{Res, ok, refuse, bind, guard}
 use Rattle.layout.specs.Varint.{readVarint, readVarintIn, varint, Num, num}
 use Rattle.layout.specs.Fixed.{big, unbig}
-use Rattle.layout.specs.Place.{NumAt, numAt, varintAt, fixedAt}
+use Rattle.layout.specs.Place.{NumAt, numAt, varintAt, fixedAt, SignedAt, signedAt}
 use Rattle.layout.specs.Laws.Answer.{bind-then, guard-then, ok-inj}
 use Rattle.layout.specs.Laws.Varint.{readVarint-varint, readVarint-len}
 use Rattle.layout.specs.Laws.Fixed.{length-big, unbig-take-big, drop-big}
@@ -52,6 +52,12 @@ fixedAt-ends n d at r e =
     let k = ap (λ (x : NumAt). x .next) (ok-inj q) in
     omega (arith, ltb-false)
 
+pub signedAt-ends : (d : List ℕ) (at : ℕ) (r : SignedAt) → signedAt d at ≡ ok r → (at + 8 ≡ r .next) × (r .next ≤ length d)
+signedAt-ends d at r e =
+    bind-then (fixedAt 8 d at) _ r e λ w p q.
+    let n = ap (λ (x : SignedAt). x .next) (ok-inj q) in
+    omega (arith, fixedAt-ends 8 d at w p)
+
 -- the byte that stands at a place
 pub byte-at : (d : List ℕ) (at b : ℕ) (post : List ℕ) → drop at d ≡ b ∷ post → getD d at 0 ≡ b
 byte-at d at b post e = ap (λ (k : ℕ). getD d k 0) (omega arith) ∙ sym (getD-drop at d 0 0) ∙ ap (λ (l : List ℕ). getD l 0 0) e
@@ -75,11 +81,11 @@ unfolding fixedAt
 fixedAt-none n d at h = rw (lt-ltb (length d) (at + n) h)
 
 -- two bytes, and four, high byte first
-abbrev pub shortAt : List ℕ → ℕ → ℕ
-shortAt d at = getD d at 0 * 256 + getD d (at + 1) 0
+abbrev pub pairAt : List ℕ → ℕ → ℕ
+pairAt d at = getD d at 0 * 256 + getD d (at + 1) 0
 
 abbrev pub fourAt : List ℕ → ℕ → ℕ
-fourAt d at = shortAt d at * 65536 + shortAt d (at + 2)
+fourAt d at = pairAt d at * 65536 + pairAt d (at + 2)
 
 byte-then : (d : List ℕ) (p q : ℕ) → q ≡ suc p → p < length d → drop p d ≡ getD d p 0 ∷ drop q d
 byte-then d p q e h = rw e (drop-cons d p 0 h)
@@ -88,7 +94,7 @@ two-bytes : (a b : ℕ) (more : List ℕ) → unbig (take 2 (a ∷ b ∷ more)) 
 unfolding unbig
 two-bytes a b more = omega arith
 
-pub fixedAt-two : (d : List ℕ) (at : ℕ) → at + 2 ≤ length d → ok (numAt (shortAt d at) (at + 2)) ≡ fixedAt 2 d at
+pub fixedAt-two : (d : List ℕ) (at : ℕ) → at + 2 ≤ length d → ok (numAt (pairAt d at) (at + 2)) ≡ fixedAt 2 d at
 unfolding fixedAt
 fixedAt-two d at h =
     rw (

@@ -10,8 +10,7 @@ use lib.ListN.{length, take, getD}
 use borrow.Author.Tests.{lt-ltb, le-ltb, eq-eqb, ne-eqb}
 use Rattle.layout.specs.Answer.{Res, ok, refuse, bind, guard}
 use Rattle.layout.specs.Limits.{maxKey, maxValue}
-use Rattle.layout.specs.Fixed.{unbits}
-use Rattle.layout.specs.Place.{NumAt, varintAt, fixedAt}
+use Rattle.layout.specs.Place.{NumAt, varintAt, fixedAt, SignedAt, signedAt}
 use Rattle.layout.specs.Key.{Key}
 use Rattle.layout.specs.Row.{Kind, Time, Absent, At, Fields, keptLength, valueOf, rowBytes, rowSize, keyLengthTests, lengthTests, sizeAlone, encodeRow, restoreKey}
 use Rattle.layout.specs.RowRead.{Lengths, lengthsIs, valueAt, seqAt, lengthsAt, mayShare, headAt, Flags, flagsAt, heldAs, Body, bodyIs, bodyAt, TimeAt, timeIs, timeAt, Times, timesIs, timesAt, RowRead, rowIs, rowAt, readRow, KeyRead, keyIs, readKey}
@@ -86,11 +85,11 @@ module _ (d : List ℕ) (l : Lengths) where
   body-good h k e₁ e₂ = rw (le-ltb maxValue (l .vlen) h, le-ltb (length d) (seqAt l + 9) k, e₁, e₂)
 
 module _ (d : List ℕ) (at : ℕ) where
-  pub time-short : {n : ℕ} → fixedAt 8 d at ≡ refuse n → refuse n ≡ timeAt true d at
+  pub time-short : {n : ℕ} → signedAt d at ≡ refuse n → refuse n ≡ timeAt true d at
   unfolding timeAt
   time-short e = rw e
 
-  pub time-read : {w : NumAt} → fixedAt 8 d at ≡ ok w → ok (timeIs (At (unbits (w .val))) (w .next)) ≡ timeAt true d at
+  pub time-read : {w : SignedAt} → signedAt d at ≡ ok w → ok (timeIs (At (w .val)) (w .next)) ≡ timeAt true d at
   unfolding timeAt
   time-read e = rw e
 

@@ -11,11 +11,11 @@ use lib.ListN.{length, take, drop, getD}
 use borrow.Author.Tests.{lt-ltb, le-ltb, ltb-true, ltb-false, eqb-false}
 use Rattle.layout.specs.Answer.{Res, ok, refuse, bind, guard}
 use Rattle.layout.specs.Limits.{maxKey, maxValue}
-use Rattle.layout.specs.Place.{NumAt, varintAt, fixedAt}
+use Rattle.layout.specs.Place.{NumAt, varintAt, fixedAt, signedAt}
 use Rattle.layout.specs.Row.{keyLengthTests}
 use Rattle.layout.specs.RowRead.{Lengths, valueAt, seqAt, lengthsAt, mayShare, headAt, Flags, flagsAt, Body, bodyAt, TimeAt, timeAt, Times, timesAt, RowRead, rowIs, rowAt, readRow, keyLength, KeyRead, keyIs, readKey}
 use Rattle.layout.specs.Laws.Answer.{bind-then, guard-then, ok-inj}
-use Rattle.layout.specs.Laws.Place.{varintAt-ends, fixedAt-ends}
+use Rattle.layout.specs.Laws.Place.{varintAt-ends, fixedAt-ends, signedAt-ends}
 
 pub lengthsAt-ends : (d : List ℕ) (at : ℕ) (l : Lengths) → lengthsAt d at ≡ ok l → (at + 3 ≤ l .body) × (l .body ≤ length d)
 unfolding lengthsAt
@@ -70,9 +70,9 @@ bodyAt-tells d l b e =
 pub timeAt-ends : (f : Bool) (d : List ℕ) (at : ℕ) (t : TimeAt) → timeAt f d at ≡ ok t → at ≤ length d → (at ≤ t .next) × (t .next ≤ length d)
 unfolding timeAt
 timeAt-ends true d at t e h =
-    bind-then (fixedAt 8 d at) _ t e λ w p q.
+    bind-then (signedAt d at) _ t e λ w p q.
     let n = ap (λ (x : TimeAt). x .next) (ok-inj q) in
-    let k = fixedAt-ends 8 d at w p in
+    let k = signedAt-ends d at w p in
     omega arith
 timeAt-ends false d at t e h =
     let n = ap (λ (x : TimeAt). x .next) (ok-inj e) in
