@@ -12,3 +12,5 @@ pub mod First
 pub mod Search
 pub mod Block
 pub mod Trailer
+pub mod Builder
+pub mod Made

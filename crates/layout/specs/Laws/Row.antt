@@ -7,7 +7,7 @@ use mathlib.Core.List.{List, [], _∷_, _++_, append-assoc}
 use native.Mathlib.Omega.{arith}
 use lib.Dec.{ltb, eqb}
 use lib.ListN.{length, take, drop, getD, length-append}
-use lib.Seq.{take-at, drop-at}
+use lib.Seq.{take-at, drop-at, take-nil}
 use lib.Signed.{mag}
 use borrow.Author.Tests.{le-ltb, ne-eqb}
 use Rattle.layout.specs.Answer.{Res, ok, refuse, bind, guard}
@@ -247,10 +247,6 @@ pub record SameRow (s₁ : ℕ) (x₁ : List ℕ) (f₁ : Fields) (t₁ : List �
   pub bytes : rowBytes s₁ x₁ f₁ ≡ rowBytes s₂ x₂ f₂
   pub tails : t₁ ≡ t₂
 
-take-none : (n : ℕ) → take {A = ℕ} n [] ≡ []
-take-none zero = refl
-take-none (suc n) = refl
-
 pub prefix-free : (prevLen : ℕ) (restart : Bool) (s₁ : ℕ) (x₁ : List ℕ) (f₁ : Fields) (t₁ : List ℕ) (s₂ : ℕ) (x₂ : List ℕ) (f₂ : Fields) (t₂ : List ℕ)
     → s₁ ≤ mayShare restart prevLen → s₂ ≤ mayShare restart prevLen → KeyOk s₁ (length x₁) → KeyOk s₂ (length x₂) → FieldsOk f₁ → FieldsOk f₂
     → rowBytes s₁ x₁ f₁ ++ t₁ ≡ rowBytes s₂ x₂ f₂ ++ t₂ → SameRow s₁ x₁ f₁ t₁ s₂ x₂ f₂ t₂
@@ -263,7 +259,7 @@ prefix-free prevLen restart s₁ x₁ f₁ t₁ s₂ x₂ f₂ t₂ sh₁ sh₂ 
     let n : length (rowBytes s₁ x₁ f₁) ≡ length (rowBytes s₂ x₂ f₂) = omega arith in
     record {
       shares = ap (λ (x : RowRead). x .shared) g;
-      suffixes = rw (take-none s₁, take-none s₂) at (sym (placesOf-key d 0 s₁ x₁ f₁ t₁ refl []) ∙ ap (keyOf d []) g ∙ placesOf-key d 0 s₂ x₂ f₂ t₂ e []);
+      suffixes = rw (take-nil s₁, take-nil s₂) at (sym (placesOf-key d 0 s₁ x₁ f₁ t₁ refl []) ∙ ap (keyOf d []) g ∙ placesOf-key d 0 s₂ x₂ f₂ t₂ e []);
       fields = sym (placesOf-fields d 0 s₁ x₁ f₁ t₁ refl) ∙ ap (fieldsOf d) g ∙ placesOf-fields d 0 s₂ x₂ f₂ t₂ e;
       bytes = sym (take-at (rowBytes s₁ x₁ f₁) t₁ (length (rowBytes s₂ x₂ f₂)) n) ∙ ap (take (length (rowBytes s₂ x₂ f₂))) e ∙ take-at (rowBytes s₂ x₂ f₂) t₂ (length (rowBytes s₂ x₂ f₂)) refl;
       tails = sym (drop-at (rowBytes s₁ x₁ f₁) t₁ (length (rowBytes s₂ x₂ f₂)) n) ∙ ap (drop (length (rowBytes s₂ x₂ f₂))) e ∙ drop-at (rowBytes s₂ x₂ f₂) t₂ (length (rowBytes s₂ x₂ f₂)) refl;
