@@ -14,3 +14,6 @@ pub mod Block
 pub mod Trailer
 pub mod Builder
 pub mod Made
+pub mod Carry
+pub mod Check
+pub mod Cursor

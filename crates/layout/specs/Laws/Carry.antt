@@ -1,0 +1,120 @@
+-- A key that an array carries, with its length beside it, and a row read after it: what the array holds once the row's suffix is put over it, and how the
+-- row's key compares while it still lies in two parts, the carried bytes that it shares and its suffix in the data.
+use Prim.Native.Nat.{ℕ, zero, suc, _+_, _-_, _<_, _≤_, min}
+use mathlib.Core.Path.{_≡_, refl, ap, sym, _∙_}
+use mathlib.Core.Bool.{Bool, true, false, cond, not}
+use mathlib.Core.List.{List, [], _∷_, _++_}
+use mathlib.Core.Logic.{_⊎_, ⊎-elim, inl, inr}
+use native.Mathlib.Omega.{arith}
+use lib.Dec.{ltb}
+use lib.ListN.{length, take, drop, length-append, length-take, length-drop, take-append-drop}
+use lib.Seq.{take-take, length-take-le}
+use borrow.Author.Tests.{lt-ltb, le-ltb}
+use Rattle.layout.specs.Answer.{Res, ok, refuse}
+use Rattle.layout.specs.Limits.{maxKey}
+use Rattle.layout.specs.Place.{splice}
+use Rattle.layout.specs.Key.{Key, below, mayFollow}
+use Rattle.layout.specs.RowRead.{RowRead, readRow, keyLength, keyOf}
+use Rattle.layout.specs.Laws.Answer.{ltb-cases, bool-cases}
+use Rattle.layout.specs.Laws.Splice.{length-splice, take-past-splice}
+use Rattle.layout.specs.Laws.Tells.{RowEnds, readRow-ends, row-shares}
+
+pub record Carries (key : List ℕ) (len : ℕ) : Type 0 where
+  pub few : len ≤ maxKey
+  pub whole : length key ≡ maxKey
+
+pub carried : (key : List ℕ) (len : ℕ) → Carries key len → length (take len key) ≡ len
+carried key len c = length-take-le len key (omega (arith, c .few, c .whole))
+
+-- the suffix of a row, where it stands
+abbrev pub suffixOf : List ℕ → RowRead → List ℕ
+suffixOf d r = take (r .suffixLen) (drop (r .suffixAt) d)
+
+suffix-length : (d : List ℕ) (at end prevLen : ℕ) (restart : Bool) (r : RowRead) → RowEnds d at end prevLen restart r → length (suffixOf d r) ≡ r .suffixLen
+suffix-length d at end prevLen restart r w = length-take-le (r .suffixLen) (drop (r .suffixAt) d) (rw (length-drop (r .suffixAt) d) (omega (arith, w .suffix)))
+
+-- the key of a row that is read is as long as it says
+pub keyOf-length : (d : List ℕ) (at end : ℕ) (before : Key) (restart : Bool) (r : RowRead) → readRow d at end (length before) restart ≡ ok r
+    → length (keyOf d before r) ≡ keyLength r
+keyOf-length d at end before restart r e =
+    let w = readRow-ends d at end (length before) restart r e in
+    length-append (take (r .shared) before) (suffixOf d r)
+    ∙ rw (suffix-length d at end (length before) restart r w, length-take-le (r .shared) before (row-shares d at end (length before) restart r w))
+
+module _ (d : List ℕ) (at end : ℕ) (restart : Bool) (key : List ℕ) (len : ℕ) (c : Carries key len) (r : RowRead) (e : readRow d at end len restart ≡ ok r) where
+  w : RowEnds d at end len restart r
+  w = readRow-ends d at end len restart r e
+
+  suffix-long : length (suffixOf d r) ≡ r .suffixLen
+  suffix-long = suffix-length d at end len restart r w
+
+  shared-fits : r .shared ≤ len
+  shared-fits = row-shares d at end len restart r w
+
+  -- the key in its two parts
+  pub key-parts : take (r .shared) key ++ suffixOf d r ≡ keyOf d (take len key) r
+  key-parts = rw (take-take (r .shared) len key shared-fits)
+
+  pub suffix-fits : r .shared + length (suffixOf d r) ≤ length key
+  suffix-fits = rw (suffix-long, c .whole) (w .fits)
+
+  -- once the suffix is put over the carried key, the array carries the row's
+  pub key-new : take (keyLength r) (splice key (r .shared) (suffixOf d r)) ≡ keyOf d (take len key) r
+  key-new =
+      ap (λ (n : ℕ). take (r .shared + n) (splice key (r .shared) (suffixOf d r))) (sym suffix-long)
+      ∙ take-past-splice key (r .shared) (suffixOf d r) suffix-fits
+      ∙ key-parts
+
+  pub carries-on : Carries (splice key (r .shared) (suffixOf d r)) (keyLength r)
+  carries-on = record { few = w .fits; whole = length-splice key (r .shared) (suffixOf d r) suffix-fits ∙ c .whole }
+
+-- ---- comparing in parts
+
+-- what two keys begin with in common tells nothing
+pub below-after : (p a b : Key) → below (p ++ a) (p ++ b) ≡ below a b
+unfolding below
+below-after [] a b = refl
+below-after (x ∷ p) a b = rw (le-ltb x x (omega arith)) (below-after p a b)
+
+-- a target cut where the first part ends, or one that is no longer than it
+abbrev pub Cut : Key → Key → Key → Type 0
+Cut p t₁ t₂ = (length t₁ ≡ length p) ⊎ ((t₂ ≡ []) × (length t₁ ≤ length p))
+
+onward : (x y : ℕ) (p t₁ t₂ : Key) → Cut (x ∷ p) (y ∷ t₁) t₂ → Cut p t₁ t₂
+onward x y p t₁ t₂ (inl g) = inl (omega arith)
+onward x y p t₁ t₂ (inr g) = inr (g .0, omega (arith, g .1))
+
+-- the first part decides, unless it is equal to as much of the target
+pub below-first : (p s t₁ t₂ : Key) → Cut p t₁ t₂ → below p t₁ ≡ true → below (p ++ s) (t₁ ++ t₂) ≡ true
+unfolding below
+below-first p s [] t₂ f e = let z : _≡_ {A = ℕ} 0 1 = cc in absurd (omega arith)
+below-first [] s (y ∷ t₁) t₂ (inl f) e = absurd (omega arith)
+below-first [] s (y ∷ t₁) t₂ (inr f) e = absurd (omega (arith, f .1))
+below-first (x ∷ p) s (y ∷ t₁) t₂ f e =
+    ⊎-elim (λ t. rw (t .0))
+    (λ t.
+    ⊎-elim (λ u. let e′ : false ≡ true = rw (t .0, u .0) at e in let z : _≡_ {A = ℕ} 0 1 = cc in absurd (omega arith))
+    (λ u. rw (t .0, u .0) (below-first p s t₁ t₂ (onward x y p t₁ t₂ f) (rw (t .0, u .0) at e)))
+    (ltb-cases y x))
+    (ltb-cases x y)
+
+pub below-not-first : (p s t₁ t₂ : Key) → below t₁ p ≡ true → Cut p t₁ t₂ → below (p ++ s) (t₁ ++ t₂) ≡ false
+unfolding below
+below-not-first [] s t₁ t₂ e f = let z : _≡_ {A = ℕ} 0 1 = cc in absurd (omega arith)
+below-not-first (x ∷ p) s [] t₂ e (inl f) = absurd (omega arith)
+below-not-first (x ∷ p) s [] t₂ e (inr f) = rw (f .0)
+below-not-first (x ∷ p) s (y ∷ t₁) t₂ e f =
+    ⊎-elim (λ t. rw (le-ltb x y (omega (arith, t .1)), t .0))
+    (λ t.
+    ⊎-elim (λ u. let e′ : false ≡ true = rw (t .0, u .0) at e in let z : _≡_ {A = ℕ} 0 1 = cc in absurd (omega arith))
+    (λ u. rw (u .0, t .0) (below-not-first p s t₁ t₂ (rw (t .0, u .0) at e) (onward x y p t₁ t₂ f)))
+    (ltb-cases x y))
+    (ltb-cases y x)
+
+-- a row's key against the carried one: only what follows the shared bytes is compared
+pub follows-suffix : (key : List ℕ) (len shared : ℕ) (s : List ℕ) → shared ≤ len → mayFollow (take len key) (take shared key ++ s) ≡ not (below s (drop shared (take len key)))
+unfolding mayFollow
+follows-suffix key len shared s h =
+    let split : take shared key ++ drop shared (take len key) ≡ take len key =
+    ap (λ (x : List ℕ). x ++ drop shared (take len key)) (sym (take-take shared len key h)) ∙ take-append-drop shared (take len key) in
+    ap not (ap (below (take shared key ++ s)) (sym split) ∙ below-after (take shared key) s (drop shared (take len key)))

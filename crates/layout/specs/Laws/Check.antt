@@ -1,0 +1,115 @@
+-- The check's loop: `Checking` says that the rest of the check, from here on, answers what the whole does. One law for each thing that the loop does. The array
+-- carries the key of the row before.
+use Prim.Native.Nat.{ℕ, zero, suc, _+_, _-_, _<_, _≤_}
+use mathlib.Core.Path.{_≡_, refl, ap, sym, _∙_}
+use mathlib.Core.Bool.{Bool, true, false, cond, not}
+use mathlib.Core.List.{List, [], _∷_, _++_}
+use native.Mathlib.Omega.{arith}
+use lib.Dec.{ltb, eqb}
+use lib.ListN.{length, take, drop, length-take}
+use lib.Seq.{length-take-le}
+use borrow.Author.Tests.{lt-ltb, le-ltb}
+use Rattle.layout.specs.Answer.{Res, ok, refuse, bind, guard}
+use Rattle.layout.specs.Limits.{maxKey}
+use Rattle.layout.specs.Place.{splice}
+use Rattle.layout.specs.Key.{Key, below, mayFollow}
+use Rattle.layout.specs.RowRead.{RowRead, readRow, keyLength, keyOf}
+use Rattle.layout.specs.Trailer.{Trailer, trailerOf, dataOf, Region, regionOf, allOffsets}
+use Rattle.layout.specs.Check.{Passed, passedIs, passedRow, checkRow, checkFrom, check}
+use Rattle.layout.specs.Laws.Carry.{Carries, carried, suffixOf, key-new, key-parts, carries-on, follows-suffix}
+use Rattle.layout.specs.Laws.Tells.{RowEnds, readRow-ends, row-shares}
+
+-- ---- before the rows
+
+module _ (b : List ℕ) where
+  pub check-trailer : {n : ℕ} → trailerOf b ≡ refuse n → refuse n ≡ check b
+  unfolding check
+  check-trailer e = rw e
+
+  module _ (t : Trailer) (e : trailerOf b ≡ ok t) where
+    pub check-offsets : {n : ℕ} → allOffsets b t ≡ refuse n → refuse n ≡ check b
+    unfolding check
+    check-offsets o = rw (e, o)
+
+    pub check-rows : {x : Res ℕ} → allOffsets b t ≡ ok tt → x ≡ checkFrom (t .size) b t (passedIs 0 0 [] 0) → x ≡ check b
+    unfolding check
+    check-rows o r = rw (e, o) r
+
+-- ---- one row, from the array that carries the key before it
+
+module _ (b : List ℕ) (t : Trailer) (at region rows : ℕ) (key : List ℕ) (len : ℕ) (c : Carries key len) where
+  abbrev pub here : Passed
+  here = passedIs at region (take len key) rows
+
+  pub row-region : {n : ℕ} → regionOf b t region ≡ refuse n → refuse n ≡ checkRow b t here
+  unfolding checkRow
+  row-region e = rw e
+
+  module _ (g : Region) (e : regionOf b t region ≡ ok g) where
+    as-carried : {x : Res RowRead} → readRow (dataOf b t) at (g .end) len (eqb at (g .start)) ≡ x → readRow (dataOf b t) at (g .end) (length (take len key)) (eqb at (g .start)) ≡ x
+    as-carried p = ap (λ (n : ℕ). readRow (dataOf b t) at (g .end) n (eqb at (g .start))) (carried key len c) ∙ p
+
+    pub row-no : {n : ℕ} → readRow (dataOf b t) at (g .end) len (eqb at (g .start)) ≡ refuse n → refuse n ≡ checkRow b t here
+    unfolding checkRow
+    row-no p = rw (e, as-carried p)
+
+    module _ (r : RowRead) (p : readRow (dataOf b t) at (g .end) len (eqb at (g .start)) ≡ ok r) where
+      -- the order is told by what follows the shared bytes
+      order : mayFollow (take len key) (keyOf (dataOf b t) (take len key) r) ≡ not (below (suffixOf (dataOf b t) r) (drop (r .shared) (take len key)))
+      order =
+          ap (mayFollow (take len key)) (sym (key-parts (dataOf b t) at (g .end) (eqb at (g .start)) key len c r p))
+          ∙ follows-suffix key len (r .shared) (suffixOf (dataOf b t) r) (row-shares (dataOf b t) at (g .end) len (eqb at (g .start)) r (readRow-ends (dataOf b t) at (g .end) len (eqb at (g .start)) r p))
+
+      pub row-falls : below (suffixOf (dataOf b t) r) (drop (r .shared) (take len key)) ≡ true → refuse 17 ≡ checkRow b t here
+      unfolding checkRow
+      row-falls h = rw (e, as-carried p, order, h)
+
+      -- past the row, the array carries its key
+      abbrev pub after : Passed
+      after = passedIs (r .next) (cond (ltb (r .next) (g .end)) region (region + 1)) (take (keyLength r) (splice key (r .shared) (suffixOf (dataOf b t) r))) (rows + 1)
+
+      pub row-passed : below (suffixOf (dataOf b t) r) (drop (r .shared) (take len key)) ≡ false → checkRow b t here ≡ ok after
+      unfolding checkRow
+      row-passed h = rw (e, as-carried p, order, h, key-new (dataOf b t) at (g .end) (eqb at (g .start)) key len c r p)
+
+-- ---- the loop
+
+pub record Checking (b : List ℕ) (t : Trailer) (at region rows : ℕ) (key : List ℕ) (len : ℕ) : Type 0 where
+  pub left : ℕ
+  pub enough : t .size ≤ at + left
+  pub holds : Carries key len
+  pub makes : checkFrom left b t (passedIs at region (take len key) rows) ≡ checkFrom (t .size) b t (passedIs 0 0 [] 0)
+
+pub checking-start : (b : List ℕ) (t : Trailer) (key : List ℕ) → length key ≡ maxKey → Checking b t 0 0 0 key 0
+checking-start b t key h = record { left = t .size; enough = omega arith; holds = record { few = omega arith; whole = h }; makes = refl }
+
+checkFrom-over : (left : ℕ) (b : List ℕ) (t : Trailer) (p : Passed) → t .size ≤ p .at → checkFrom left b t p ≡ ok (p .rows)
+unfolding checkFrom
+checkFrom-over zero b t p h = refl
+checkFrom-over (suc left) b t p h = rw (le-ltb (p .at) (t .size) h)
+
+checkFrom-step : (left : ℕ) (b : List ℕ) (t : Trailer) (p : Passed) → p .at < t .size → checkFrom (suc left) b t p ≡ bind (checkRow b t p) (λ q. checkFrom left b t q)
+unfolding checkFrom
+checkFrom-step left b t p h = rw (lt-ltb (p .at) (t .size) h)
+
+module _ (b : List ℕ) (t : Trailer) (at region rows : ℕ) (key : List ℕ) (len : ℕ) (s : Checking b t at region rows key len) where
+  pub checking-over : t .size ≤ at → ok rows ≡ checkFrom (t .size) b t (passedIs 0 0 [] 0)
+  checking-over h = sym (checkFrom-over (s .left) b t (passedIs at region (take len key) rows) h) ∙ s .makes
+
+  module _ (h : at < t .size) where
+    -- with steps left, one step is the whole
+    stepped : {A : Type 0} → ((left : ℕ) → t .size ≤ at + suc left → bind (checkRow b t (passedIs at region (take len key) rows)) (λ q. checkFrom left b t q) ≡ checkFrom (t .size) b t (passedIs 0 0 [] 0) → A) → A
+    stepped {A = A} f = go (s .left) (s .enough) (s .makes)
+      where
+        go : (left : ℕ) → t .size ≤ at + left → checkFrom left b t (passedIs at region (take len key) rows) ≡ checkFrom (t .size) b t (passedIs 0 0 [] 0) → A
+        go zero q m = absurd (omega arith)
+        go (suc left) q m = f left q (sym (checkFrom-step left b t (passedIs at region (take len key) rows) h) ∙ m)
+
+    pub checking-no : (n : ℕ) → checkRow b t (passedIs at region (take len key) rows) ≡ refuse n → refuse n ≡ checkFrom (t .size) b t (passedIs 0 0 [] 0)
+    checking-no n e = stepped λ left q m. rw e at m
+
+    -- the row that was passed moved on
+    pub checking-more : (at′ region′ rows′ : ℕ) (key′ : List ℕ) (len′ : ℕ) → Carries key′ len′ → at < at′
+        → checkRow b t (passedIs at region (take len key) rows) ≡ ok (passedIs at′ region′ (take len′ key′) rows′) → Checking b t at′ region′ rows′ key′ len′
+    checking-more at′ region′ rows′ key′ len′ c on e =
+        stepped λ left q m. record { left = left; enough = omega arith; holds = c; makes = rw e at m }

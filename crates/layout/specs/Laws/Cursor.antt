@@ -1,0 +1,248 @@
+-- Each way through opening, a step and `is_empty`, by what was met on it: one law for each exit of the code. And the loop of the step back, which reads a
+-- region from its start to the row that ends at the cursor's position.
+use Prim.Native.Nat.{ℕ, zero, suc, _+_, _-_, _<_, _≤_}
+use mathlib.Core.Path.{_≡_, refl, ap, sym, _∙_}
+use mathlib.Core.Bool.{Bool, true, false, cond}
+use mathlib.Core.List.{List, [], _∷_, _++_}
+use mathlib.Core.Logic.{_⊎_, ⊎-elim}
+use native.Mathlib.Omega.{arith}
+use lib.Dec.{ltb, leb, eqb}
+use lib.ListN.{length, take, drop}
+use borrow.Author.Tests.{lt-ltb, le-ltb, le-leb, lt-leb, eq-eqb, ne-eqb, ltb-false}
+use Rattle.layout.specs.Answer.{Res, ok, refuse, bind, guard}
+use Rattle.layout.specs.Limits.{maxKey}
+use Rattle.layout.specs.Place.{splice}
+use Rattle.layout.specs.Key.{Key}
+use Rattle.layout.specs.RowRead.{RowRead, readRow, keyLength, keyOf}
+use Rattle.layout.specs.Trailer.{Trailer, trailerOf, dataOf, Region, regionOf, allOffsets}
+use Rattle.layout.specs.Cursor.{Direction, ascending, descending, Cursor, cursorIs, marked, opened, openBlock, Answer, found, done, Step, stepIs, give, pastRow, stepUp, Keyed, keyed, rowEndingAt, backPast, stepBackIn, stepDown, stepAlong, next, exhausted, isEmpty}
+use Rattle.layout.specs.Laws.Answer.{bind-then, guard-then, cond-ok, ok-inj}
+use Rattle.layout.specs.Laws.Carry.{Carries, carried, keyOf-length, suffixOf, key-new, carries-on}
+use Rattle.layout.specs.Laws.Tells.{RowEnds, readRow-ends}
+
+-- ---- opening
+
+module _ (b : List ℕ) (d : Direction) where
+  pub open-trailer : {n : ℕ} → trailerOf b ≡ refuse n → openBlock b d ≡ refuse n
+  unfolding openBlock
+  open-trailer e = rw e
+
+  module _ (t : Trailer) (e : trailerOf b ≡ ok t) where
+    pub open-offsets : {n : ℕ} → allOffsets b t ≡ refuse n → openBlock b d ≡ refuse n
+    unfolding openBlock
+    open-offsets o = rw (e, o)
+
+    pub open-good : allOffsets b t ≡ ok tt → openBlock b d ≡ ok (opened d t)
+    unfolding openBlock
+    open-good o = rw (e, o)
+
+-- ---- a step, before its direction matters
+
+module _ (c : Cursor) (b : List ℕ) (room : ℕ) where
+  pub next-trailer : {n : ℕ} → trailerOf b ≡ refuse n → next c b room ≡ refuse n
+  unfolding next
+  next-trailer e = rw e
+
+  module _ (t : Trailer) (e : trailerOf b ≡ ok t) where
+    pub next-region : t .count ≤ c .region → next c b room ≡ refuse 18
+    unfolding next
+    next-region h = rw (e, le-leb (t .count) (c .region) h)
+
+    module _ (h : c .region < t .count) where
+      pub next-key : maxKey < c .keyLen → next c b room ≡ refuse 18
+      unfolding next
+      next-key k = rw (e, lt-leb (t .count) (c .region) h, lt-ltb maxKey (c .keyLen) k)
+
+      module _ (k : c .keyLen ≤ maxKey) where
+        pub next-marked : c .mark ≡ true → next c b room ≡ ok (stepIs c done)
+        unfolding next
+        next-marked m = rw (e, lt-leb (t .count) (c .region) h, le-ltb maxKey (c .keyLen) k, m)
+
+        pub next-up : c .mark ≡ false → c .direction ≡ ascending → next c b room ≡ stepUp c b t room
+        unfolding next
+        next-up m d = rw (e, lt-leb (t .count) (c .region) h, le-ltb maxKey (c .keyLen) k, m, d)
+
+        pub next-down : c .mark ≡ false → c .direction ≡ descending → next c b room ≡ stepDown c b t room
+        unfolding next
+        next-down m d = rw (e, lt-leb (t .count) (c .region) h, le-ltb maxKey (c .keyLen) k, m, d)
+
+-- ---- ascending
+
+module _ (c : Cursor) (b : List ℕ) (t : Trailer) (room : ℕ) where
+  pub up-region : {n : ℕ} → regionOf b t (c .region) ≡ refuse n → stepUp c b t room ≡ refuse n
+  unfolding stepUp
+  up-region e = rw e
+
+  module _ (g : Region) (e : regionOf b t (c .region) ≡ ok g) where
+    pub up-before : c .at < g .start → stepUp c b t room ≡ refuse 18
+    unfolding stepUp
+    up-before h = rw (e, lt-ltb (c .at) (g .start) h)
+
+    module _ (h : g .start ≤ c .at) where
+      pub up-past : g .reach < c .at → stepUp c b t room ≡ refuse 18
+      unfolding stepUp
+      up-past k = rw (e, le-ltb (c .at) (g .start) h, lt-ltb (g .reach) (c .at) k)
+
+      module _ (k : c .at ≤ g .reach) where
+        pub up-done : c .at ≡ g .end → stepUp c b t room ≡ ok (stepIs (marked c) done)
+        unfolding stepUp
+        up-done m = rw (e, le-ltb (c .at) (g .start) h, le-ltb (g .reach) (c .at) k, eq-eqb (c .at) (g .end) m)
+
+        module _ (m : c .at ≡ g .end → ⊥) where
+          pub up-row : {n : ℕ} → readRow (dataOf b t) (c .at) (g .end) (c .keyLen) (eqb (c .at) (g .start)) ≡ refuse n → stepUp c b t room ≡ refuse n
+          unfolding stepUp
+          up-row q = rw (e, le-ltb (c .at) (g .start) h, le-ltb (g .reach) (c .at) k, ne-eqb (c .at) (g .end) m, q)
+
+          module _ (r : RowRead) (q : readRow (dataOf b t) (c .at) (g .end) (c .keyLen) (eqb (c .at) (g .start)) ≡ ok r) where
+            pub up-short : room < keyLength r → stepUp c b t room ≡ refuse 19
+            unfolding stepUp
+            up-short l = rw (e, le-ltb (c .at) (g .start) h, le-ltb (g .reach) (c .at) k, ne-eqb (c .at) (g .end) m, q, lt-ltb room (keyLength r) l)
+
+            pub up-found : keyLength r ≤ room → stepUp c b t room ≡ ok (stepIs (pastRow c g r (keyOf (dataOf b t) (c .key) r)) (found r (keyOf (dataOf b t) (c .key) r)))
+            unfolding stepUp
+            up-found l = rw (e, le-ltb (c .at) (g .start) h, le-ltb (g .reach) (c .at) k, ne-eqb (c .at) (g .end) m, q, le-ltb room (keyLength r) l)
+
+-- ---- descending
+
+module _ (c : Cursor) (b : List ℕ) (t : Trailer) (room : ℕ) where
+  pub down-region : {n : ℕ} → regionOf b t (c .region) ≡ refuse n → stepDown c b t room ≡ refuse n
+  unfolding stepDown
+  down-region e = rw e
+
+  module _ (g : Region) (e : regionOf b t (c .region) ≡ ok g) where
+    pub down-before : c .at < g .start → stepDown c b t room ≡ refuse 18
+    unfolding stepDown
+    down-before h = rw (e, lt-ltb (c .at) (g .start) h)
+
+    module _ (h : g .start ≤ c .at) where
+      pub down-past : g .end < c .at → stepDown c b t room ≡ refuse 18
+      unfolding stepDown
+      down-past k = rw (e, le-ltb (c .at) (g .start) h, lt-ltb (g .end) (c .at) k)
+
+      module _ (k : c .at ≤ g .end) where
+        pub down-done : c .at ≡ g .start → c .region ≡ 0 → stepDown c b t room ≡ ok (stepIs (marked c) done)
+        unfolding stepDown
+        down-done m z = rw (e, le-ltb (c .at) (g .start) h, le-ltb (g .end) (c .at) k, eq-eqb (c .at) (g .start) m, eq-eqb (c .region) 0 z)
+
+        pub down-before-no : {n : ℕ} → c .at ≡ g .start → (c .region ≡ 0 → ⊥) → regionOf b t (c .region - 1) ≡ refuse n → stepDown c b t room ≡ refuse n
+        unfolding stepDown
+        down-before-no m z q = rw (e, le-ltb (c .at) (g .start) h, le-ltb (g .end) (c .at) k, eq-eqb (c .at) (g .start) m, ne-eqb (c .region) 0 z, q)
+
+        pub down-before-in : {f : Region} → c .at ≡ g .start → (c .region ≡ 0 → ⊥) → regionOf b t (c .region - 1) ≡ ok f → stepDown c b t room ≡ stepBackIn c b t room (c .region - 1) f
+        unfolding stepDown
+        down-before-in m z q = rw (e, le-ltb (c .at) (g .start) h, le-ltb (g .end) (c .at) k, eq-eqb (c .at) (g .start) m, ne-eqb (c .region) 0 z, q)
+
+        pub down-in : (c .at ≡ g .start → ⊥) → stepDown c b t room ≡ stepBackIn c b t room (c .region) g
+        unfolding stepDown
+        down-in m = rw (e, le-ltb (c .at) (g .start) h, le-ltb (g .end) (c .at) k, ne-eqb (c .at) (g .start) m)
+
+module _ (c : Cursor) (b : List ℕ) (t : Trailer) (room region : ℕ) (g : Region) where
+  pub back-no : {n : ℕ} → rowEndingAt (c .at) (dataOf b t) g (c .at) (g .start) [] ≡ refuse n → stepBackIn c b t room region g ≡ refuse n
+  unfolding stepBackIn
+  back-no e = rw e
+
+  module _ (k : Keyed) (e : rowEndingAt (c .at) (dataOf b t) g (c .at) (g .start) [] ≡ ok k) where
+    pub back-short : room < keyLength (k .row) → stepBackIn c b t room region g ≡ refuse 19
+    unfolding stepBackIn
+    back-short h = rw (e, lt-ltb room (keyLength (k .row)) h)
+
+    pub back-found : keyLength (k .row) ≤ room → stepBackIn c b t room region g ≡ ok (stepIs (backPast c region (k .row)) (found (k .row) (k .key)))
+    unfolding stepBackIn
+    back-found h = rw (e, le-ltb room (keyLength (k .row)) h)
+
+-- ---- the loop of the step back: the array carries the key of the row before
+
+module _ (d : List ℕ) (g : Region) (stop : ℕ) where
+  pub record Backing (key : List ℕ) (at len : ℕ) : Type 0 where
+    pub left : ℕ
+    pub enough : stop ≤ at + left
+    pub before : at < stop
+    pub holds : Carries key len
+    pub makes : rowEndingAt left d g stop at (take len key) ≡ rowEndingAt stop d g stop (g .start) []
+
+  pub backing-start : (key : List ℕ) → length key ≡ maxKey → g .start < stop → Backing key (g .start) 0
+  backing-start key h k = record { left = stop; enough = omega arith; before = k; holds = record { few = omega arith; whole = h }; makes = refl }
+
+  module _ (key : List ℕ) (at len : ℕ) (s : Backing key at len) where
+    alike : {x : Res RowRead} → readRow d at (g .end) len (eqb at (g .start)) ≡ x → readRow d at (g .end) (length (take len key)) (eqb at (g .start)) ≡ x
+    alike e = ap (λ (n : ℕ). readRow d at (g .end) n (eqb at (g .start))) (carried key len (s .holds)) ∙ e
+
+    -- with steps left, one step is the whole
+    stepped : {A : Type 0} → ((left : ℕ) → stop ≤ at + suc left → rowEndingAt (suc left) d g stop at (take len key) ≡ rowEndingAt stop d g stop (g .start) [] → A) → A
+    stepped {A = A} f = go (s .left) (s .enough) (s .makes)
+      where
+        go : (left : ℕ) → stop ≤ at + left → rowEndingAt left d g stop at (take len key) ≡ rowEndingAt stop d g stop (g .start) [] → A
+        go zero q m = absurd (omega (arith, s .before))
+        go (suc left) q m = f left q m
+
+    pub backing-no : {n : ℕ} → readRow d at (g .end) len (eqb at (g .start)) ≡ refuse n → refuse n ≡ rowEndingAt stop d g stop (g .start) []
+    unfolding rowEndingAt
+    backing-no e = stepped λ left q m. rw (alike e) at m
+
+    module _ (r : RowRead) (e : readRow d at (g .end) len (eqb at (g .start)) ≡ ok r) where
+      pub backing-straddles : stop < r .next → refuse 18 ≡ rowEndingAt stop d g stop (g .start) []
+      unfolding rowEndingAt
+      backing-straddles h = stepped λ left q m. rw (alike e, le-ltb (r .next) stop (omega arith), lt-ltb stop (r .next) h) at m
+
+      -- found: its key, once the suffix is put over the carried one
+      pub backing-found : r .next ≡ stop → ok (keyed r (take (keyLength r) (splice key (r .shared) (suffixOf d r)))) ≡ rowEndingAt stop d g stop (g .start) []
+      unfolding rowEndingAt
+      backing-found h =
+          stepped λ left q m.
+          ap (λ (k : Key). ok (keyed r k)) (key-new d at (g .end) (eqb at (g .start)) key len (s .holds) r e)
+          ∙ rw (alike e, le-ltb (r .next) stop (omega arith), le-ltb stop (r .next) (omega arith)) at m
+
+      pub backing-more : r .next < stop → Backing (splice key (r .shared) (suffixOf d r)) (r .next) (keyLength r)
+      unfolding rowEndingAt
+      backing-more h =
+          stepped λ left q m.
+          record {
+            left = left;
+            enough = omega (arith, readRow-ends d at (g .end) len (eqb at (g .start)) r e .least);
+            before = h;
+            holds = carries-on d at (g .end) (eqb at (g .start)) key len (s .holds) r e;
+            makes =
+                ap (rowEndingAt left d g stop (r .next)) (key-new d at (g .end) (eqb at (g .start)) key len (s .holds) r e)
+                ∙ rw (alike e, lt-ltb (r .next) stop h) at m;
+          }
+
+-- a row that the step back finds: it is read, and its key is as long as it says
+pub record Ended (d : List ℕ) (g : Region) (stop : ℕ) (k : Keyed) : Type 0 where
+  pub fits : keyLength (k .row) ≤ maxKey
+  pub whole : length (k .key) ≡ keyLength (k .row)
+  pub ends : k .row .next ≡ stop
+  pub before : k .row .start + 12 ≤ stop
+  pub suffix : k .row .suffixAt + k .row .suffixLen ≤ length d
+
+pub ended : (left : ℕ) (d : List ℕ) (g : Region) (stop at : ℕ) (before : Key) (k : Keyed) → rowEndingAt left d g stop at before ≡ ok k → Ended d g stop k
+unfolding rowEndingAt
+ended zero d g stop at before k e = absurd (let z : _≡_ {A = ℕ} 0 1 = cc in omega arith)
+ended (suc left) d g stop at before k e =
+    bind-then (readRow d at (g .end) (length before) (eqb at (g .start))) _ k e λ r p q.
+    ⊎-elim
+    (λ t. ended left d g stop (r .next) (keyOf d before r) k (t .1))
+    (λ t.
+    guard-then (ltb stop (r .next)) 18 _ k (t .1) λ u v.
+    let w = readRow-ends d at (g .end) (length before) (eqb at (g .start)) r p in
+    let n : r .next ≡ stop = omega (arith, ltb-false (r .next) stop (t .0), ltb-false stop (r .next) u) in
+    let is : keyed r (keyOf d before r) ≡ k = ok-inj v in
+    rw (← is)
+    (record {
+      fits = w .fits;
+      whole = keyOf-length d at (g .end) before (eqb at (g .start)) r p;
+      ends = n;
+      before = omega (arith, w .starts, w .least);
+      suffix = w .suffix;
+    }))
+    (cond-ok (ltb (r .next) stop) _ _ k q)
+
+-- ---- is_empty
+
+module _ (c : Cursor) (b : List ℕ) where
+  pub empty-trailer : {n : ℕ} → trailerOf b ≡ refuse n → isEmpty c b ≡ refuse n
+  unfolding isEmpty
+  empty-trailer e = rw e
+
+  pub empty-is : (t : Trailer) → trailerOf b ≡ ok t → isEmpty c b ≡ ok (exhausted (c .direction) c t)
+  unfolding isEmpty
+  empty-is t e = rw e
