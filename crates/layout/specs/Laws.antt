@@ -17,3 +17,4 @@ pub mod Made
 pub mod Carry
 pub mod Check
 pub mod Cursor
+pub mod Seek

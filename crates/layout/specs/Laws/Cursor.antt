@@ -5,6 +5,7 @@ use mathlib.Core.Path.{_≡_, refl, ap, sym, _∙_}
 use mathlib.Core.Bool.{Bool, true, false, cond}
 use mathlib.Core.List.{List, [], _∷_, _++_}
 use mathlib.Core.Logic.{_⊎_, ⊎-elim}
+use native.Mathlib.Nat.{le-antisymm}
 use native.Mathlib.Omega.{arith}
 use lib.Dec.{ltb, leb, eqb}
 use lib.ListN.{length, take, drop}
@@ -224,7 +225,7 @@ ended (suc left) d g stop at before k e =
     (λ t.
     guard-then (ltb stop (r .next)) 18 _ k (t .1) λ u v.
     let w = readRow-ends d at (g .end) (length before) (eqb at (g .start)) r p in
-    let n : r .next ≡ stop = omega (arith, ltb-false (r .next) stop (t .0), ltb-false stop (r .next) u) in
+    let n : r .next ≡ stop = le-antisymm (ltb-false stop (r .next) u) (ltb-false (r .next) stop (t .0)) in
     let is : keyed r (keyOf d before r) ≡ k = ok-inj v in
     rw (← is)
     (record {
