@@ -3,6 +3,7 @@ pub mod Varint
 pub mod Fixed
 pub mod Place
 pub mod Splice
+pub mod Byte
 pub mod Key
 pub mod Row
 pub mod Tells

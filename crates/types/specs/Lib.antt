@@ -1,0 +1,5 @@
+pub mod Number
+pub mod Says
+pub mod Answers
+pub mod Promise
+pub mod OneOutcome

@@ -1,0 +1,26 @@
+-- `put_byte` keeps its promise for any place and byte.
+-- The test of its room is the promise's own, for one byte; one store is a write of that byte.
+use native.Mathlib.Omega.{arith}
+use borrow.Author.Needs.{needs}
+use Rattle.layout.specs.Laws.Splice.{wrote-set}
+use Rattle.utils.proofs.Laws.{puts-short, puts-wrote}
+use Rattle.utils.proofs.put_byte.Statement.{statement}
+use Rattle.utils.proofs.put_byte.Tie as tie
+
+slice-write-buf : tie.Need-slice-write-buf
+slice-write-buf c = search needs
+
+add-t7 : tie.Need-add-t7
+add-t7 c = search needs
+
+same-length : tie.Need-same-length
+same-length c = search needs
+
+returns : tie.Need-returns
+returns c = puts-wrote (wrote-set _ _ _ (c .if1 .taken))
+
+returns-2 : tie.Need-returns-2
+returns-2 c = puts-short _ _ _ (omega arith)
+
+pub put-byte-spec : {M : Type 1} → statement M
+put-byte-spec = tie.close (tie.spec slice-write-buf add-t7 same-length returns returns-2)
