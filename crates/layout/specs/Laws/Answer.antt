@@ -63,3 +63,8 @@ went f e = rw e
 -- a test has one value
 pub clash : {b : Bool} → b ≡ true → b ≡ false → ⊥
 clash p q = let z : _≡_ {A = ℕ} 0 1 = cc in omega arith
+
+-- a fold that has steps left: one of them is taken, and the rest makes the same whole
+pub spend : {A B : Type 0} (fold : ℕ → A) {whole : A} (left : ℕ) → (left ≡ 0 → ⊥) → fold left ≡ whole → ((more : ℕ) → left ≡ suc more → fold (suc more) ≡ whole → B) → B
+spend fold zero some makes k = absurd (some refl)
+spend fold (suc more) some makes k = k more refl makes

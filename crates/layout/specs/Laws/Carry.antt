@@ -26,6 +26,11 @@ pub record Carries (key : List ℕ) (len : ℕ) : Type 0 where
 pub carried : (key : List ℕ) (len : ℕ) → Carries key len → length (take len key) ≡ len
 carried key len c = length-take-le len key (omega (arith, c .few, c .whole))
 
+-- a row read after a carried key is read after as many bytes
+pub read-carried : (d : List ℕ) (at end : ℕ) (restart : Bool) (key : List ℕ) (len : ℕ) → Carries key len → {x : Res RowRead} → readRow d at end len restart ≡ x
+    → readRow d at end (length (take len key)) restart ≡ x
+read-carried d at end restart key len c e = ap (λ (n : ℕ). readRow d at end n restart) (carried key len c) ∙ e
+
 -- the suffix of a row, where it stands
 abbrev pub suffixOf : List ℕ → RowRead → List ℕ
 suffixOf d r = take (r .suffixLen) (drop (r .suffixAt) d)

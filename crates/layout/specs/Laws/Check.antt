@@ -16,7 +16,8 @@ use Rattle.layout.specs.Key.{Key, below, mayFollow}
 use Rattle.layout.specs.RowRead.{RowRead, readRow, keyLength, keyOf}
 use Rattle.layout.specs.Trailer.{Trailer, trailerOf, dataOf, Region, regionOf, allOffsets}
 use Rattle.layout.specs.Check.{Passed, passedIs, passedRow, checkRow, checkFrom, check}
-use Rattle.layout.specs.Laws.Carry.{Carries, carried, suffixOf, key-new, key-parts, carries-on, follows-suffix}
+use Rattle.layout.specs.Laws.Answer.{spend}
+use Rattle.layout.specs.Laws.Carry.{Carries, read-carried, suffixOf, key-new, key-parts, carries-on, follows-suffix}
 use Rattle.layout.specs.Laws.Tells.{RowEnds, readRow-ends, row-shares}
 
 -- ---- before the rows
@@ -47,7 +48,7 @@ module _ (b : List ℕ) (t : Trailer) (at region rows : ℕ) (key : List ℕ) (l
 
   module _ (g : Region) (e : regionOf b t region ≡ ok g) where
     as-carried : {x : Res RowRead} → readRow (dataOf b t) at (g .end) len (eqb at (g .start)) ≡ x → readRow (dataOf b t) at (g .end) (length (take len key)) (eqb at (g .start)) ≡ x
-    as-carried p = ap (λ (n : ℕ). readRow (dataOf b t) at (g .end) n (eqb at (g .start))) (carried key len c) ∙ p
+    as-carried p = read-carried (dataOf b t) at (g .end) (eqb at (g .start)) key len c p
 
     pub row-no : {n : ℕ} → readRow (dataOf b t) at (g .end) len (eqb at (g .start)) ≡ refuse n → refuse n ≡ checkRow b t here
     unfolding checkRow
@@ -99,11 +100,9 @@ module _ (b : List ℕ) (t : Trailer) (at region rows : ℕ) (key : List ℕ) (l
   module _ (h : at < t .size) where
     -- with steps left, one step is the whole
     stepped : {A : Type 0} → ((left : ℕ) → t .size ≤ at + suc left → bind (checkRow b t (passedIs at region (take len key) rows)) (λ q. checkFrom left b t q) ≡ checkFrom (t .size) b t (passedIs 0 0 [] 0) → A) → A
-    stepped {A = A} f = go (s .left) (s .enough) (s .makes)
-      where
-        go : (left : ℕ) → t .size ≤ at + left → checkFrom left b t (passedIs at region (take len key) rows) ≡ checkFrom (t .size) b t (passedIs 0 0 [] 0) → A
-        go zero q m = absurd (omega arith)
-        go (suc left) q m = f left q (sym (checkFrom-step left b t (passedIs at region (take len key) rows) h) ∙ m)
+    stepped f =
+        spend (λ (n : ℕ). checkFrom n b t (passedIs at region (take len key) rows)) (s .left) (λ z. absurd (omega (arith, s .enough))) (s .makes)
+        λ more is m. f more (omega (arith, s .enough)) (sym (checkFrom-step more b t (passedIs at region (take len key) rows) h) ∙ m)
 
     pub checking-no : (n : ℕ) → checkRow b t (passedIs at region (take len key) rows) ≡ refuse n → refuse n ≡ checkFrom (t .size) b t (passedIs 0 0 [] 0)
     checking-no n e = stepped λ left q m. rw e at m

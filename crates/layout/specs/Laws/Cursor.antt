@@ -17,8 +17,8 @@ use Rattle.layout.specs.Key.{Key}
 use Rattle.layout.specs.RowRead.{RowRead, readRow, keyLength, keyOf}
 use Rattle.layout.specs.Trailer.{Trailer, trailerOf, dataOf, Region, regionOf, allOffsets}
 use Rattle.layout.specs.Cursor.{Direction, ascending, descending, Cursor, cursorIs, marked, opened, openBlock, Answer, found, done, Step, stepIs, give, pastRow, stepUp, Keyed, keyed, rowEndingAt, backPast, stepBackIn, stepDown, stepAlong, next, exhausted, isEmpty}
-use Rattle.layout.specs.Laws.Answer.{bind-then, guard-then, cond-ok, ok-inj}
-use Rattle.layout.specs.Laws.Carry.{Carries, carried, keyOf-length, suffixOf, key-new, carries-on}
+use Rattle.layout.specs.Laws.Answer.{bind-then, guard-then, cond-ok, ok-inj, spend}
+use Rattle.layout.specs.Laws.Carry.{Carries, read-carried, keyOf-length, suffixOf, key-new, carries-on}
 use Rattle.layout.specs.Laws.Tells.{RowEnds, readRow-ends}
 
 -- ---- opening
@@ -166,15 +166,13 @@ module _ (d : List ℕ) (g : Region) (stop : ℕ) where
 
   module _ (key : List ℕ) (at len : ℕ) (s : Backing key at len) where
     alike : {x : Res RowRead} → readRow d at (g .end) len (eqb at (g .start)) ≡ x → readRow d at (g .end) (length (take len key)) (eqb at (g .start)) ≡ x
-    alike e = ap (λ (n : ℕ). readRow d at (g .end) n (eqb at (g .start))) (carried key len (s .holds)) ∙ e
+    alike e = read-carried d at (g .end) (eqb at (g .start)) key len (s .holds) e
 
     -- with steps left, one step is the whole
     stepped : {A : Type 0} → ((left : ℕ) → stop ≤ at + suc left → rowEndingAt (suc left) d g stop at (take len key) ≡ rowEndingAt stop d g stop (g .start) [] → A) → A
-    stepped {A = A} f = go (s .left) (s .enough) (s .makes)
-      where
-        go : (left : ℕ) → stop ≤ at + left → rowEndingAt left d g stop at (take len key) ≡ rowEndingAt stop d g stop (g .start) [] → A
-        go zero q m = absurd (omega (arith, s .before))
-        go (suc left) q m = f left q m
+    stepped f =
+        spend (λ (n : ℕ). rowEndingAt n d g stop at (take len key)) (s .left) (λ z. absurd (omega (arith, s .enough, s .before))) (s .makes)
+        λ more is m. f more (omega (arith, s .enough)) m
 
     pub backing-no : {n : ℕ} → readRow d at (g .end) len (eqb at (g .start)) ≡ refuse n → refuse n ≡ rowEndingAt stop d g stop (g .start) []
     unfolding rowEndingAt

@@ -19,7 +19,8 @@ use Rattle.layout.specs.RowRead.{RowRead, KeyRead, readRow, readKey, key
 use Rattle.layout.specs.Trailer.{Trailer, trailerOf, dataOf, Region, regionOf}
 use Rattle.layout.specs.Cursor.{Direction, ascending, descending, Cursor, cursorIs}
 use Rattle.layout.specs.Seek.{Found, foundIs, tick, middle, search, restartKey, restartBelow, searchRestarts, Stop, stopIs, walkRegion, doneUp, walkUp, seekUp, lastEqual, startDown, lastAtOrBelow, doneDown, walkDown, seekDown, Sought, soughtIs, seekAlong, seek}
-use Rattle.layout.specs.Laws.Carry.{Carries, carried, suffixOf, key-parts, key-new, carries-on}
+use Rattle.layout.specs.Laws.Answer.{spend}
+use Rattle.layout.specs.Laws.Carry.{Carries, read-carried, suffixOf, key-parts, key-new, carries-on}
 use Rattle.layout.specs.Laws.Tells.{RowEnds, readRow-ends}
 use Rattle.layout.specs.Laws.Search.{search-empty, search-split, search-refuse}
 
@@ -102,14 +103,12 @@ module _ (d : List ℕ) (g : Region) (target : Key) (fuel : ℕ) where
 
   module _ (key : List ℕ) (at len : ℕ) (s : Walking key at len) where
     alike : {x : Res RowRead} → readRow d at (g .end) len (eqb at (g .start)) ≡ x → readRow d at (g .end) (length (take len key)) (eqb at (g .start)) ≡ x
-    alike e = ap (λ (n : ℕ). readRow d at (g .end) n (eqb at (g .start))) (carried key len (s .holds)) ∙ e
+    alike e = read-carried d at (g .end) (eqb at (g .start)) key len (s .holds) e
 
     stepped : at < g .end → {A : Type 0} → ((left : ℕ) → g .end ≤ at + suc left → walkRegion (suc left) d g target at (take len key) ≡ walkRegion fuel d g target (g .start) [] → A) → A
-    stepped h {A = A} f = go (s .left) (s .enough) (s .makes)
-      where
-        go : (left : ℕ) → g .end ≤ at + left → walkRegion left d g target at (take len key) ≡ walkRegion fuel d g target (g .start) [] → A
-        go zero q m = absurd (omega arith)
-        go (suc left) q m = f left q m
+    stepped h f =
+        spend (λ (n : ℕ). walkRegion n d g target at (take len key)) (s .left) (λ z. absurd (omega (arith, s .enough))) (s .makes)
+        λ more is m. f more (omega (arith, s .enough)) m
 
     -- at the region's end
     pub walking-over : g .end ≤ at → ok (stopIs at (take len key)) ≡ walkRegion fuel d g target (g .start) []
@@ -161,14 +160,12 @@ module _ (d : List ℕ) (g : Region) (target : Key) (fuel : ℕ) where
 
   module _ (key : List ℕ) (at len best : ℕ) (s : Lasting key at len best) where
     same-read : {x : Res RowRead} → readRow d at (g .end) len (eqb at (g .start)) ≡ x → readRow d at (g .end) (length (take len key)) (eqb at (g .start)) ≡ x
-    same-read e = ap (λ (n : ℕ). readRow d at (g .end) n (eqb at (g .start))) (carried key len (s .holds)) ∙ e
+    same-read e = read-carried d at (g .end) (eqb at (g .start)) key len (s .holds) e
 
     one-step : at < g .end → {A : Type 0} → ((left : ℕ) → g .end ≤ at + suc left → lastAtOrBelow (suc left) d g target at (take len key) best ≡ lastAtOrBelow fuel d g target (g .start) [] (g .start) → A) → A
-    one-step h {A = A} f = go (s .left) (s .enough) (s .makes)
-      where
-        go : (left : ℕ) → g .end ≤ at + left → lastAtOrBelow left d g target at (take len key) best ≡ lastAtOrBelow fuel d g target (g .start) [] (g .start) → A
-        go zero q m = absurd (omega arith)
-        go (suc left) q m = f left q m
+    one-step h f =
+        spend (λ (n : ℕ). lastAtOrBelow n d g target at (take len key) best) (s .left) (λ z. absurd (omega (arith, s .enough))) (s .makes)
+        λ more is m. f more (omega (arith, s .enough)) m
 
     pub lasting-over : g .end ≤ at → ok best ≡ lastAtOrBelow fuel d g target (g .start) [] (g .start)
     unfolding lastAtOrBelow
@@ -211,11 +208,9 @@ module _ (b : List ℕ) (t : Trailer) (target : Key) where
 
   module _ (first region : ℕ) (s : Climbing first region) where
     climbed : region < t .count → first ≤ t .count → {A : Type 0} → ((left : ℕ) → region + suc left ≡ first + (t .count - first) → walkUp (suc left) b t target region ≡ walkUp (t .count - first) b t target first → A) → A
-    climbed h f₀ {A = A} f = go (s .left) (s .regions) (s .makes)
-      where
-        go : (left : ℕ) → region + left ≡ first + (t .count - first) → walkUp left b t target region ≡ walkUp (t .count - first) b t target first → A
-        go zero q m = absurd (omega arith)
-        go (suc left) q m = f left q m
+    climbed h f₀ f =
+        spend (λ (n : ℕ). walkUp n b t target region) (s .left) (λ z. absurd (omega (arith, s .regions))) (s .makes)
+        λ more is m. f more (omega (arith, s .regions)) m
 
     module _ (f₀ : first ≤ t .count) where
       pub climbing-over : t .count ≤ region → ok (doneUp t) ≡ walkUp (t .count - first) b t target first
@@ -320,11 +315,9 @@ module _ (b : List ℕ) (t : Trailer) (target : Key) where
 
   module _ (first i : ℕ) (s : Running first i) where
     ran : i + 1 < t .count → {A : Type 0} → ((left : ℕ) → t .count ≤ i + suc left → lastEqual (suc left) b t target i ≡ lastEqual (t .count) b t target first → A) → A
-    ran h {A = A} f = go (s .left) (s .enough) (s .makes)
-      where
-        go : (left : ℕ) → t .count ≤ i + left → lastEqual left b t target i ≡ lastEqual (t .count) b t target first → A
-        go zero q m = absurd (omega arith)
-        go (suc left) q m = f left q m
+    ran h f =
+        spend (λ (n : ℕ). lastEqual n b t target i) (s .left) (λ z. absurd (omega (arith, s .enough))) (s .makes)
+        λ more is m. f more (omega (arith, s .enough)) m
 
     pub running-over : t .count ≤ i + 1 → ok i ≡ lastEqual (t .count) b t target first
     unfolding lastEqual

@@ -15,7 +15,7 @@ use Rattle.layout.specs.Fixed.{big, unbig}
 use Rattle.layout.specs.Place.{NumAt, numAt, fixedAt}
 use Rattle.layout.specs.Block.{offsetBytes, trailer}
 use Rattle.layout.specs.Trailer.{shortAt, countOf, Trailer, trailerIs, trailerOf, dataOf, offsetAt, risingFrom, allOffsets, Region, regionIs, firstOf, regionOf}
-use Rattle.layout.specs.Laws.Answer.{guard-then, cond-ok, ok-inj, ltb-cases, eqb-cases}
+use Rattle.layout.specs.Laws.Answer.{guard-then, cond-ok, ok-inj, ltb-cases, eqb-cases, spend}
 use Rattle.layout.specs.Laws.Fixed.{length-big, unbig-take-big}
 use Rattle.layout.specs.Laws.Place.{past}
 use Rattle.layout.specs.Laws.Block.{AllFit}
@@ -147,11 +147,9 @@ rising-start b t = record { left = t .count; count = omega arith; makes = refl }
 module _ (b : List ℕ) (t : Trailer) (r low : ℕ) (s : Rising b t r low) where
   -- with offsets left, a step is the whole
   stepped : r < t .count → {A : Type 0} → ((left : ℕ) → r + suc left ≡ t .count → risingFrom (suc left) b t r low ≡ risingFrom (t .count) b t 0 0 → A) → A
-  stepped h {A = A} f = go (s .left) (s .count) (s .makes)
-    where
-      go : (left : ℕ) → r + left ≡ t .count → risingFrom left b t r low ≡ risingFrom (t .count) b t 0 0 → A
-      go zero c m = absurd (omega arith)
-      go (suc left) c m = f left c m
+  stepped h f =
+      spend (λ (n : ℕ). risingFrom n b t r low) (s .left) (λ z. absurd (omega (arith, s .count))) (s .makes)
+      λ more is m. f more (omega (arith, s .count)) m
 
   pub rising-over : t .count ≤ r → ok tt ≡ risingFrom (t .count) b t 0 0
   rising-over h = go (s .left) (s .count) (s .makes)
