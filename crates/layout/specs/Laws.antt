@@ -19,3 +19,5 @@ pub mod Carry
 pub mod Check
 pub mod Cursor
 pub mod Seek
+pub mod Reads
+pub mod Ascend

@@ -12,5 +12,6 @@ pub mod Builder
 pub mod Check
 pub mod Cursor
 pub mod Seek
+pub mod Reads
 pub mod Cases
 pub mod Laws

@@ -1,0 +1,123 @@
+-- The rows of a region and of a block, taken apart: what the first row of a list of them tells, that rows stand one after another, and that more steps
+-- change nothing.
+use Prim.Native.Nat.{ℕ, zero, suc, _+_, _-_, _<_, _≤_, zero-le}
+use mathlib.Core.Path.{_≡_, refl, ap, sym, _∙_}
+use mathlib.Core.Bool.{Bool, true, false, cond}
+use mathlib.Core.List.{List, [], _∷_, _++_}
+use mathlib.Core.Logic.{_⊎_, ⊎-elim}
+use native.Mathlib.Omega.{arith}
+use lib.Dec.{ltb, eqb}
+use lib.ListN.{length, take, drop, getD}
+use borrow.Author.Tests.{lt-ltb, le-ltb}
+use Rattle.layout.specs.Answer.{Res, ok, refuse, bind}
+use Rattle.layout.specs.Limits.{maxKey}
+use Rattle.layout.specs.Key.{Key}
+use Rattle.layout.specs.RowRead.{RowRead, readRow, keyLength, keyOf}
+use Rattle.layout.specs.Trailer.{Trailer, dataOf, Region, regionOf}
+use Rattle.layout.specs.Cursor.{Keyed, keyed}
+use Rattle.layout.specs.Reads.{regionRows, regionsRows, allRows}
+use Rattle.layout.specs.Laws.Answer.{bind-then, ok-inj, ltb-cases}
+use Rattle.layout.specs.Laws.Tells.{RowEnds, readRow-ends}
+
+-- ---- a region
+
+-- what a region's rows from a place on begin with
+pub data RegionIs (left : ℕ) (d : List ℕ) (g : Region) (at : ℕ) (before : Key) : List Keyed → Type 0 where
+  over : g .end ≤ at → RegionIs left d g at before []
+  more : (r : RowRead) (ks : List Keyed) → at < g .end → readRow d at (g .end) (length before) (eqb at (g .start)) ≡ ok r
+      → regionRows left d g (r .next) (keyOf d before r) ≡ ok ks → RegionIs left d g at before (keyed r (keyOf d before r) ∷ ks)
+
+pub region-is : (left : ℕ) (d : List ℕ) (g : Region) (at : ℕ) (before : Key) (ks : List Keyed) → regionRows (suc left) d g at before ≡ ok ks → RegionIs left d g at before ks
+unfolding regionRows
+region-is left d g at before ks e =
+    ⊎-elim
+    (λ t.
+    bind-then (readRow d at (g .end) (length before) (eqb at (g .start))) _ ks (rw (t .0) at e) λ r p q.
+    bind-then (regionRows left d g (r .next) (keyOf d before r)) _ ks q λ qs u v.
+    let w : keyed r (keyOf d before r) ∷ qs ≡ ks = ok-inj v in
+    rw (← w) (more r qs (t .1) p u))
+    (λ t. let z : _≡_ {A = Res (List Keyed)} (ok []) (ok ks) = rw (t .0) at e in let w : [] ≡ ks = ok-inj z in rw (← w) (over (t .1)))
+    (ltb-cases at (g .end))
+
+-- the same of any number of steps that is enough
+pub region-at : (left : ℕ) (d : List ℕ) (g : Region) (at : ℕ) (before : Key) (ks : List Keyed) → regionRows left d g at before ≡ ok ks → g .end ≤ at + left
+    → {A : Type 0} → (g .end ≤ at → ks ≡ [] → A)
+    → ((r : RowRead) (qs : List Keyed) (m : ℕ) → at < g .end → readRow d at (g .end) (length before) (eqb at (g .start)) ≡ ok r → regionRows m d g (r .next) (keyOf d before r) ≡ ok qs
+    → g .end ≤ r .next + m → ks ≡ keyed r (keyOf d before r) ∷ qs → A) → A
+region-at zero d g at before ks e h {A = A} f k = f (omega arith) (none e)
+  where
+    none : regionRows 0 d g at before ≡ ok ks → ks ≡ []
+    none e = unfold regionRows in sym (ok-inj e)
+region-at (suc left) d g at before ks e h {A = A} f k = go ks (region-is left d g at before ks e) f k
+  where
+    go : (ks : List Keyed) → RegionIs left d g at before ks → (g .end ≤ at → ks ≡ [] → A)
+        → ((r : RowRead) (qs : List Keyed) (m : ℕ) → at < g .end → readRow d at (g .end) (length before) (eqb at (g .start)) ≡ ok r → regionRows m d g (r .next) (keyOf d before r) ≡ ok qs
+        → g .end ≤ r .next + m → ks ≡ keyed r (keyOf d before r) ∷ qs → A) → A
+    go ks (over w) f k = f w refl
+    go ks (more r qs w p u) f k = k r qs left w p u (omega (arith, readRow-ends d at (g .end) (length before) (eqb at (g .start)) r p .least)) refl
+
+-- the rows of a region that is not over
+pub region-cons : (left : ℕ) (d : List ℕ) (g : Region) (at : ℕ) (before : Key) (r : RowRead) (ks : List Keyed) → at < g .end
+    → readRow d at (g .end) (length before) (eqb at (g .start)) ≡ ok r → regionRows left d g (r .next) (keyOf d before r) ≡ ok ks
+    → regionRows (suc left) d g at before ≡ ok (keyed r (keyOf d before r) ∷ ks)
+unfolding regionRows
+region-cons left d g at before r ks h p u = rw (lt-ltb at (g .end) h, p, u)
+
+pub region-over : (left : ℕ) (d : List ℕ) (g : Region) (at : ℕ) (before : Key) → g .end ≤ at → regionRows left d g at before ≡ ok []
+unfolding regionRows
+region-over zero d g at before h = refl
+region-over (suc left) d g at before h = rw (le-ltb at (g .end) h)
+
+-- more steps change nothing
+pub region-more : (m n : ℕ) (d : List ℕ) (g : Region) (at : ℕ) (before : Key) → g .end ≤ at + m → g .end ≤ at + n → regionRows m d g at before ≡ regionRows n d g at before
+region-more zero n d g at before h k = region-over zero d g at before (omega arith) ∙ sym (region-over n d g at before (omega arith))
+region-more (suc m) zero d g at before h k = region-over (suc m) d g at before (omega arith) ∙ sym (region-over zero d g at before (omega arith))
+region-more (suc m) (suc n) d g at before h k = go (readRow d at (g .end) (length before) (eqb at (g .start))) refl (region-more m n d g)
+  where
+    go : (x : Res RowRead) → readRow d at (g .end) (length before) (eqb at (g .start)) ≡ x
+        → ((at : ℕ) (before : Key) → g .end ≤ at + m → g .end ≤ at + n → regionRows m d g at before ≡ regionRows n d g at before)
+        → regionRows (suc m) d g at before ≡ regionRows (suc n) d g at before
+    go (ok r) e ih = same (ih (r .next) (keyOf d before r) (omega (arith, next)) (omega (arith, next)))
+      where
+        next : at + 12 ≤ r .next
+        next = readRow-ends d at (g .end) (length before) (eqb at (g .start)) r e .least
+
+        same : regionRows m d g (r .next) (keyOf d before r) ≡ regionRows n d g (r .next) (keyOf d before r) → regionRows (suc m) d g at before ≡ regionRows (suc n) d g at before
+        same q = unfold regionRows in rw (e, q)
+    go (refuse n) e ih = unfold regionRows in rw e
+
+-- ---- rows stand one after another
+
+-- where the last of some rows ends
+unfoldable pub endsAt : ℕ → List Keyed → ℕ
+endsAt at [] = at
+endsAt at (k ∷ ks) = endsAt (k .row .next) ks
+
+pub endsAt-snoc : (at : ℕ) (ks : List Keyed) (k : Keyed) → endsAt at (ks ++ (k ∷ [])) ≡ k .row .next
+unfolding endsAt
+endsAt-snoc at [] k = refl
+endsAt-snoc at (x ∷ xs) k = endsAt-snoc (x .row .next) xs k
+
+-- ---- the regions of a block
+
+pub data RegionsAre (left : ℕ) (b : List ℕ) (t : Trailer) (region : ℕ) : List (List Keyed) → Type 0 where
+  next : (g : Region) (rows : List Keyed) (rest : List (List Keyed)) → regionOf b t region ≡ ok g → regionRows (t .size) (dataOf b t) g (g .start) [] ≡ ok rows
+      → regionsRows left b t (suc region) ≡ ok rest → RegionsAre left b t region (rows ∷ rest)
+
+pub regions-are : (left : ℕ) (b : List ℕ) (t : Trailer) (region : ℕ) (rss : List (List Keyed)) → regionsRows (suc left) b t region ≡ ok rss → RegionsAre left b t region rss
+unfolding regionsRows
+regions-are left b t region rss e =
+    bind-then (regionOf b t region) _ rss e λ g p q.
+    bind-then (regionRows (t .size) (dataOf b t) g (g .start) []) _ rss q λ rows u v.
+    bind-then (regionsRows left b t (suc region)) _ rss v λ rest w x.
+    let y : rows ∷ rest ≡ rss = ok-inj x in
+    rw (← y) (next g rows rest p u w)
+
+pub regions-none : (b : List ℕ) (t : Trailer) (region : ℕ) (rss : List (List Keyed)) → regionsRows 0 b t region ≡ ok rss → rss ≡ []
+unfolding regionsRows
+regions-none b t region rss e = sym (ok-inj e)
+
+pub regions-cons : (left : ℕ) (b : List ℕ) (t : Trailer) (region : ℕ) (g : Region) (rows : List Keyed) (rest : List (List Keyed)) → regionOf b t region ≡ ok g
+    → regionRows (t .size) (dataOf b t) g (g .start) [] ≡ ok rows → regionsRows left b t (suc region) ≡ ok rest → regionsRows (suc left) b t region ≡ ok (rows ∷ rest)
+unfolding regionsRows
+regions-cons left b t region g rows rest p u w = rw (p, u, w)

@@ -1,0 +1,47 @@
+-- A block's rows, region by region, each read from its restart to the region's end. The order of keys is not asked: it stands beside, as `NeverFall`.
+use Prim.Native.Nat.{ℕ, zero, suc}
+use mathlib.Core.Path.{_≡_}
+use mathlib.Core.Bool.{Bool, true, false, cond}
+use mathlib.Core.List.{List, [], _∷_, _++_}
+use lib.Dec.{ltb, eqb}
+use lib.ListN.{length}
+use Rattle.layout.specs.Answer.{Res, ok, refuse, bind}
+use Rattle.layout.specs.Key.{Key, mayFollow}
+use Rattle.layout.specs.RowRead.{RowRead, readRow, keyOf}
+use Rattle.layout.specs.Trailer.{Trailer, trailerOf, dataOf, Region, regionOf, allOffsets}
+use Rattle.layout.specs.Cursor.{Keyed, keyed}
+
+-- the rows of a region from `at` on, after the key before; as many steps as there are bytes are enough
+unfoldable pub regionRows : ℕ → List ℕ → Region → ℕ → Key → Res (List Keyed)
+regionRows zero d g at before = ok []
+regionRows (suc left) d g at before =
+    cond (ltb at (g .end))
+    (bind (readRow d at (g .end) (length before) (eqb at (g .start))) λ r.
+    bind (regionRows left d g (r .next) (keyOf d before r)) λ more.
+    ok (keyed r (keyOf d before r) ∷ more))
+    (ok [])
+
+-- the rows of as many regions, from `region` on
+unfoldable pub regionsRows : ℕ → List ℕ → Trailer → ℕ → Res (List (List Keyed))
+regionsRows zero b t region = ok []
+regionsRows (suc left) b t region =
+    bind (regionOf b t region) λ g.
+    bind (regionRows (t .size) (dataOf b t) g (g .start) []) λ rows.
+    bind (regionsRows left b t (suc region)) λ more.
+    ok (rows ∷ more)
+
+-- trailer and offsets are good, and all regions' rows are read
+pub record Reads (b : List ℕ) (t : Trailer) (regions : List (List Keyed)) : Type 0 where
+  pub trailer-good : trailerOf b ≡ ok t
+  pub offsets-good : allOffsets b t ≡ ok tt
+  pub rows-read : regionsRows (t .count) b t 0 ≡ ok regions
+
+-- the block's rows, in order
+unfoldable pub allRows : List (List Keyed) → List Keyed
+allRows [] = []
+allRows (rows ∷ more) = rows ++ allRows more
+
+-- each row may follow the one before
+abbrev pub NeverFall : Key → List Keyed → Type 0
+NeverFall before [] = Unit {0}
+NeverFall before (k ∷ ks) = (mayFollow before (k .key) ≡ true) × NeverFall (k .key) ks
