@@ -21,3 +21,5 @@ pub mod Cursor
 pub mod Seek
 pub mod Reads
 pub mod Ascend
+pub mod Descend
+pub mod Accept
