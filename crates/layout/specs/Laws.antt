@@ -23,3 +23,6 @@ pub mod Reads
 pub mod Ascend
 pub mod Descend
 pub mod Accept
+pub mod Sorted
+pub mod Split
+pub mod LandsUp

@@ -1,0 +1,111 @@
+-- Rows whose keys never fall, and how many of them, from the first on, pass a test: the rows before one that is below a target are below it, and so on.
+use Prim.Native.Nat.{ℕ, zero, suc, _+_, _-_, _<_, _≤_, zero-le, suc-le-suc}
+use mathlib.Core.Path.{_≡_, refl, ap, sym, _∙_}
+use mathlib.Core.Bool.{Bool, true, false, cond, not}
+use mathlib.Core.List.{List, [], _∷_, _++_, map}
+use mathlib.Core.Logic.{_⊎_, ⊎-elim}
+use native.Mathlib.Omega.{arith}
+use native.Mathlib.Nat.{le-of-suc-le-suc, not-suc-le-zero, suc-add, zero-add}
+use lib.ListN.{length, take, drop, length-append}
+use borrow.Author.Tests.{not-true}
+use Rattle.layout.specs.Key.{Key, below, mayFollow, leading, isBelow, notAbove}
+use Rattle.layout.specs.Cursor.{Keyed}
+use Rattle.layout.specs.Reads.{NeverFall}
+use Rattle.layout.specs.Laws.Answer.{bool-cases, clash}
+use Rattle.layout.specs.Laws.Key.{AtMost, at-most-refl, at-most-trans, below-false, le-below, below-le, below-trans}
+
+abbrev pub keysOf : List Keyed → List Key
+keysOf ks = map (λ (k : Keyed). k .key) ks
+
+-- ---- rows that all pass a test
+
+abbrev pub AllPass : (Key → Bool) → List Keyed → Type 0
+AllPass p [] = Unit {0}
+AllPass p (k ∷ ks) = (p (k .key) ≡ true) × AllPass p ks
+
+pub pass-append : (p : Key → Bool) (xs ys : List Keyed) → AllPass p xs → AllPass p ys → AllPass p (xs ++ ys)
+pass-append p [] ys a b = b
+pass-append p (x ∷ xs) ys a b = (a .0, pass-append p xs ys (a .1) b)
+
+module _ (p : Key → Bool) where
+  -- leading rows that pass are counted whole
+  pub leading-all : (xs ys : List Keyed) → AllPass p xs → leading p (keysOf (xs ++ ys)) ≡ length xs + leading p (keysOf ys)
+  unfolding leading
+  leading-all [] ys a = sym (zero-add (leading p (keysOf ys)))
+  leading-all (x ∷ xs) ys a = rw (a .0, leading-all xs ys (a .1)) (sym (suc-add (length xs) (leading p (keysOf ys))))
+
+  -- a row that fails ends the count
+  pub leading-ends : (xs : List Keyed) (k : Keyed) (ys : List Keyed) → AllPass p xs → p (k .key) ≡ false → leading p (keysOf (xs ++ (k ∷ ys))) ≡ length xs
+  unfolding leading
+  leading-ends [] k ys a e = rw e
+  leading-ends (x ∷ xs) k ys a e = rw (a .0) (ap suc (leading-ends xs k ys (a .1) e))
+
+  pub leading-most : (ks : List Keyed) → leading p (keysOf ks) ≤ length ks
+  unfolding leading
+  leading-most [] = zero-le
+  leading-most (k ∷ ks) = ⊎-elim (λ e. rw e (suc-le-suc (leading-most ks))) (λ e. rw e zero-le) (bool-cases (p (k .key)))
+
+  pub leading-step : (k : Keyed) (ks : List Keyed) → p (k .key) ≡ true → leading p (keysOf (k ∷ ks)) ≡ suc (leading p (keysOf ks))
+  unfolding leading
+  leading-step k ks e = rw e
+
+  pub leading-stop : (k : Keyed) (ks : List Keyed) → p (k .key) ≡ false → leading p (keysOf (k ∷ ks)) ≡ 0
+  unfolding leading
+  leading-stop k ks e = rw e
+
+  -- the count does not see past a row that fails within
+  pub leading-within : (xs ys : List Keyed) → leading p (keysOf xs) < length xs → leading p (keysOf (xs ++ ys)) ≡ leading p (keysOf xs)
+  unfolding leading
+  leading-within [] ys h = absurd (not-suc-le-zero h)
+  leading-within (x ∷ xs) ys h =
+      ⊎-elim (λ e. rw e (ap suc (leading-within xs ys (le-of-suc-le-suc (rw e at h))))) (λ e. rw e) (bool-cases (p (x .key)))
+
+  -- all pass where the count is the length
+  pub leading-whole : (ks : List Keyed) → leading p (keysOf ks) ≡ length ks → AllPass p ks
+  unfolding leading
+  leading-whole [] e = tt
+  leading-whole (k ∷ ks) e =
+      ⊎-elim
+      (λ t. (t, leading-whole ks (omega (arith, rw t at e))))
+      (λ t. absurd (omega (arith, rw t at e)))
+      (bool-cases (p (k .key)))
+
+-- ---- keys that never fall
+
+may-at-most : (a b : Key) → mayFollow a b ≡ true → AtMost a b
+unfolding mayFollow
+may-at-most a b e = below-false b a (not-true (below b a) e)
+
+-- what stands before is at most what stands after
+pub rises : (a : Key) (xs : List Keyed) (k : Keyed) (ys : List Keyed) → NeverFall a (xs ++ (k ∷ ys)) → AtMost a (k .key)
+rises a [] k ys o = may-at-most a (k .key) (o .0)
+rises a (x ∷ xs) k ys o = at-most-trans a (x .key) (k .key) (may-at-most a (x .key) (o .0)) (rises (x .key) xs k ys (o .1))
+
+pub falls-on : (a : Key) (xs ys : List Keyed) → NeverFall a (xs ++ ys) → (b : Key) × NeverFall b ys
+falls-on a [] ys o = (a, o)
+falls-on a (x ∷ xs) ys o = falls-on (x .key) xs ys (o .1)
+
+pub falls-first : (a : Key) (xs ys : List Keyed) → NeverFall a (xs ++ ys) → NeverFall a xs
+falls-first a [] ys o = tt
+falls-first a (x ∷ xs) ys o = (o .0, falls-first (x .key) xs ys (o .1))
+
+-- the rows before one that is below the target are below it; before one at most it, not above it
+pub all-below : (target a : Key) (xs : List Keyed) (k : Keyed) (ys : List Keyed) → NeverFall a (xs ++ (k ∷ ys)) → below (k .key) target ≡ true → AllPass (isBelow target) xs
+all-below target a [] k ys o e = tt
+all-below target a (x ∷ xs) k ys o e = (below-trans (x .key) (k .key) target (rises (x .key) xs k ys (o .1)) e, all-below target (x .key) xs k ys (o .1) e)
+
+pub none-above : (target a : Key) (xs : List Keyed) (k : Keyed) (ys : List Keyed) → NeverFall a (xs ++ (k ∷ ys)) → AtMost (k .key) target → AllPass (notAbove target) xs
+none-above target a [] k ys o e = tt
+none-above target a (x ∷ xs) k ys o e =
+    (ap not (le-below target (x .key) (at-most-trans (x .key) (k .key) target (rises (x .key) xs k ys (o .1)) e)), none-above target (x .key) xs k ys (o .1) e)
+
+-- once a row is above the target, so are those after it
+pub above-on : (target a : Key) (ks : List Keyed) → NeverFall a ks → below target a ≡ true → leading (notAbove target) (keysOf ks) ≡ 0
+unfolding leading
+above-on target a [] o e = refl
+above-on target a (k ∷ ks) o e =
+    let b : below target (k .key) ≡ true =
+    ⊎-elim (λ t. t)
+    (λ t. absurd (clash e (le-below target a (at-most-trans a (k .key) target (may-at-most a (k .key) (o .0)) (below-false target (k .key) t)))))
+    (bool-cases (below target (k .key))) in
+    rw b
