@@ -26,3 +26,4 @@ pub mod Accept
 pub mod Sorted
 pub mod Split
 pub mod LandsUp
+pub mod LandsDown

@@ -21,7 +21,7 @@ use Rattle.layout.specs.Reads.{regionRows, regionsRows, Reads, allRows, 
 use Rattle.layout.specs.Laws.Answer.{bind-then, guard-then, cond-ok, ok-inj, ltb-cases, bool-cases}
 use Rattle.layout.specs.Laws.Trailer.{RegionTells, regionOf-tells, trailerOf-tells, OffsetsTell, allOffsets-tell, region-good}
 use Rattle.layout.specs.Laws.Tells.{RowEnds, readRow-ends}
-use Rattle.layout.specs.Laws.Reads.{region-at, region-cons, region-over, region-more, RegionsAre, next as next-region, regions-are, regions-none, regions-cons}
+use Rattle.layout.specs.Laws.Reads.{region-at, region-cons, region-over, region-more, RegionsAre, next as next-region, regions-are, regions-none, regions-cons, allRows-none, allRows-next}
 
 -- at a restart the key before is not used: neither its length nor its bytes
 restart-read : (d : List ℕ) (at end m n : ℕ) → readRow d at end m true ≡ readRow d at end n true
@@ -95,14 +95,6 @@ pub record Covers (b : List ℕ) (t : Trailer) (g : Region) (at region : ℕ) (b
   pub rows-then : regionsRows (t .count - suc region) b t (suc region) ≡ ok rest
   pub in-order : NeverFall before (here ++ allRows rest)
   pub many : total ≡ rows + length (here ++ allRows rest)
-
-all-none : allRows [] ≡ []
-unfolding allRows
-all-none = refl
-
-all-next : (here : List Keyed) (rest : List (List Keyed)) → allRows (here ∷ rest) ≡ here ++ allRows rest
-unfolding allRows
-all-next here rest = refl
 
 module _ (b : List ℕ) (t : Trailer) (offs : OffsetsTell b t) where
   -- the row r, then what follows it
@@ -200,8 +192,8 @@ module _ (b : List ℕ) (t : Trailer) (offs : OffsetsTell b t) where
             rest = c .here ∷ c .rest;
             rows-here = first-here g at region before carried r (keyOf (dataOf b t) carried r) [] s u refl (region-over (t .size) (dataOf b t) g (r .next) (keyOf (dataOf b t) carried r) (omega arith));
             rows-then = one-more region f (c .here) (c .rest) (s′ .inside) (s′ .used) rows-next (c .rows-then);
-            in-order = (m, rw (all-next (c .here) (c .rest)) (c .in-order));
-            many = rw (all-next (c .here) (c .rest)) (omega (arith, c .many));
+            in-order = (m, rw (allRows-next (c .here) (c .rest)) (c .in-order));
+            many = rw (allRows-next (c .here) (c .rest)) (omega (arith, c .many));
           }
       go r u m region′ e (end at-end over last) ih =
           let one : ok (rows + 1) ≡ ok total = sym (over-from left (r .next) (region + 1) (rows + 1) (keyOf (dataOf b t) carried r) over) ∙ e in
@@ -210,8 +202,8 @@ module _ (b : List ℕ) (t : Trailer) (offs : OffsetsTell b t) where
             rest = [];
             rows-here = first-here g at region before carried r (keyOf (dataOf b t) carried r) [] s u refl (region-over (t .size) (dataOf b t) g (r .next) (keyOf (dataOf b t) carried r) (omega arith));
             rows-then = no-more region last;
-            in-order = rw all-none (m, tt);
-            many = rw all-none (sym (ok-inj one));
+            in-order = rw allRows-none (m, tt);
+            many = rw allRows-none (sym (ok-inj one));
           }
 
   -- and back: rows that are read, in order, are accepted
@@ -265,15 +257,15 @@ module _ (b : List ℕ) (t : Trailer) (offs : OffsetsTell b t) where
               made rest o (next-region e here more′ u p w) =
                   let same : e ≡ f = ok-inj (sym u ∙ ap (regionOf b t) (sym (add-one region)) ∙ s′ .used) in
                   let p′ : regionRows (t .size) (dataOf b t) f (r .next) [] ≡ ok here = rw (start, ← same) p in
-                  let o′ : NeverFall (keyOf (dataOf b t) carried r) (here ++ allRows more′) = rw (none, all-next here more′) at o in
+                  let o′ : NeverFall (keyOf (dataOf b t) carried r) (here ++ allRows more′) = rw (none, allRows-next here more′) at o in
                   let m : n ≡ t .count - suc (region + 1) = omega arith in
                   let w′ : regionsRows (t .count - suc (region + 1)) b t (suc (region + 1)) ≡ ok more′ = rw (← m, add-one region) w in
                   ih f (r .next) (region + 1) (rows + 1) (keyOf (dataOf b t) carried r) [] here more′ s′ (omega arith) p′ w′ o′
-                  ∙ rw (none, all-next here more′) (ap ok (omega arith))
+                  ∙ rw (none, allRows-next here more′) (ap ok (omega arith))
       go r ks on more o region′ (end at-end over last) ih =
           let none : ks ≡ [] = ok-inj (sym more ∙ region-over (t .size) (dataOf b t) g (r .next) (keyOf (dataOf b t) carried r) (omega arith)) in
           let no-rest : rest ≡ [] = ok-inj (sym q ∙ no-more region last) in
-          over-from left (r .next) (region + 1) (rows + 1) (keyOf (dataOf b t) carried r) over ∙ rw (none, no-rest, all-none) (ap ok (omega arith))
+          over-from left (r .next) (region + 1) (rows + 1) (keyOf (dataOf b t) carried r) over ∙ rw (none, no-rest, allRows-none) (ap ok (omega arith))
 
 -- ---- the check, exactly
 
@@ -316,8 +308,8 @@ check-accepts b n e =
                 offsets-good = q;
                 rows-read = ap (λ (k : ℕ). regionsRows k b t 0) m ∙ regions-cons (t .count - 1) b t 0 g (c .here) (c .rest) used first (c .rows-then);
               };
-          in-order = rw (all-next (c .here) (c .rest)) (c .in-order);
-          many = rw (all-next (c .here) (c .rest)) (c .many ∙ zero-add (length (c .here ++ allRows (c .rest))));
+          in-order = rw (allRows-next (c .here) (c .rest)) (c .in-order);
+          many = rw (allRows-next (c .here) (c .rest)) (c .many ∙ zero-add (length (c .here ++ allRows (c .rest))));
         }
 
 pub accepts-check : (b : List ℕ) (n : ℕ) → Accepts b n → check b ≡ ok n
@@ -340,5 +332,5 @@ accepts-check b n a =
             let p′ : regionRows (a .t .size) (dataOf b (a .t)) g 0 [] ≡ ok here =
             ap (λ (k : ℕ). regionRows (a .t .size) (dataOf b (a .t)) g k []) (sym z) ∙ ap (λ (x : Region). regionRows (a .t .size) (dataOf b (a .t)) x (x .start) []) (sym same) ∙ p in
             let k : m ≡ a .t .count - 1 = omega arith in
-            covers-accepted b (a .t) offs (a .t .size) g 0 0 0 [] [] here rest s (omega arith) p′ (rw (← k) w) (rw (all-next here rest) at o)
-            ∙ ap ok (zero-add (length (here ++ allRows rest)) ∙ sym (l ∙ ap length (all-next here rest)))
+            covers-accepted b (a .t) offs (a .t .size) g 0 0 0 [] [] here rest s (omega arith) p′ (rw (← k) w) (rw (allRows-next here rest) at o)
+            ∙ ap ok (zero-add (length (here ++ allRows rest)) ∙ sym (l ∙ ap length (allRows-next here rest)))

@@ -22,7 +22,7 @@ use Rattle.layout.specs.Laws.Trailer.{RegionTells, regionOf-tells, trail
 use Rattle.layout.specs.Laws.Tells.{RowEnds, readRow-ends}
 use Rattle.layout.specs.Laws.Carry.{keyOf-length}
 use Rattle.layout.specs.Laws.Cursor.{next-up, next-marked, up-done, up-found, up-short}
-use Rattle.layout.specs.Laws.Reads.{region-at, region-over, region-more, RegionsAre, next as next-region, regions-are, regions-none}
+use Rattle.layout.specs.Laws.Reads.{region-at, region-over, region-more, RegionsAre, next as next-region, regions-are, regions-none, allRows-none, allRows-next}
 
 -- a cursor that stands in a region before the rows `here` of it, after which the regions `rest` come
 pub record InRegion (b : List ℕ) (t : Trailer) (c : Cursor) (here : List Keyed) (rest : List (List Keyed)) : Type 0 where
@@ -84,7 +84,7 @@ enter b t region at rest e h o p = go (t .count - suc region) (omega arith) p
                     rows-here = rw (← s) q;
                     rows-then = rw (← m) w;
                   };
-              are = unfold allRows in refl;
+              are = allRows-next rows more;
             }
 
 module _ (b : List ℕ) (t : Trailer) (c : Cursor) (room : ℕ) where
@@ -198,7 +198,7 @@ module _ (b : List ℕ) (t : Trailer) (c : Cursor) (room : ℕ) where
 
           nothing : q .rest ≡ [] → ⊥
           nothing z =
-              let e : k ∷ rows ≡ [] = q .are ∙ rw (none, z) (unfold allRows in refl) in
+              let e : k ∷ rows ≡ [] = q .are ∙ rw (none, z) allRows-none in
               let y : _≡_ {A = ℕ} 0 1 = cc in omega arith
 
       first : (r : RowRead) (qs : List Keyed) → k ∷ rows ≡ keyed r (keyOf (dataOf b t) (c .key) r) ∷ (qs ++ allRows (q .rest))
@@ -263,5 +263,5 @@ opened-before b t rss q = go (t .count) refl (trailerOf-tells b t (q .trailer-go
                     rows-here = rw (← s) f;
                     rows-then = rw (← m) w;
                   };
-              are = unfold allRows in refl;
+              are = allRows-next rows more;
             }

@@ -22,7 +22,7 @@ use Rattle.layout.specs.Laws.Answer.{ltb-cases, eqb-cases}
 use Rattle.layout.specs.Laws.Trailer.{RegionTells, regionOf-tells, trailerOf-tells, OffsetsTell, allOffsets-tell}
 use Rattle.layout.specs.Laws.Tells.{RowEnds, readRow-ends}
 use Rattle.layout.specs.Laws.Cursor.{next-down, down-done, down-before-in, down-in, back-found, back-short, Ended, ended}
-use Rattle.layout.specs.Laws.Reads.{region-at, endsAt, endsAt-snoc, RegionsAre, next as next-region, regions-are, regions-none}
+use Rattle.layout.specs.Laws.Reads.{region-at, endsAt, endsAt-snoc, RegionsAre, next as next-region, regions-are, regions-none, allRows-none, allRows-next}
 
 -- ---- the step back finds the row that ends at its place
 
@@ -268,7 +268,7 @@ module _ (b : List ℕ) (t : Trailer) (c : Cursor) (room : ℕ) where
 
       before : (n : ℕ) (fs : List (List Keyed)) → n ≡ c .region → fs ≡ a .fs → a .ps ≡ [] → Front b t n fs → GivesBack k rows
       before n fs z f e none =
-          absurd (not-end rows k (sym (a .are ∙ rw (e, ← f) (unfold allRows in refl))))
+          absurd (not-end rows k (sym (a .are ∙ rw (e, ← f, allRows-none))))
       before n fs z f e (then m gs h ks fr u p) = inside ks p (from-end ks) (a .are ∙ rw (e, ← f) (append-nil (allRows (gs ++ (ks ∷ []))) ∙ allRows-end gs ks))
         where
           inside : (ks : List Keyed) → regionRows (t .size) (dataOf b t) h (h .start) [] ≡ ok ks → FromEnd ks → rows ++ (k ∷ []) ≡ allRows gs ++ ks → GivesBack k rows

@@ -27,7 +27,7 @@ use Rattle.layout.specs.Laws.Tells.{RowEnds, readRow-ends, keyPart, read
 use Rattle.layout.specs.Laws.Carry.{keyOf-length}
 use Rattle.layout.specs.Laws.Split.{Split, split-at, Searched, searched}
 use Rattle.layout.specs.Laws.Seek.{restart-is, below-is, up-from, seek-is}
-use Rattle.layout.specs.Laws.Reads.{region-at, region-over, RegionsAre, next as next-region, regions-are, regions-none, regions-cons}
+use Rattle.layout.specs.Laws.Reads.{region-at, region-over, RegionsAre, next as next-region, regions-are, regions-none, regions-cons, allRows-none, allRows-next}
 use Rattle.layout.specs.Laws.Ascend.{InRegion, Before}
 use Rattle.layout.specs.Laws.Descend.{Front, none, then, front-more, allRows-end, region-some}
 use Rattle.layout.specs.Laws.Sorted.{keysOf, AllPass, leading-all, leading-most, leading-step, leading-stop, leading-within, leading-whole, all-below}
@@ -158,7 +158,7 @@ pub walk-lands : (left : ℕ) (b : List ℕ) (t : Trailer) (target : Key) (regio
     → regionsRows left b t region ≡ ok rest → LandsUp b t target (allRows rest) (walkUp left b t target region)
 walk-lands zero b t target region rest e n p =
     let z : rest ≡ [] = regions-none b t region rest p in
-    let a : allRows rest ≡ [] = rw z (unfold allRows in refl) in
+    let a : allRows rest ≡ [] = rw z allRows-none in
     rw (up-none b t target region, a) (passes (unfold leading in refl))
 walk-lands (suc left) b t target region rest e n p = go rest (regions-are left b t region rest p) (walk-lands left b t target (suc region))
   where
@@ -171,9 +171,6 @@ walk-lands (suc left) b t target region rest e n p = go rest (regions-are left b
         let st = walk-stops (t .size) (dataOf b t) g target (g .start) [] ks (t .size) (omega (arith, tells .inside)) (omega (arith, tells .rises)) zero-le (omega (arith, tells .inside)) q in
         ⊎-elim (λ c. inside st (c .1)) (λ c. past st (c .1)) (ltb-cases (st .s .at) (g .end))
       where
-        all : allRows (ks ∷ more) ≡ ks ++ allRows more
-        all = unfold allRows in refl
-
         n₁ : leading (isBelow target) (keysOf ks) ≤ length ks
         n₁ = leading-most (isBelow target) ks
 
@@ -184,7 +181,7 @@ walk-lands (suc left) b t target region rest e n p = go rest (regions-are left b
             let i : leading (isBelow target) (keysOf ks) < length ks = some st h in
             let within : leading (isBelow target) (keysOf (ks ++ allRows more)) ≡ leading (isBelow target) (keysOf ks) = leading-within (isBelow target) ks (allRows more) i in
             let m : t .count - suc region ≡ left = omega arith in
-            rw (up-here left b t target region g (st .s) u (st .stops) h, all)
+            rw (up-here left b t target region g (st .s) u (st .stops) h, allRows-next ks more)
             (lands (cursorIs ascending region (st .s .at) (st .s .before) false) (rw (within, length-append ks (allRows more)) (omega arith))
             (record {
               here = drop (leading (isBelow target) (keysOf ks)) ks;
@@ -226,7 +223,7 @@ walk-lands (suc left) b t target region rest e n p = go rest (regions-are left b
         past st h =
             let none : drop (leading (isBelow target) (keysOf ks)) ks ≡ [] = ok-inj (sym (st .rows-left) ∙ region-over (st .left) (dataOf b t) g (st .s .at) (st .s .before) h) in
             let whole : leading (isBelow target) (keysOf ks) ≡ length ks = omega (arith, ap length none, length-drop (leading (isBelow target) (keysOf ks)) ks, n₁) in
-            rw (up-on left b t target region g (st .s) u (st .stops) h, all) (skip b t target ks (allRows more) (walkUp left b t target (suc region)) (leading-whole (isBelow target) ks whole) (ih more e (omega arith) w))
+            rw (up-on left b t target region g (st .s) u (st .stops) h, allRows-next ks more) (skip b t target ks (allRows more) (walkUp left b t target (suc region)) (leading-whole (isBelow target) ks whole) (ih more e (omega arith) w))
 
 -- ---- the seek
 
@@ -253,9 +250,6 @@ seeks-up b t rss target q o =
       landing = rw (c .1) at l;
     }
   where
-    all : (ks : List Keyed) (more : List (List Keyed)) → allRows (ks ∷ more) ≡ ks ++ allRows more
-    all ks more = unfold allRows in refl
-
     -- from the region before the one where the search closed
     walked : (place first : ℕ) → first ≡ place - 1 → place ≤ t .count → ((i : ℕ) → suc i ≡ place → 0 ≤ i → restartBelow b t target i ≡ ok true)
         → LandsUp b t target (allRows rss) (walkUp (t .count - first) b t target first)
@@ -272,4 +266,4 @@ seeks-up b t rss target q o =
         let first-rows : AllPass (isBelow target) (allRows (w .fs)) = all-below target [] (allRows (w .fs)) (w .k) (w .ks ++ allRows (w .rest)) (rw (w .are) at o) under in
         let here : LandsUp b t target (allRows ((w .k ∷ w .ks) ∷ w .rest)) (walkUp (t .count - p) b t target p) =
         walk-lands (t .count - p) b t target p ((w .k ∷ w .ks) ∷ w .rest) (q .trailer-good) (omega arith) rest in
-        rw (y, w .are) (skip b t target (allRows (w .fs)) ((w .k ∷ w .ks) ++ allRows (w .rest)) (walkUp (t .count - p) b t target p) first-rows (rw (all (w .k ∷ w .ks) (w .rest)) at here))
+        rw (y, w .are) (skip b t target (allRows (w .fs)) ((w .k ∷ w .ks) ++ allRows (w .rest)) (walkUp (t .count - p) b t target p) first-rows (rw (allRows-next (w .k ∷ w .ks) (w .rest)) at here))

@@ -121,3 +121,13 @@ pub regions-cons : (left : ℕ) (b : List ℕ) (t : Trailer) (region : ℕ) (g :
     → regionRows (t .size) (dataOf b t) g (g .start) [] ≡ ok rows → regionsRows left b t (suc region) ≡ ok rest → regionsRows (suc left) b t region ≡ ok (rows ∷ rest)
 unfolding regionsRows
 regions-cons left b t region g rows rest p u w = rw (p, u, w)
+
+-- ---- all rows
+
+pub allRows-none : allRows [] ≡ []
+unfolding allRows
+allRows-none = refl
+
+pub allRows-next : (rows : List Keyed) (rest : List (List Keyed)) → allRows (rows ∷ rest) ≡ rows ++ allRows rest
+unfolding allRows
+allRows-next rows rest = refl

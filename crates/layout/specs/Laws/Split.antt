@@ -20,7 +20,7 @@ use Rattle.layout.specs.Laws.Trailer.{regionOf-tells}
 use Rattle.layout.specs.Laws.Tells.{keyPart, readKey-of-readRow}
 use Rattle.layout.specs.Laws.Search.{Closed, search-closed, search-answers}
 use Rattle.layout.specs.Laws.Seek.{restart-is, below-is}
-use Rattle.layout.specs.Laws.Reads.{region-at, RegionsAre, next as next-region, regions-are}
+use Rattle.layout.specs.Laws.Reads.{region-at, RegionsAre, next as next-region, regions-are, allRows-next}
 use Rattle.layout.specs.Laws.Descend.{Front, none, then, allRows-end, region-some}
 
 pub record Split (b : List ℕ) (t : Trailer) (rows : List Keyed) (i : ℕ) : Type 0 where
@@ -71,7 +71,7 @@ split-from zero b t left region fs rss f n p = go rss (regions-are left b t regi
               used = u;
               rows-here = q;
               rows-then = rw m w;
-              are = ap (λ (x : List Keyed). allRows fs ++ x) (unfold allRows in refl);
+              are = ap (λ (x : List Keyed). allRows fs ++ x) (allRows-next (k ∷ ks) more);
               key-is = first-key b t region g k ks u q;
             }
 split-from (suc i) b t left region fs rss f n p =
@@ -87,11 +87,8 @@ split-from (suc i) b t left region fs rss f n p =
     go rss (next-region g rows more u q w) ih =
         let s : Split b t (allRows (fs ++ (rows ∷ [])) ++ allRows more) (suc region + i) = ih (fs ++ (rows ∷ [])) more (then region fs g rows f u q) (omega arith) w in
         let same : allRows (fs ++ (rows ∷ [])) ++ allRows more ≡ allRows fs ++ allRows (rows ∷ more) =
-        ap (λ (x : List Keyed). x ++ allRows more) (allRows-end fs rows) ∙ append-assoc (allRows fs) rows (allRows more) ∙ ap (λ (x : List Keyed). allRows fs ++ x) (next-all rows more) in
+        ap (λ (x : List Keyed). x ++ allRows more) (allRows-end fs rows) ∙ append-assoc (allRows fs) rows (allRows more) ∙ ap (λ (x : List Keyed). allRows fs ++ x) (sym (allRows-next rows more)) in
         rw (← place, ← same) s
-      where
-        next-all : (rows : List Keyed) (more : List (List Keyed)) → rows ++ allRows more ≡ allRows (rows ∷ more)
-        next-all rows more = unfold allRows in refl
 
 pub split-at : (b : List ℕ) (t : Trailer) (rss : List (List Keyed)) → Reads b t rss → (i : ℕ) → i < t .count → Split b t (allRows rss) i
 unfolding allRows

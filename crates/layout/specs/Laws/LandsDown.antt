@@ -1,0 +1,249 @@
+-- A descending seek on a block whose rows are read, and never fall: it stands after the last row at or below the target, or says "done" when there is none.
+-- It starts in a region whose restart is at or below the target, while the restart after it is above; so that region holds the row.
+use Prim.Native.Nat.{ℕ, zero, suc, _+_, _-_, _<_, _≤_, zero-le}
+use mathlib.Core.Path.{_≡_, refl, ap, sym, _∙_}
+use mathlib.Core.Bool.{Bool, true, false, cond, not}
+use mathlib.Core.List.{List, [], _∷_, _++_, append-assoc, append-nil, map}
+use mathlib.Core.Logic.{_⊎_, ⊎-elim, inl, inr}
+use native.Mathlib.Omega.{arith}
+use native.Mathlib.Nat.{zero-add, add-zero}
+use native.Mathlib.Numerals.{add-one}
+use lib.Dec.{ltb, eqb}
+use lib.ListN.{length, take, drop, length-append, length-take, take-append-drop}
+use lib.Seq.{take-add, take-at, drop-at, take-append-le, take-nil}
+use borrow.Author.Tests.{lt-ltb, le-ltb, not-false}
+use Rattle.layout.specs.Answer.{Res, ok, refuse, bind}
+use Rattle.layout.specs.Limits.{maxKey}
+use Rattle.layout.specs.Key.{Key, below, same, leading, notAbove}
+use Rattle.layout.specs.RowRead.{RowRead, readRow, keyOf}
+use Rattle.layout.specs.Trailer.{Trailer, trailerOf, dataOf, Region, regionOf}
+use Rattle.layout.specs.Cursor.{descending, Cursor, cursorIs, Keyed, keyed}
+use Rattle.layout.specs.Seek.{Found, restartKey, restartBelow, lastEqual, startDown, lastAtOrBelow, doneDown, walkDown, seekDown, Sought, soughtIs, seek}
+use Rattle.layout.specs.Reads.{regionRows, regionsRows, Reads, allRows, NeverFall}
+use Rattle.layout.specs.Laws.Answer.{bool-cases, ltb-cases, ok-inj, clash}
+use Rattle.layout.specs.Laws.Key.{AtMost, at-most-refl, at-most-trans, below-false, le-below, below-le, same-is}
+use Rattle.layout.specs.Laws.Trailer.{RegionTells, regionOf-tells, trailerOf-tells}
+use Rattle.layout.specs.Laws.Tells.{RowEnds, readRow-ends}
+use Rattle.layout.specs.Laws.Search.{Closed}
+use Rattle.layout.specs.Laws.Seek.{below-is, start-past, start-earlier, start-run, down-from, seek-is, falling-start, falling-found, falling-done}
+use Rattle.layout.specs.Laws.Reads.{region-at, region-over, endsAt, RegionsAre, next as next-region, regions-are, regions-none, allRows-none, allRows-next}
+use Rattle.layout.specs.Laws.Descend.{Front, none, then, After, region-some, reaches-end}
+use Rattle.layout.specs.Laws.Split.{Split, split-at, Searched, searched}
+use Rattle.layout.specs.Laws.Sorted.{keysOf, AllPass, leading-all, leading-most, leading-step, leading-stop, leading-within, leading-whole, rises, none-above, above-on, falls-on, falls-first}
+
+-- ---- the read of a whole region
+
+last-over : (fuel : ℕ) (d : List ℕ) (g : Region) (target : Key) (at : ℕ) (before : Key) (best : ℕ) → g .end ≤ at → lastAtOrBelow fuel d g target at before best ≡ ok best
+unfolding lastAtOrBelow
+last-over zero d g target at before best h = refl
+last-over (suc fuel) d g target at before best h = rw (le-ltb at (g .end) h)
+
+last-on : (fuel : ℕ) (d : List ℕ) (g : Region) (target : Key) (at : ℕ) (before : Key) (best : ℕ) (r : RowRead) → at < g .end → readRow d at (g .end) (length before) (eqb at (g .start)) ≡ ok r
+    → lastAtOrBelow (suc fuel) d g target at before best ≡ lastAtOrBelow fuel d g target (r .next) (keyOf d before r) (cond (below target (keyOf d before r)) best (r .next))
+unfolding lastAtOrBelow
+last-on fuel d g target at before best r h p = rw (lt-ltb at (g .end) h, p)
+
+-- where the last row at or below the target ends: of keys that never fall these rows come first
+pub last-ends : (fuel : ℕ) (d : List ℕ) (g : Region) (target : Key) (at : ℕ) (before : Key) (best : ℕ) (a : Key) (ks : List Keyed) (left : ℕ) → g .end ≤ at + fuel → g .end ≤ at + left
+    → regionRows left d g at before ≡ ok ks → NeverFall a ks → lastAtOrBelow fuel d g target at before best ≡ ok (endsAt best (take (leading (notAbove target) (keysOf ks)) ks))
+last-ends zero d g target at before best a ks left h n p o =
+    let none : ks ≡ [] = ok-inj (sym p ∙ region-over left d g at before (omega arith)) in
+    last-over zero d g target at before best (omega arith) ∙ rw none (ap ok (nothing best (leading (notAbove target) [])))
+  where
+    nothing : (best n : ℕ) → best ≡ endsAt best (take n [])
+    nothing best n = rw (take-nil {A = Keyed} n) (unfold endsAt in refl)
+last-ends (suc fuel) d g target at before best a ks left h n p o =
+    region-at left d g at before ks p n
+    (λ over is. last-over (suc fuel) d g target at before best over ∙ rw is (ap ok (nothing best (leading (notAbove target) []))))
+    (λ r qs m lt u more enough is.
+    let w = readRow-ends d at (g .end) (length before) (eqb at (g .start)) r u in
+    let o′ : NeverFall a (keyed r (keyOf d before r) ∷ qs) = rw is at o in
+    last-on fuel d g target at before best r lt u
+    ∙ rw is (go r qs (below target (keyOf d before r)) refl (o′ .1) (λ best. last-ends fuel d g target (r .next) (keyOf d before r) best (keyOf d before r) qs m (omega (arith, w .least)) enough more (o′ .1))))
+  where
+    nothing : (best n : ℕ) → best ≡ endsAt best (take n [])
+    nothing best n = rw (take-nil {A = Keyed} n) (unfold endsAt in refl)
+
+    go : (r : RowRead) (qs : List Keyed) (t : Bool) → below target (keyOf d before r) ≡ t → NeverFall (keyOf d before r) qs
+        → ((best : ℕ) → lastAtOrBelow fuel d g target (r .next) (keyOf d before r) best ≡ ok (endsAt best (take (leading (notAbove target) (keysOf qs)) qs)))
+        → lastAtOrBelow fuel d g target (r .next) (keyOf d before r) (cond (below target (keyOf d before r)) best (r .next))
+        ≡ ok (endsAt best (take (leading (notAbove target) (keysOf (keyed r (keyOf d before r) ∷ qs))) (keyed r (keyOf d before r) ∷ qs)))
+    go r qs true e o ih =
+        let z : leading (notAbove target) (keysOf qs) ≡ 0 = above-on target (keyOf d before r) qs o e in
+        rw (e, leading-stop (notAbove target) (keyed r (keyOf d before r)) qs (ap not e)) (ih best ∙ rw z)
+    go r qs false e o ih =
+        rw (e, leading-step (notAbove target) (keyed r (keyOf d before r)) qs (ap not e)) (ih (r .next) ∙ (unfold endsAt in refl))
+
+-- ---- the landing
+
+pub data LandsDown (b : List ℕ) (t : Trailer) (target : Key) (rows : List Keyed) : Res Cursor → Type 0 where
+  lands : (c : Cursor) → 0 < leading (notAbove target) (keysOf rows) → After b t c (take (leading (notAbove target) (keysOf rows)) rows) → LandsDown b t target rows (ok c)
+  passes : leading (notAbove target) (keysOf rows) ≡ 0 → LandsDown b t target rows (ok doneDown)
+
+-- what the region that the seek starts in must be: its restart at or below the target, or region 0; and what follows it above
+pub record Starts (b : List ℕ) (t : Trailer) (target : Key) (rows : List Keyed) (region : ℕ) : Type 0 where
+  pub inside : region < t .count
+  pub split : Split b t rows region
+  pub low : AtMost (split .k .key) target ⊎ ((region ≡ 0) × (below target (split .k .key) ≡ true))
+  pub next-above : leading (notAbove target) (keysOf (allRows (split .rest))) ≡ 0
+
+-- rows end later than the place that they are read from
+ends-later : (left : ℕ) (d : List ℕ) (g : Region) (at : ℕ) (before : Key) (ks : List Keyed) (n : ℕ) → regionRows left d g at before ≡ ok ks → g .end ≤ at + left → 0 < length ks
+    → at < endsAt at (take (suc n) ks)
+ends-later left d g at before [] n p h s = absurd (omega arith)
+ends-later left d g at before (k ∷ ks) n p h s =
+    region-at left d g at before (k ∷ ks) p h
+    (λ over is. absurd (let z : _≡_ {A = ℕ} 0 1 = cc in omega arith))
+    (λ r qs m lt u more enough is.
+    let w = readRow-ends d at (g .end) (length before) (eqb at (g .start)) r u in
+    let first : keyed r (keyOf d before r) ≡ k = cc in
+    let tail : qs ≡ ks = cc in
+    let same : r .next ≡ k .row .next = ap (λ (x : Keyed). x .row .next) first in
+    let more′ : regionRows m d g (r .next) (keyOf d before r) ≡ ok ks = more ∙ ap ok tail in
+    go k ks n (omega (arith, w .least, same)) (λ i l. rw same at (ends-later m d g (r .next) (keyOf d before r) ks i more′ enough l)))
+  where
+    go : (k : Keyed) (ks : List Keyed) (n : ℕ) → at < k .row .next → ((i : ℕ) → 0 < length ks → k .row .next < endsAt (k .row .next) (take (suc i) ks)) → at < endsAt at (take (suc n) (k ∷ ks))
+    go k ks zero here ih = unfold endsAt in here
+    go k [] (suc n) here ih = unfold endsAt in here
+    go k (x ∷ xs) (suc n) here ih = after (ih n (omega arith))
+      where
+        after : k .row .next < endsAt (k .row .next) (take (suc n) (x ∷ xs)) → at < endsAt at (take (suc (suc n)) (k ∷ (x ∷ xs)))
+        after l = unfold endsAt in omega (arith, l)
+
+-- ---- from the region that the seek starts in
+
+-- a list cut behind a first part
+take-part : (fs ks rs : List Keyed) (j : ℕ) → j ≤ length ks → take (length fs + j) (fs ++ (ks ++ rs)) ≡ fs ++ take j ks
+take-part fs ks rs j h =
+    take-add (length fs) j (fs ++ (ks ++ rs))
+    ∙ rw (take-at fs (ks ++ rs) (length fs) refl, drop-at fs (ks ++ rs) (length fs) refl, take-append-le j ks rs h)
+
+-- how many rows are not above: those before the region, and those of it that are not
+count-through : (target : Key) (fs ks rs : List Keyed) → AllPass (notAbove target) fs → leading (notAbove target) (keysOf rs) ≡ 0
+    → leading (notAbove target) (keysOf (fs ++ (ks ++ rs))) ≡ length fs + leading (notAbove target) (keysOf ks)
+count-through target fs ks rs a z =
+    leading-all (notAbove target) fs (ks ++ rs) a
+    ∙ ap (λ (n : ℕ). length fs + n)
+    (⊎-elim
+    (λ c. leading-within (notAbove target) ks rs (c .1))
+    (λ c.
+    let whole : leading (notAbove target) (keysOf ks) ≡ length ks = omega (arith, c .1, leading-most (notAbove target) ks) in
+    leading-all (notAbove target) ks rs (leading-whole (notAbove target) ks whole) ∙ omega (arith, z, whole))
+    (ltb-cases (leading (notAbove target) (keysOf ks)) (length ks)))
+
+front-none : (b : List ℕ) (t : Trailer) (n : ℕ) (fs : List (List Keyed)) → n ≡ 0 → Front b t n fs → allRows fs ≡ []
+front-none b t n fs z none = allRows-none
+front-none b t n fs z (then m gs g ks f u p) = absurd (omega arith)
+
+pub starts-lands : (b : List ℕ) (t : Trailer) (target : Key) (rows : List Keyed) (region : ℕ) → trailerOf b ≡ ok t → NeverFall [] rows → Starts b t target rows region
+    → LandsDown b t target rows (walkDown (suc region) b t target region)
+starts-lands b t target rows region e o st = ⊎-elim here above (st .low)
+  where
+    s : Split b t rows region
+    s = st .split
+
+    K : List Keyed
+    K = s .k ∷ s .ks
+
+    tells : RegionTells b t region (s .g)
+    tells = regionOf-tells b t region (s .g) (s .used)
+
+    o₁ : NeverFall [] (allRows (s .fs) ++ (K ++ allRows (s .rest)))
+    o₁ = rw (s .are) at o
+
+    j : ℕ
+    j = leading (notAbove target) (keysOf K)
+
+    best : lastAtOrBelow (t .size) (dataOf b t) (s .g) target (s .g .start) [] (s .g .start) ≡ ok (endsAt (s .g .start) (take j K))
+    best =
+        let q = falls-on [] (allRows (s .fs)) (K ++ allRows (s .rest)) o₁ in
+        last-ends (t .size) (dataOf b t) (s .g) target (s .g .start) [] (s .g .start) (q .0) K (t .size) (omega (arith, tells .inside)) (omega (arith, tells .inside)) (s .rows-here)
+        (falls-first (q .0) K (allRows (s .rest)) (q .1))
+
+    -- the restart is at or below: the region holds the row
+    here : AtMost (s .k .key) target → LandsDown b t target rows (walkDown (suc region) b t target region)
+    here l =
+        let passes-k : notAbove target (s .k .key) ≡ true = ap not (le-below target (s .k .key) l) in
+        let j-is : j ≡ suc (leading (notAbove target) (keysOf (s .ks))) = leading-step (notAbove target) (s .k) (s .ks) passes-k in
+        let before : AllPass (notAbove target) (allRows (s .fs)) = none-above target [] (allRows (s .fs)) (s .k) (s .ks ++ allRows (s .rest)) o₁ l in
+        let n : leading (notAbove target) (keysOf rows) ≡ length (allRows (s .fs)) + j =
+            ap (λ (x : List Keyed). leading (notAbove target) (keysOf x)) (s .are) ∙ (count-through target (allRows (s .fs)) K (allRows (s .rest)) before (st .next-above)) in
+        let later : s .g .start < endsAt (s .g .start) (take j K) =
+            rw j-is (ends-later (t .size) (dataOf b t) (s .g) (s .g .start) [] K (leading (notAbove target) (keysOf (s .ks))) (s .rows-here) (omega (arith, tells .inside)) (omega arith)) in
+        let most : j ≤ length K = leading-most (notAbove target) K in
+        let c : Cursor = cursorIs descending region (endsAt (s .g .start) (take j K)) [] false in
+        rw (← falling-found b t target region region (falling-start b t target region) (s .g) (s .used) (endsAt (s .g .start) (take j K)) best later)
+        (lands c (omega arith)
+        (record {
+          g = s .g;
+          fs = s .fs;
+          ps = take j K;
+          qs = drop j K;
+          goes-down = refl;
+          unmarked = refl;
+          trailer-good = e;
+          inside = st .inside;
+          fits = zero-le;
+          used = s .used;
+          front = s .front;
+          rows-here = s .rows-here ∙ ap ok (sym (take-append-drop j K));
+          stands = refl;
+          are = ap (λ (m : ℕ). take m rows) n ∙ ap (take (length (allRows (s .fs)) + j)) (s .are) ∙ take-part (allRows (s .fs)) K (allRows (s .rest)) j most;
+        }))
+
+    -- the first row of all is above: none is left
+    above : (region ≡ 0) × (below target (s .k .key) ≡ true) → LandsDown b t target rows (walkDown (suc region) b t target region)
+    above z =
+        let j-is : j ≡ 0 = leading-stop (notAbove target) (s .k) (s .ks) (ap not (z .1)) in
+        let none-best : endsAt (s .g .start) (take j K) ≡ s .g .start = rw j-is (unfold endsAt in refl) in
+        let first : allRows (s .fs) ≡ [] = front-none b t region (s .fs) (z .0) (s .front) in
+        let n : leading (notAbove target) (keysOf rows) ≡ 0 =
+            ap (λ (x : List Keyed). leading (notAbove target) (keysOf x)) (s .are) ∙ rw first (leading-stop (notAbove target) (s .k) (s .ks ++ allRows (s .rest)) (ap not (z .1))) in
+        rw (← falling-done b t target region region (falling-start b t target region) (s .g) (s .used) (endsAt (s .g .start) (take j K)) best (omega (arith, none-best)) (z .0)) (passes n)
+
+-- ---- where the seek starts
+
+equal-on : (left : ℕ) (b : List ℕ) (t : Trailer) (target : Key) (i : ℕ) (k : Key) → i + 1 < t .count → restartKey b t (i + 1) ≡ ok k → same k target ≡ true
+    → lastEqual (suc left) b t target i ≡ lastEqual left b t target (i + 1)
+unfolding lastEqual
+equal-on left b t target i k h e q = rw (lt-ltb (i + 1) (t .count) h, e, q)
+
+equal-ends : (left : ℕ) (b : List ℕ) (t : Trailer) (target : Key) (i : ℕ) (k : Key) → i + 1 < t .count → restartKey b t (i + 1) ≡ ok k → same k target ≡ false → lastEqual (suc left) b t target i ≡ ok i
+unfolding lastEqual
+equal-ends left b t target i k h e q = rw (lt-ltb (i + 1) (t .count) h, e, q)
+
+equal-over : (left : ℕ) (b : List ℕ) (t : Trailer) (target : Key) (i : ℕ) → t .count ≤ i + 1 → lastEqual left b t target i ≡ ok i
+unfolding lastEqual
+equal-over zero b t target i h = refl
+equal-over (suc left) b t target i h = rw (le-ltb (i + 1) (t .count) h)
+
+module _ (b : List ℕ) (t : Trailer) (rss : List (List Keyed)) (target : Key) (q : Reads b t rss) (o : NeverFall [] (allRows rss)) where
+  -- the last region has none after it
+  none-after : (i : ℕ) → t .count ≤ i + 1 → (s : Split b t (allRows rss) i) → leading (notAbove target) (keysOf (allRows (s .rest))) ≡ 0
+  none-after i h s = go (t .count - suc i) (omega arith) (s .rows-then)
+    where
+      go : (n : ℕ) → n ≡ 0 → regionsRows n b t (suc i) ≡ ok (s .rest) → leading (notAbove target) (keysOf (allRows (s .rest))) ≡ 0
+      go zero z p = rw (regions-none b t (suc i) (s .rest) p, allRows-none) (unfold leading in refl)
+      go (suc n) z p = absurd (omega arith)
+
+  -- the rows after a region begin with the next restart's: one above the target ends the count
+  above-next : (i : ℕ) (s : Split b t (allRows rss) i) (h : i + 1 < t .count) → below target (split-at b t rss q (i + 1) h .k .key) ≡ true → leading (notAbove target) (keysOf (allRows (s .rest))) ≡ 0
+  above-next i s h e = go (t .count - suc i) refl (s .rows-then)
+    where
+      n : Split b t (allRows rss) (i + 1)
+      n = split-at b t rss q (i + 1) h
+
+      go : (m : ℕ) → t .count - suc i ≡ m → regionsRows m b t (suc i) ≡ ok (s .rest) → leading (notAbove target) (keysOf (allRows (s .rest))) ≡ 0
+      go zero z p = absurd (omega arith)
+      go (suc m) z p = made (s .rest) (regions-are m b t (suc i) (s .rest) p)
+        where
+          made : (rest : List (List Keyed)) → RegionsAre m b t (suc i) rest → leading (notAbove target) (keysOf (allRows rest)) ≡ 0
+          made rest (next-region g rows more u p w) =
+              let same-g : g ≡ n .g = ok-inj (sym u ∙ ap (regionOf b t) (sym (add-one i)) ∙ n .used) in
+              let is : rows ≡ n .k ∷ n .ks = ok-inj (sym p ∙ ap (λ (x : Region). regionRows (t .size) (dataOf b t) x (x .start) []) same-g ∙ n .rows-here) in
+              first rows is
+            where
+              first : (rows : List Keyed) → rows ≡ n .k ∷ n .ks → leading (notAbove target) (keysOf (allRows (rows ∷ more))) ≡ 0
+              first rows is =
+                  let a : allRows (rows ∷ more) ≡ n .k ∷ (n .ks ++ allRows more) = allRows-next rows more ∙ ap (λ (x : List Keyed). x ++ allRows more) is in
+                  ap (λ (x : List Keyed). leading (notAbove target) (keysOf x)) a ∙ leading-stop (notAbove target) (n .k) (n .ks ++ allRows more) (ap not e)
