@@ -80,12 +80,11 @@ pub data LandsDown (b : List ℕ) (t : Trailer) (target : Key) (rows : List Keye
   lands : (c : Cursor) → 0 < leading (notAbove target) (keysOf rows) → After b t c (take (leading (notAbove target) (keysOf rows)) rows) → LandsDown b t target rows (ok c)
   passes : leading (notAbove target) (keysOf rows) ≡ 0 → LandsDown b t target rows (ok doneDown)
 
--- what the region that the seek starts in must be: its restart at or below the target, or region 0; and what follows it above
+-- what the region that the seek starts in must be: its restart at or below the target and what follows the region above it, or the first of all above it
 pub record Starts (b : List ℕ) (t : Trailer) (target : Key) (rows : List Keyed) (region : ℕ) : Type 0 where
   pub inside : region < t .count
   pub split : Split b t rows region
-  pub low : AtMost (split .k .key) target ⊎ ((region ≡ 0) × (below target (split .k .key) ≡ true))
-  pub next-above : leading (notAbove target) (keysOf (allRows (split .rest))) ≡ 0
+  pub fit : (AtMost (split .k .key) target × (leading (notAbove target) (keysOf (allRows (split .rest))) ≡ 0)) ⊎ ((region ≡ 0) × (below target (split .k .key) ≡ true))
 
 -- rows end later than the place that they are read from
 ends-later : (left : ℕ) (d : List ℕ) (g : Region) (at : ℕ) (before : Key) (ks : List Keyed) (n : ℕ) → regionRows left d g at before ≡ ok ks → g .end ≤ at + left → 0 < length ks
@@ -137,7 +136,7 @@ front-none b t n fs z (then m gs g ks f u p) = absurd (omega arith)
 
 pub starts-lands : (b : List ℕ) (t : Trailer) (target : Key) (rows : List Keyed) (region : ℕ) → trailerOf b ≡ ok t → NeverFall [] rows → Starts b t target rows region
     → LandsDown b t target rows (walkDown (suc region) b t target region)
-starts-lands b t target rows region e o st = ⊎-elim here above (st .low)
+starts-lands b t target rows region e o st = ⊎-elim (λ f. here (f .0) (f .1)) above (st .fit)
   where
     s : Split b t rows region
     s = st .split
@@ -161,15 +160,15 @@ starts-lands b t target rows region e o st = ⊎-elim here above (st .low)
         (falls-first (q .0) K (allRows (s .rest)) (q .1))
 
     -- the restart is at or below: the region holds the row
-    here : AtMost (s .k .key) target → LandsDown b t target rows (walkDown (suc region) b t target region)
-    here l =
+    here : AtMost (s .k .key) target → leading (notAbove target) (keysOf (allRows (s .rest))) ≡ 0 → LandsDown b t target rows (walkDown (suc region) b t target region)
+    here l next-above =
         let passes-k : notAbove target (s .k .key) ≡ true = ap not (le-below target (s .k .key) l) in
         let j-is : j ≡ suc (leading (notAbove target) (keysOf (s .ks))) = leading-step (notAbove target) (s .k) (s .ks) passes-k in
         let before : AllPass (notAbove target) (allRows (s .fs)) = none-above target [] (allRows (s .fs)) (s .k) (s .ks ++ allRows (s .rest)) o₁ l in
         let n : leading (notAbove target) (keysOf rows) ≡ length (allRows (s .fs)) + j =
-            ap (λ (x : List Keyed). leading (notAbove target) (keysOf x)) (s .are) ∙ (count-through target (allRows (s .fs)) K (allRows (s .rest)) before (st .next-above)) in
+        ap (λ (x : List Keyed). leading (notAbove target) (keysOf x)) (s .are) ∙ (count-through target (allRows (s .fs)) K (allRows (s .rest)) before next-above) in
         let later : s .g .start < endsAt (s .g .start) (take j K) =
-            rw j-is (ends-later (t .size) (dataOf b t) (s .g) (s .g .start) [] K (leading (notAbove target) (keysOf (s .ks))) (s .rows-here) (omega (arith, tells .inside)) (omega arith)) in
+        rw j-is (ends-later (t .size) (dataOf b t) (s .g) (s .g .start) [] K (leading (notAbove target) (keysOf (s .ks))) (s .rows-here) (omega (arith, tells .inside)) (omega arith)) in
         let most : j ≤ length K = leading-most (notAbove target) K in
         let c : Cursor = cursorIs descending region (endsAt (s .g .start) (take j K)) [] false in
         rw (← falling-found b t target region region (falling-start b t target region) (s .g) (s .used) (endsAt (s .g .start) (take j K)) best later)
@@ -198,7 +197,7 @@ starts-lands b t target rows region e o st = ⊎-elim here above (st .low)
         let none-best : endsAt (s .g .start) (take j K) ≡ s .g .start = rw j-is (unfold endsAt in refl) in
         let first : allRows (s .fs) ≡ [] = front-none b t region (s .fs) (z .0) (s .front) in
         let n : leading (notAbove target) (keysOf rows) ≡ 0 =
-            ap (λ (x : List Keyed). leading (notAbove target) (keysOf x)) (s .are) ∙ rw first (leading-stop (notAbove target) (s .k) (s .ks ++ allRows (s .rest)) (ap not (z .1))) in
+        ap (λ (x : List Keyed). leading (notAbove target) (keysOf x)) (s .are) ∙ rw first (leading-stop (notAbove target) (s .k) (s .ks ++ allRows (s .rest)) (ap not (z .1))) in
         rw (← falling-done b t target region region (falling-start b t target region) (s .g) (s .used) (endsAt (s .g .start) (take j K)) best (omega (arith, none-best)) (z .0)) (passes n)
 
 -- ---- where the seek starts
@@ -217,6 +216,20 @@ unfolding lastEqual
 equal-over zero b t target i h = refl
 equal-over (suc left) b t target i h = rw (le-ltb (i + 1) (t .count) h)
 
+-- a key at or above the target that is another one is above it
+differs-above : (target k : Key) → AtMost target k → same k target ≡ false → below target k ≡ true
+differs-above target k l u = go (below target k) refl
+  where
+    under : below k target ≡ false
+    under = le-below k target l
+
+    go : (x : Bool) → below target k ≡ x → below target k ≡ true
+    go true e = e
+    go false e = absurd (clash refl (rw (under, e) at (equal-here u)))
+      where
+        equal-here : same k target ≡ false → cond (below k target) false (not (below target k)) ≡ false
+        equal-here u = u
+
 module _ (b : List ℕ) (t : Trailer) (rss : List (List Keyed)) (target : Key) (q : Reads b t rss) (o : NeverFall [] (allRows rss)) where
   -- the last region has none after it
   none-after : (i : ℕ) → t .count ≤ i + 1 → (s : Split b t (allRows rss) i) → leading (notAbove target) (keysOf (allRows (s .rest))) ≡ 0
@@ -226,24 +239,130 @@ module _ (b : List ℕ) (t : Trailer) (rss : List (List Keyed)) (target : Key) (
       go zero z p = rw (regions-none b t (suc i) (s .rest) p, allRows-none) (unfold leading in refl)
       go (suc n) z p = absurd (omega arith)
 
-  -- the rows after a region begin with the next restart's: one above the target ends the count
-  above-next : (i : ℕ) (s : Split b t (allRows rss) i) (h : i + 1 < t .count) → below target (split-at b t rss q (i + 1) h .k .key) ≡ true → leading (notAbove target) (keysOf (allRows (s .rest))) ≡ 0
-  above-next i s h e = go (t .count - suc i) refl (s .rows-then)
+  -- the rows after a region begin with the next restart's
+  next-begins : (i : ℕ) (s : Split b t (allRows rss) i) (h : i + 1 < t .count) → (more : List Keyed) × (allRows (s .rest) ≡ split-at b t rss q (i + 1) h .k ∷ more)
+  next-begins i s h = go (t .count - suc i) refl (s .rows-then)
     where
       n : Split b t (allRows rss) (i + 1)
       n = split-at b t rss q (i + 1) h
 
-      go : (m : ℕ) → t .count - suc i ≡ m → regionsRows m b t (suc i) ≡ ok (s .rest) → leading (notAbove target) (keysOf (allRows (s .rest))) ≡ 0
+      go : (m : ℕ) → t .count - suc i ≡ m → regionsRows m b t (suc i) ≡ ok (s .rest) → (more : List Keyed) × (allRows (s .rest) ≡ n .k ∷ more)
       go zero z p = absurd (omega arith)
       go (suc m) z p = made (s .rest) (regions-are m b t (suc i) (s .rest) p)
         where
-          made : (rest : List (List Keyed)) → RegionsAre m b t (suc i) rest → leading (notAbove target) (keysOf (allRows rest)) ≡ 0
+          made : (rest : List (List Keyed)) → RegionsAre m b t (suc i) rest → (more : List Keyed) × (allRows rest ≡ n .k ∷ more)
           made rest (next-region g rows more u p w) =
               let same-g : g ≡ n .g = ok-inj (sym u ∙ ap (regionOf b t) (sym (add-one i)) ∙ n .used) in
               let is : rows ≡ n .k ∷ n .ks = ok-inj (sym p ∙ ap (λ (x : Region). regionRows (t .size) (dataOf b t) x (x .start) []) same-g ∙ n .rows-here) in
-              first rows is
-            where
-              first : (rows : List Keyed) → rows ≡ n .k ∷ n .ks → leading (notAbove target) (keysOf (allRows (rows ∷ more))) ≡ 0
-              first rows is =
-                  let a : allRows (rows ∷ more) ≡ n .k ∷ (n .ks ++ allRows more) = allRows-next rows more ∙ ap (λ (x : List Keyed). x ++ allRows more) is in
-                  ap (λ (x : List Keyed). leading (notAbove target) (keysOf x)) a ∙ leading-stop (notAbove target) (n .k) (n .ks ++ allRows more) (ap not e)
+              (n .ks ++ allRows more, allRows-next rows more ∙ ap (λ (x : List Keyed). x ++ allRows more) is)
+
+  -- one above the target ends the count
+  above-next : (i : ℕ) (s : Split b t (allRows rss) i) (h : i + 1 < t .count) → below target (split-at b t rss q (i + 1) h .k .key) ≡ true → leading (notAbove target) (keysOf (allRows (s .rest))) ≡ 0
+  above-next i s h e =
+      let n = next-begins i s h in
+      ap (λ (x : List Keyed). leading (notAbove target) (keysOf x)) (n .1) ∙ leading-stop (notAbove target) (split-at b t rss q (i + 1) h .k) (n .0) (ap not e)
+
+  -- two restarts in order
+  restarts-rise : (i : ℕ) (h : i + 1 < t .count) (s : Split b t (allRows rss) i) → AtMost (s .k .key) (split-at b t rss q (i + 1) h .k .key)
+  restarts-rise i h s =
+      let n = next-begins i s h in
+      let a = falls-on [] (allRows (s .fs)) ((s .k ∷ s .ks) ++ allRows (s .rest)) (rw (s .are) at o) in
+      let u : NeverFall (s .k .key) (s .ks ++ allRows (s .rest)) = a .1 .1 in
+      rises (s .k .key) (s .ks) (split-at b t rss q (i + 1) h .k) (n .0) (rw (n .1) at u)
+
+  -- the last of the run of restarts equal to the target
+  run-starts : (left i : ℕ) → t .count ≤ i + left → (h : i < t .count) → same (split-at b t rss q i h .k .key) target ≡ true
+      → (region : ℕ) × (lastEqual left b t target i ≡ ok region) × Starts b t target (allRows rss) region
+  run-starts zero i n h e = absurd (omega arith)
+  run-starts (suc left) i n h e =
+      ⊎-elim
+      (λ c.
+      let next = split-at b t rss q (i + 1) (c .1) in
+      ⊎-elim
+      (λ u.
+      let r = run-starts left (i + 1) (omega arith) (c .1) u in
+      (r .0, equal-on left b t target i (next .k .key) (c .1) (next .key-is) u ∙ r .1, r .2))
+      (λ u. (i, equal-ends left b t target i (next .k .key) (c .1) (next .key-is) u, starts (above-next i s (c .1) (over (next .k .key) u (restarts-rise i (c .1) s)))))
+      (bool-cases (same (next .k .key) target)))
+      (λ c. (i, equal-over (suc left) b t target i (c .1), starts (none-after i (c .1) s)))
+      (ltb-cases (i + 1) (t .count))
+    where
+      s : Split b t (allRows rss) i
+      s = split-at b t rss q i h
+
+      is : s .k .key ≡ target
+      is = same-is (s .k .key) target e
+
+      starts : leading (notAbove target) (keysOf (allRows (s .rest))) ≡ 0 → Starts b t target (allRows rss) i
+      starts z = record { inside = h; split = s; fit = inl (rw is (at-most-refl target), z) }
+
+      over : (k : Key) → same k target ≡ false → AtMost (s .k .key) k → below target k ≡ true
+      over k u l = differs-above target k (rw is at l) u
+
+  -- a restart that the search found below the target
+  below-starts : (p : ℕ) (h : p < t .count) → restartBelow b t target p ≡ ok true → leading (notAbove target) (keysOf (allRows (split-at b t rss q p h .rest))) ≡ 0 → Starts b t target (allRows rss) p
+  below-starts p h e z =
+      let s = split-at b t rss q p h in
+      let under : below (s .k .key) target ≡ true = ok-inj (sym (below-is b t p target (s .k .key) (s .key-is)) ∙ e) in
+      record { inside = h; split = s; fit = inl (below-le (s .k .key) target under, z) }
+
+  -- the restart where the search closed, when it is another than the target
+  other-starts : (place : ℕ) (h : place < t .count) → ((i : ℕ) → suc i ≡ place → 0 ≤ i → restartBelow b t target i ≡ ok true) → below target (split-at b t rss q place h .k .key) ≡ true
+      → Starts b t target (allRows rss) (place - 1)
+  other-starts zero h f e = record { inside = h; split = split-at b t rss q 0 h; fit = inr (refl, e) }
+  other-starts (suc p) h f e =
+      let n : suc p - 1 ≡ p = omega arith in
+      let low : p < t .count = omega arith in
+      let next : p + 1 < t .count = omega arith in
+      let key : split-at b t rss q (p + 1) next .k .key ≡ split-at b t rss q (suc p) h .k .key =
+      ok-inj (sym (split-at b t rss q (p + 1) next .key-is) ∙ ap (restartKey b t) (add-one p) ∙ split-at b t rss q (suc p) h .key-is) in
+      rw n (below-starts p low (f p refl zero-le) (above-next p (split-at b t rss q p low) next (rw key e)))
+
+  past-starts : (place : ℕ) → place ≡ t .count → ((i : ℕ) → suc i ≡ place → 0 ≤ i → restartBelow b t target i ≡ ok true) → Starts b t target (allRows rss) (place - 1)
+  past-starts zero z f = absurd (omega (arith, trailerOf-tells b t (q .trailer-good) .1))
+  past-starts (suc p) z f =
+      let n : suc p - 1 ≡ p = omega arith in
+      let low : p < t .count = omega arith in
+      rw n (below-starts p low (f p refl zero-le) (none-after p (omega arith) (split-at b t rss q p low)))
+
+  pub down-starts : (f : Found) → Closed (restartBelow b t target) 0 (t .count) f → (region : ℕ) × (startDown b t target (f .place) ≡ ok region) × Starts b t target (allRows rss) region
+  down-starts f c =
+      ⊎-elim
+      (λ h.
+      let s = split-at b t rss q (f .place) (h .1) in
+      let over : below (s .k .key) target ≡ false = ok-inj (sym (below-is b t (f .place) target (s .k .key) (s .key-is)) ∙ c .here (h .1)) in
+      ⊎-elim
+      (λ e.
+      let r = run-starts (t .count) (f .place) (omega arith) (h .1) e in
+      (r .0, sym (start-run b t target (f .place) (h .1) (s .k .key) (s .key-is) e (sym (r .1))), r .2))
+      (λ e. (
+        f .place - 1,
+        sym (start-earlier b t target (f .place) (h .1) (s .k .key) (s .key-is) e),
+        other-starts (f .place) (h .1) (c .before) (differs-above target (s .k .key) (below-false (s .k .key) target over) e),
+      ))
+      (bool-cases (same (s .k .key) target)))
+      (λ h. (f .place - 1, sym (start-past b t target (f .place) (h .1)), past-starts (f .place) (omega (arith, h .1, c .to)) (c .before)))
+      (ltb-cases (f .place) (t .count))
+
+pub record SeeksDown (b : List ℕ) (t : Trailer) (target : Key) (rows : List Keyed) : Type 0 where
+  pub c : Cursor
+  pub reads : ℕ
+  pub is : seek descending b target ≡ ok (soughtIs c reads)
+  pub landing : LandsDown b t target rows (ok c)
+
+landed : (b : List ℕ) (t : Trailer) (target : Key) (rows : List Keyed) (x : Res Cursor) → LandsDown b t target rows x → (c : Cursor) × (x ≡ ok c)
+landed b t target rows x (lands c h q) = (c, refl)
+landed b t target rows x (passes q) = (doneDown, refl)
+
+pub seeks-down : (b : List ℕ) (t : Trailer) (rss : List (List Keyed)) (target : Key) → Reads b t rss → NeverFall [] (allRows rss) → SeeksDown b t target (allRows rss)
+seeks-down b t rss target q o =
+    let s = searched b t rss target q in
+    let d = down-starts b t rss target q o (s .f) (s .closed) in
+    let l = starts-lands b t target (allRows rss) (d .0) (q .trailer-good) o (d .2) in
+    let c = landed b t target (allRows rss) (walkDown (suc (d .0)) b t target (d .0)) l in
+    record {
+      c = c .0;
+      reads = s .f .reads;
+      is = seek-is descending b target t (q .trailer-good) (s .f) (s .is) (c .0) (sym (down-from b t target (s .f .place) (d .0) (d .1) (sym (c .1))));
+      landing = rw (c .1) at l;
+    }
