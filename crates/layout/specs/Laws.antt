@@ -27,3 +27,4 @@ pub mod Sorted
 pub mod Split
 pub mod LandsUp
 pub mod LandsDown
+pub mod Laid

@@ -62,9 +62,9 @@ pub data Next (b : List ℕ) (t : Trailer) (g : Region) (at region : ℕ) (key :
   enter : (h : Region) → at ≡ g .end → at ≡ h .start → Stands b t h at (region + 1) key [] → Next b t g at region key (region + 1)
   end : at ≡ g .end → t .size ≤ at → t .count ≤ region + 1 → Next b t g at region key (region + 1)
 
-past : (b : List ℕ) (t : Trailer) (offs : OffsetsTell b t) (g : Region) (at region : ℕ) (before carried : Key) (r : RowRead) (key : Key) → Stands b t g at region before carried
+pub past-row : (b : List ℕ) (t : Trailer) (offs : OffsetsTell b t) (g : Region) (at region : ℕ) (before carried : Key) (r : RowRead) (key : Key) → Stands b t g at region before carried
     → readRow (dataOf b t) at (g .end) (length carried) (eqb at (g .start)) ≡ ok r → Next b t g (r .next) region key (cond (ltb (r .next) (g .end)) region (region + 1))
-past b t offs g at region before carried r key s e =
+past-row b t offs g at region before carried r key s e =
     let w = readRow-ends (dataOf b t) at (g .end) (length carried) (eqb at (g .start)) r e in
     let tells = regionOf-tells b t region g (s .used) in
     ⊎-elim
@@ -98,7 +98,7 @@ pub record Covers (b : List ℕ) (t : Trailer) (g : Region) (at region : ℕ) (b
 
 module _ (b : List ℕ) (t : Trailer) (offs : OffsetsTell b t) where
   -- the row r, then what follows it
-  first-here : (g : Region) (at region : ℕ) (before carried : Key) (r : RowRead) (key : Key) (ks : List Keyed) → Stands b t g at region before carried
+  pub first-here : (g : Region) (at region : ℕ) (before carried : Key) (r : RowRead) (key : Key) (ks : List Keyed) → Stands b t g at region before carried
       → readRow (dataOf b t) at (g .end) (length carried) (eqb at (g .start)) ≡ ok r → keyOf (dataOf b t) carried r ≡ key → regionRows (t .size) (dataOf b t) g (r .next) key ≡ ok ks
       → regionRows (t .size) (dataOf b t) g at carried ≡ ok (keyed r key ∷ ks)
   first-here g at region before carried r key ks s e k p =
@@ -108,14 +108,14 @@ module _ (b : List ℕ) (t : Trailer) (offs : OffsetsTell b t) where
       ∙ region-cons (t .size) (dataOf b t) g at carried r ks (s .high) e (ap (regionRows (t .size) (dataOf b t) g (r .next)) k ∙ p)
       ∙ ap (λ (x : Key). ok (keyed r x ∷ ks)) k
 
-  no-more : (region : ℕ) → t .count ≤ region + 1 → regionsRows (t .count - suc region) b t (suc region) ≡ ok []
+  pub no-more : (region : ℕ) → t .count ≤ region + 1 → regionsRows (t .count - suc region) b t (suc region) ≡ ok []
   no-more region h = go (t .count - suc region) (omega arith)
     where
       go : (n : ℕ) → n ≡ 0 → regionsRows n b t (suc region) ≡ ok []
       go zero z = unfold regionsRows in refl
       go (suc n) z = absurd (omega arith)
 
-  one-more : (region : ℕ) (h : Region) (here : List Keyed) (rest : List (List Keyed)) → region + 1 < t .count → regionOf b t (region + 1) ≡ ok h
+  pub one-more : (region : ℕ) (h : Region) (here : List Keyed) (rest : List (List Keyed)) → region + 1 < t .count → regionOf b t (region + 1) ≡ ok h
       → regionRows (t .size) (dataOf b t) h (h .start) [] ≡ ok here → regionsRows (t .count - suc (region + 1)) b t (suc (region + 1)) ≡ ok rest
       → regionsRows (t .count - suc region) b t (suc region) ≡ ok (here ∷ rest)
   one-more region h here rest f u p q =
@@ -159,7 +159,7 @@ module _ (b : List ℕ) (t : Trailer) (offs : OffsetsTell b t) where
   accepted-covers (suc left) g at region rows before carried total s h e =
       bind-then (checkRow b t (passedIs at region before rows)) _ total (sym (step-from left at region rows before (omega (arith, s .high, size))) ∙ e) λ q p e₁.
       checked-row g at region rows before carried q s p λ r u m is.
-      go r u m (cond (ltb (r .next) (g .end)) region (region + 1)) (ap (checkFrom left b t) is ∙ e₁) (past b t offs g at region before carried r (keyOf (dataOf b t) carried r) s u)
+      go r u m (cond (ltb (r .next) (g .end)) region (region + 1)) (ap (checkFrom left b t) is ∙ e₁) (past-row b t offs g at region before carried r (keyOf (dataOf b t) carried r) s u)
       (accepted-covers left)
     where
       size : g .end ≤ t .size
@@ -228,7 +228,7 @@ module _ (b : List ℕ) (t : Trailer) (offs : OffsetsTell b t) where
       let o′ : NeverFall before (keyed r (keyOf (dataOf b t) carried r) ∷ (ks ++ allRows rest)) = rw is at o in
       step-from left at region rows before (omega (arith, s .high, size))
       ∙ rw (passes-row g at region rows before carried r s u (o′ .0), is)
-      (go r ks (w .least) more′ (o′ .1) (cond (ltb (r .next) (g .end)) region (region + 1)) (past b t offs g at region before carried r (keyOf (dataOf b t) carried r) s u) (covers-accepted left)))
+      (go r ks (w .least) more′ (o′ .1) (cond (ltb (r .next) (g .end)) region (region + 1)) (past-row b t offs g at region before carried r (keyOf (dataOf b t) carried r) s u) (covers-accepted left)))
     where
       size : g .end ≤ t .size
       size = regionOf-tells b t region g (s .used) .inside

@@ -220,6 +220,17 @@ allOffsets-tell b t u e =
     let w = rising-tells (t .count) b t 0 0 u e₁ in
     record { first = omega arith; below-size = λ i h. w .0 i (omega arith) (omega arith); rises = λ i h. w .1 i (omega arith) (omega arith) }
 
+-- and back
+rising-good : (left : ℕ) (b : List ℕ) (t : Trailer) (r low : ℕ) → OffsetsTell b t → r + left ≡ t .count → (r < t .count → low ≤ offsetAt b t r) → risingFrom left b t r low ≡ ok tt
+rising-good zero b t r low o n h = rising-none b t r low
+rising-good (suc left) b t r low o n h =
+    rising-on b t left r low (h (omega arith)) (o .below-size r (omega arith))
+    ∙ rising-good left b t (r + 1) (offsetAt b t r + 1) o (omega arith) (λ k. omega (arith, o .rises r k))
+
+pub offsets-good : (b : List ℕ) (t : Trailer) → OffsetsTell b t → allOffsets b t ≡ ok tt
+offsets-good b t o =
+    sym (offsets-rest b t (omega (arith, o .first)) (sym (rising-good (t .count) b t 0 0 o (omega arith) (λ h. omega arith))))
+
 -- then each region may be used
 pub region-good : (b : List ℕ) (t : Trailer) → OffsetsTell b t → (r : ℕ) → r < t .count → (g : Region) × (regionOf b t r ≡ ok g)
 region-good b t o r h =
