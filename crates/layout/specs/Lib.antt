@@ -14,4 +14,5 @@ pub mod Cursor
 pub mod Seek
 pub mod Reads
 pub mod Cases
+pub mod Demands
 pub mod Laws

@@ -1,0 +1,101 @@
+-- What the demands speak of: a run of calls on a builder, each given the state and the buffers that the last one gave back; and a run of steps on a cursor.
+use Prim.Native.Nat.{ℕ, zero, suc, _<_, _≤_}
+use mathlib.Core.Path.{_≡_}
+use mathlib.Core.Bool.{Bool, true, false}
+use mathlib.Core.List.{List, [], _∷_, _++_}
+use lib.ListN.{length, take}
+use Rattle.layout.specs.Answer.{Res, ok, refuse}
+use Rattle.layout.specs.Key.{Key}
+use Rattle.layout.specs.Row.{Fields, Row}
+use Rattle.layout.specs.Builder.{Builder, newBuilder, add, stateAfter, dataAfter, placesAfter, build, blockAfter}
+use Rattle.layout.specs.Cursor.{Cursor, Keyed, keyed, found, done, Step, stepIs, next}
+use Rattle.layout.specs.Laws.Made.{Typed}
+
+-- ---- a builder, over its two lent buffers
+
+pub record Held : Type 0 where
+  pub builder : Builder
+  pub bytes : List ℕ
+  pub places : List ℕ
+
+abbrev pub held : Builder → List ℕ → List ℕ → Held
+held b bytes places = record { builder = b; bytes = bytes; places = places }
+
+-- any mix of calls: rows offered, rows asked about, "is it empty", and build, in the middle too
+pub data Call : Type 0 where
+  offer : Row → Call
+  would-fit : Row → Call
+  is-empty : Call
+  finish : Call
+
+abbrev pub addTo : Held → Row → Res Builder
+addTo h r = add (h .builder) (length (h .bytes)) (length (h .places)) (r .key) (r .fields)
+
+abbrev pub buildOf : Held → Res ℕ
+buildOf h = build (h .builder) (length (h .bytes)) (length (h .places))
+
+-- what a call gives back; the fit question and "is it empty" change nothing
+abbrev pub after : Held → Call → Held
+after h (offer r) =
+    held (stateAfter (addTo h r) (h .builder)) (dataAfter (addTo h r) (h .builder) (r .key) (r .fields) (h .bytes)) (placesAfter (addTo h r) (h .builder) (h .places))
+after h (would-fit r) = h
+after h is-empty = h
+after h finish = held (h .builder) (blockAfter (buildOf h) (h .builder) (h .bytes) (h .places)) (h .places)
+
+-- the row that a call added: one that was refused is none
+abbrev pub taken : Res Builder → Row → List Row
+taken (ok b) r = r ∷ []
+taken (refuse n) r = []
+
+abbrev pub accepted : Held → Call → List Row
+accepted h (offer r) = taken (addTo h r) r
+accepted h (would-fit r) = []
+accepted h is-empty = []
+accepted h finish = []
+
+unfoldable pub run : Held → List Call → Held
+run h [] = h
+run h (c ∷ cs) = run (after h c) cs
+
+-- the accepted rows, in order
+unfoldable pub rowsOf : Held → List Call → List Row
+rowsOf h [] = []
+rowsOf h (c ∷ cs) = accepted h c ++ rowsOf (after h c) cs
+
+-- numbers are offered in their types: 64 bits, signed for times
+abbrev pub TypedCall : Call → Type 0
+TypedCall (offer r) = Typed (r .fields)
+TypedCall (would-fit r) = Unit {0}
+TypedCall is-empty = Unit {0}
+TypedCall finish = Unit {0}
+
+abbrev pub TypedCalls : List Call → Type 0
+TypedCalls [] = Unit {0}
+TypedCalls (c ∷ cs) = TypedCall c × TypedCalls cs
+
+-- a fresh builder, whatever its buffers hold and however long they are, after a run of calls
+pub record Ran (size interval : ℕ) (calls : List Call) (rows : List Row) (end : Held) : Type 0 where
+  pub fresh-one : Builder
+  pub bytes : List ℕ
+  pub places : List ℕ
+  pub is-new : newBuilder size interval ≡ ok fresh-one
+  pub typed : TypedCalls calls
+  pub rows-are : rows ≡ rowsOf (held fresh-one bytes places) calls
+  pub ends : end ≡ run (held fresh-one bytes places) calls
+
+-- build answers a length, and the block stands at the start of the data buffer
+pub record Finishes (h : Held) (block : List ℕ) : Type 0 where
+  pub n : ℕ
+  pub answers : buildOf h ≡ ok n
+  pub block-is : take n (blockAfter (ok n) (h .builder) (h .bytes) (h .places)) ≡ block
+
+-- ---- a cursor, handed on from step to step, with a key buffer of `room` bytes
+
+pub data Walks (b : List ℕ) (room : ℕ) : Cursor → List Keyed → Cursor → Type 0 where
+  stands : (c : Cursor) → Walks b room c [] c
+  gives : (c c′ c″ : Cursor) (k : Keyed) (ks : List Keyed) → next c b room ≡ ok (stepIs c′ (found (k .row) (k .key))) → Walks b room c′ ks c″ → Walks b room c (k ∷ ks) c″
+
+-- and then says "done", with only the mark set, and ever after, unchanged
+pub record EndsDone (b : List ℕ) (room : ℕ) (c : Cursor) (marked-one : Cursor) : Type 0 where
+  pub says-done : next c b room ≡ ok (stepIs marked-one done)
+  pub ever-after : next marked-one b room ≡ ok (stepIs marked-one done)

@@ -1,0 +1,91 @@
+-- A run keeps `Made`: whatever calls were made, state and buffers are those of the accepted rows. A walk along cursors that each stand before (or after) the rows to
+-- come gives exactly these rows.
+use Prim.Native.Nat.{ℕ, zero, suc, _+_, _-_, _*_, _<_, _≤_, zero-le}
+use mathlib.Core.Path.{_≡_, refl, ap, sym, _∙_}
+use mathlib.Core.Bool.{Bool, true, false}
+use mathlib.Core.List.{List, [], _∷_, _++_, append-assoc, append-nil}
+use native.Mathlib.Omega.{arith}
+use lib.Dec.{ltb, eqb}
+use lib.ListN.{length, take}
+use borrow.Author.Tests.{ltb-false}
+use Rattle.layout.specs.Answer.{Res, ok, refuse, bind, guard}
+use Rattle.layout.specs.Limits.{maxKey}
+use Rattle.layout.specs.Place.{splice}
+use Rattle.layout.specs.Key.{Key}
+use Rattle.layout.specs.Row.{Fields, Row}
+use Rattle.layout.specs.RowRead.{RowRead, keyLength}
+use Rattle.layout.specs.Block.{blockRows, offsets, trailer, blockBytes}
+use Rattle.layout.specs.Builder.{Builder, newBuilder, stateTests, presentSize, add, build, blockAfter}
+use Rattle.layout.specs.Cursor.{Cursor, marked, Keyed, keyed, found, done, stepIs, next}
+use Rattle.layout.specs.Demands.Runs.{Held, held, Call, offer, would-fit, is-empty, finish, addTo, buildOf, after, taken, accepted, run, rowsOf, TypedCall, TypedCalls, Ran, Finishes, Walks, stands, gives, EndsDone}
+use Rattle.layout.specs.Laws.Answer.{bind-then, guard-then}
+use Rattle.layout.specs.Laws.Splice.{length-splice, take-splice}
+use Rattle.layout.specs.Laws.Trailer.{length-trailer}
+use Rattle.layout.specs.Laws.Made.{Typed, Made, made-none, made-more, made-builds}
+
+-- ---- the builder
+
+-- a build in the middle leaves the rows
+made-finish : (n : ℕ) (rs : List Row) (b : Builder) (bytes places : List ℕ) (k : ℕ) → Made n rs b bytes places → build b (length bytes) (length places) ≡ ok k
+    → Made n rs b (blockAfter (ok k) b bytes places) places
+unfolding build
+made-finish n rs b bytes places k m e =
+    bind-then (stateTests b (length bytes) (length places)) _ k e λ u s e₁.
+    guard-then (eqb (b .rows) 0) 7 _ k e₁ λ t₁ e₂.
+    guard-then (ltb (length bytes) (presentSize b)) 6 _ k e₂ λ t₂ e₃.
+    let w : List ℕ = trailer (take (b .restarts) places) in
+    let long : length (trailer (take (b .restarts) places)) ≡ 2 * b .restarts + 2 =
+        ap (λ (x : List ℕ). length (trailer x)) (m .places-are) ∙ length-trailer (offsets n rs) ∙ omega (arith, m .restarts-are) in
+    let fits : b .used + length (trailer (take (b .restarts) places)) ≤ length bytes = omega (arith, ltb-false (length bytes) (presentSize b) t₂) in
+    let same : length (splice bytes (b .used) (trailer (take (b .restarts) places))) ≡ length bytes = length-splice bytes (b .used) (trailer (take (b .restarts) places)) fits in
+    record {
+      interval-is = m .interval-is;
+      block = m .block;
+      some = m .some;
+      few = m .few;
+      used-is = m .used-is;
+      restarts-are = m .restarts-are;
+      rows-are = m .rows-are;
+      lastLen-is = m .lastLen-is;
+      last-is = m .last-is;
+      in-data = omega (arith, m .in-data);
+      in-places = m .in-places;
+      bytes-are = take-splice bytes (b .used) (trailer (take (b .restarts) places)) fits ∙ m .bytes-are;
+      places-are = m .places-are;
+      room = λ h. omega (arith, m .room h);
+      rows-ok = m .rows-ok;
+      offsets-fit = m .offsets-fit;
+    }
+
+pub made-after : (n : ℕ) (rs : List Row) (h : Held) (c : Call) → Made n rs (h .builder) (h .bytes) (h .places) → TypedCall c
+    → Made n (rs ++ accepted h c) (after h c .builder) (after h c .bytes) (after h c .places)
+made-after n rs h (offer r) m t = go (addTo h r) refl
+  where
+    go : (x : Res Builder) → addTo h r ≡ x → Made n (rs ++ taken (addTo h r) r) (after h (offer r) .builder) (after h (offer r) .bytes) (after h (offer r) .places)
+    go (ok b) e = rw e (made-more n rs (h .builder) (h .bytes) (h .places) r b m t e)
+    go (refuse k) e = rw (e, append-nil rs) m
+made-after n rs h (would-fit r) m t = rw (append-nil rs) m
+made-after n rs h is-empty m t = rw (append-nil rs) m
+made-after n rs h finish m t = rw (append-nil rs) (go (buildOf h) refl)
+  where
+    go : (x : Res ℕ) → buildOf h ≡ x → Made n rs (h .builder) (blockAfter (buildOf h) (h .builder) (h .bytes) (h .places)) (h .places)
+    go (ok k) e = rw e (made-finish n rs (h .builder) (h .bytes) (h .places) k m e)
+    go (refuse k) e = rw e m
+
+pub made-run : (n : ℕ) (rs : List Row) (h : Held) (cs : List Call) → Made n rs (h .builder) (h .bytes) (h .places) → TypedCalls cs
+    → Made n (rs ++ rowsOf h cs) (run h cs .builder) (run h cs .bytes) (run h cs .places)
+unfolding rowsOf run
+made-run n rs h [] m t = rw (append-nil rs) m
+made-run n rs h (c ∷ cs) m t =
+    rw (append-assoc rs (accepted h c) (rowsOf (after h c) cs)) at (made-run n (rs ++ accepted h c) (after h c) cs (made-after n rs h c m (t .0)) (t .1))
+
+pub made-ran : (size n : ℕ) (cs : List Call) (rows : List Row) (end : Held) → Ran size n cs rows end → Made n rows (end .builder) (end .bytes) (end .places)
+made-ran size n cs rows end r =
+    rw (r .rows-are, r .ends)
+    (made-run n [] (held (r .fresh-one) (r .bytes) (r .places)) cs (made-none size n (r .fresh-one) (r .bytes) (r .places) (r .is-new)) (r .typed))
+
+-- after an accepted row, build answers the block of the accepted rows
+pub made-finishes : (n : ℕ) (rows : List Row) (h : Held) → Made n rows (h .builder) (h .bytes) (h .places) → 1 ≤ length rows → Finishes h (blockBytes n rows)
+made-finishes n rows h m s =
+    let q = made-builds n rows (h .builder) (h .bytes) (h .places) m s in
+    record { n = length (blockBytes n rows); answers = q .0; block-is = q .1 }
