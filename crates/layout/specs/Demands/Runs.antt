@@ -7,6 +7,7 @@ use lib.ListN.{length, take}
 use Rattle.layout.specs.Answer.{Res, ok, refuse}
 use Rattle.layout.specs.Key.{Key}
 use Rattle.layout.specs.Row.{Fields, Row}
+use Rattle.layout.specs.RowRead.{keyLength}
 use Rattle.layout.specs.Builder.{Builder, newBuilder, add, stateAfter, dataAfter, placesAfter, build, blockAfter}
 use Rattle.layout.specs.Cursor.{Cursor, Keyed, keyed, found, done, Step, stepIs, next}
 use Rattle.layout.specs.Laws.Made.{Typed}
@@ -99,3 +100,13 @@ pub data Walks (b : List ℕ) (room : ℕ) : Cursor → List Keyed → Cursor �
 pub record EndsDone (b : List ℕ) (room : ℕ) (c : Cursor) (marked-one : Cursor) : Type 0 where
   pub says-done : next c b room ≡ ok (stepIs marked-one done)
   pub ever-after : next marked-one b room ≡ ok (stepIs marked-one done)
+
+-- a key buffer no shorter than any key
+abbrev pub RoomFor : ℕ → List Keyed → Type 0
+RoomFor room [] = Unit {0}
+RoomFor room (k ∷ ks) = (keyLength (k .row) ≤ room) × RoomFor room ks
+
+-- the last row first
+unfoldable pub backwards : List Keyed → List Keyed
+backwards [] = []
+backwards (k ∷ ks) = backwards ks ++ (k ∷ [])

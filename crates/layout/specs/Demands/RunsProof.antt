@@ -6,7 +6,7 @@ use mathlib.Core.Bool.{Bool, true, false}
 use mathlib.Core.List.{List, [], _∷_, _++_, append-assoc, append-nil}
 use native.Mathlib.Omega.{arith}
 use lib.Dec.{ltb, eqb}
-use lib.ListN.{length, take}
+use lib.ListN.{length, take, length-append}
 use borrow.Author.Tests.{ltb-false}
 use Rattle.layout.specs.Answer.{Res, ok, refuse, bind, guard}
 use Rattle.layout.specs.Limits.{maxKey}
@@ -15,12 +15,15 @@ use Rattle.layout.specs.Key.{Key}
 use Rattle.layout.specs.Row.{Fields, Row}
 use Rattle.layout.specs.RowRead.{RowRead, keyLength}
 use Rattle.layout.specs.Block.{blockRows, offsets, trailer, blockBytes}
+use Rattle.layout.specs.Trailer.{Trailer}
 use Rattle.layout.specs.Builder.{Builder, newBuilder, stateTests, presentSize, add, build, blockAfter}
 use Rattle.layout.specs.Cursor.{Cursor, marked, Keyed, keyed, found, done, stepIs, next}
-use Rattle.layout.specs.Demands.Runs.{Held, held, Call, offer, would-fit, is-empty, finish, addTo, buildOf, after, taken, accepted, run, rowsOf, TypedCall, TypedCalls, Ran, Finishes, Walks, stands, gives, EndsDone}
+use Rattle.layout.specs.Demands.Runs.{Held, held, Call, offer, would-fit, is-empty, finish, addTo, buildOf, after, taken, accepted, run, rowsOf, TypedCall, TypedCalls, Ran, Finishes, Walks, stands, gives, EndsDone, RoomFor, backwards}
 use Rattle.layout.specs.Laws.Answer.{bind-then, guard-then}
 use Rattle.layout.specs.Laws.Splice.{length-splice, take-splice}
 use Rattle.layout.specs.Laws.Trailer.{length-trailer}
+use Rattle.layout.specs.Laws.Ascend.{InRegion, Before, before-gives, before-done, marked-stays}
+use Rattle.layout.specs.Laws.Descend.{After, after-gives, after-done, FromEnd, empty, ending, from-end}
 use Rattle.layout.specs.Laws.Made.{Typed, Made, made-none, made-more, made-builds}
 
 -- ---- the builder
@@ -35,7 +38,7 @@ made-finish n rs b bytes places k m e =
     guard-then (ltb (length bytes) (presentSize b)) 6 _ k e₂ λ t₂ e₃.
     let w : List ℕ = trailer (take (b .restarts) places) in
     let long : length (trailer (take (b .restarts) places)) ≡ 2 * b .restarts + 2 =
-        ap (λ (x : List ℕ). length (trailer x)) (m .places-are) ∙ length-trailer (offsets n rs) ∙ omega (arith, m .restarts-are) in
+    ap (λ (x : List ℕ). length (trailer x)) (m .places-are) ∙ length-trailer (offsets n rs) ∙ omega (arith, m .restarts-are) in
     let fits : b .used + length (trailer (take (b .restarts) places)) ≤ length bytes = omega (arith, ltb-false (length bytes) (presentSize b) t₂) in
     let same : length (splice bytes (b .used) (trailer (take (b .restarts) places))) ≡ length bytes = length-splice bytes (b .used) (trailer (take (b .restarts) places)) fits in
     record {
@@ -89,3 +92,62 @@ pub made-finishes : (n : ℕ) (rows : List Row) (h : Held) → Made n rows (h .b
 made-finishes n rows h m s =
     let q = made-builds n rows (h .builder) (h .bytes) (h .places) m s in
     record { n = length (blockBytes n rows); answers = q .0; block-is = q .1 }
+
+-- ---- the cursor
+
+pub record WalksAll (b : List ℕ) (room : ℕ) (c : Cursor) (rows : List Keyed) : Type 0 where
+  pub last : Cursor
+  pub walks : Walks b room c rows last
+  pub ends : EndsDone b room last (marked last)
+
+pub walks-before : (b : List ℕ) (t : Trailer) (room : ℕ) (c : Cursor) (rows : List Keyed) → Before b t c rows → RoomFor room rows → WalksAll b room c rows
+walks-before b t room c [] q f =
+    record {
+      last = c;
+      walks = stands c;
+      ends =
+          record {
+            says-done = before-done b t c room q;
+            ever-after = marked-stays b t (marked c) room (q .stands .trailer-good) (q .stands .inside) (q .stands .fits) refl;
+          };
+    }
+walks-before b t room c (k ∷ ks) q f =
+    let g = before-gives b t c room k ks q in
+    let w = walks-before b t room (g .moved) ks (g .then-before) (f .1) in
+    record { last = w .last; walks = gives c (g .moved) (w .last) k ks (g .gives (f .0)) (w .walks); ends = w .ends }
+
+backwards-end : (ks : List Keyed) (k : Keyed) → backwards (ks ++ (k ∷ [])) ≡ k ∷ backwards ks
+unfolding backwards
+backwards-end [] k = refl
+backwards-end (x ∷ ks) k = rw (backwards-end ks k)
+
+room-first : (room : ℕ) (xs ys : List Keyed) → RoomFor room (xs ++ ys) → RoomFor room xs
+room-first room [] ys f = tt
+room-first room (x ∷ xs) ys f = (f .0, room-first room xs ys (f .1))
+
+room-last : (room : ℕ) (xs : List Keyed) (k : Keyed) → RoomFor room (xs ++ (k ∷ [])) → keyLength (k .row) ≤ room
+room-last room [] k f = f .0
+room-last room (x ∷ xs) k f = room-last room xs k (f .1)
+
+after-none : (b : List ℕ) (t : Trailer) (room : ℕ) (c : Cursor) → After b t c [] → WalksAll b room c (backwards [])
+unfolding backwards
+after-none b t room c q =
+    record {
+      last = c;
+      walks = stands c;
+      ends = record { says-done = after-done b t c room q; ever-after = marked-stays b t (marked c) room (q .trailer-good) (q .inside) (q .fits) refl };
+    }
+
+pub walks-after : (n : ℕ) (b : List ℕ) (t : Trailer) (room : ℕ) (c : Cursor) (rows : List Keyed) → length rows ≤ n → After b t c rows → RoomFor room rows → WalksAll b room c (backwards rows)
+walks-after zero b t room c [] h q f = after-none b t room c q
+walks-after zero b t room c (k ∷ ks) h q f = absurd (omega arith)
+walks-after (suc n) b t room c rows h q f = go rows (from-end rows) h q f (walks-after n b t room)
+  where
+    go : (rows : List Keyed) → FromEnd rows → length rows ≤ suc n → After b t c rows → RoomFor room rows
+        → ((c : Cursor) (rows : List Keyed) → length rows ≤ n → After b t c rows → RoomFor room rows → WalksAll b room c (backwards rows)) → WalksAll b room c (backwards rows)
+    go rows empty h q f ih = after-none b t room c q
+    go rows (ending xs x) h q f ih =
+        let g = after-gives b t c room xs x q in
+        let w = ih (g .moved) xs (omega (arith, length-append xs (x ∷ []))) (g .then-after) (room-first room xs (x ∷ []) f) in
+        rw (backwards-end xs x)
+        (record { last = w .last; walks = gives c (g .moved) (w .last) x (backwards xs) (g .gives (room-last room xs x f)) (w .walks); ends = w .ends })
