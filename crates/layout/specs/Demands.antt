@@ -1,2 +1,3 @@
 pub mod Runs
 pub mod RunsProof
+pub mod Proof3

@@ -1,0 +1,201 @@
+-- Demand 3, proved: a run makes the block of its accepted rows (`Made`), such a block is read back (`laid-block`), and a read has one outcome; so equal blocks have
+-- equal rows. Rows after one key: what is read of one's bytes depends on no byte past its end.
+use Prim.Native.Nat.{ℕ, zero, suc, _+_, _-_, _<_, _≤_, zero-le}
+use mathlib.Core.Path.{_≡_, refl, ap, sym, _∙_}
+use mathlib.Core.Bool.{Bool, true, false}
+use mathlib.Core.List.{List, [], _∷_, _++_, append-nil, map}
+use native.Mathlib.Omega.{arith}
+use lib.Dec.{ltb, eqb}
+use lib.ListN.{length, take, drop, length-append}
+use borrow.Author.Tests.{le-ltb, ltb-false}
+use Rattle.layout.specs.Answer.{Res, ok, refuse, bind, guard}
+use Rattle.layout.specs.Limits.{maxKey, maxValue}
+use Rattle.layout.specs.Key.{Key}
+use Rattle.layout.specs.Row.{Fields, Row, valueOf, rowBytes, keyLengthTests, lengthTests, encodeRow}
+use Rattle.layout.specs.RowRead.{RowRead, rowAt, readRow, decodeRow, keyLength, keyOf, fieldsOf}
+use Rattle.layout.specs.Block.{blockBytes, offsets}
+use Rattle.layout.specs.Trailer.{Trailer, trailerOf, dataOf, Region, regionOf, allOffsets}
+use Rattle.layout.specs.Builder.{blockAfter}
+use Rattle.layout.specs.Cursor.{ascending, descending, Cursor, opened, openBlock, Keyed, keyed}
+use Rattle.layout.specs.Reads.{regionRows, regionsRows, Reads, allRows}
+use Rattle.layout.specs.Demands.Runs.{Held, Call, buildOf, Ran, Finishes, RoomFor, backwards}
+use Rattle.layout.specs.Demands.RunsProof.{made-ran, made-finishes, WalksAll, walks-before, walks-after}
+use Rattle.layout.specs.Laws.Answer.{bind-then, guard-then, ok-inj}
+use Rattle.layout.specs.Laws.Row.{FieldsOk, KeyOk, plain, SameRow, prefix-free}
+use Rattle.layout.specs.Laws.Tells.{RowEnds, readRow-ends, keyLengthTests-tells}
+use Rattle.layout.specs.Laws.Local.{readRow-local}
+use Rattle.layout.specs.Laws.Carry.{keyOf-length}
+use Rattle.layout.specs.Laws.Block.{RowOk, AllOk, AllFit}
+use Rattle.layout.specs.Laws.Cursor.{open-good}
+use Rattle.layout.specs.Laws.Made.{Typed, Made}
+use Rattle.layout.specs.Laws.Trailer.{regionOf-tells}
+use Rattle.layout.specs.Laws.Reads.{region-at, RegionsAre, next as next-region, regions-are, regions-none, allRows-none, allRows-next}
+use Rattle.layout.specs.Laws.Ascend.{opened-before}
+use Rattle.layout.specs.Laws.Descend.{opened-after}
+use Rattle.layout.specs.Laws.Laid.{contentOf, plainRow, LaidBlock, laid-block}
+
+-- ---- a run finishes
+
+-- one answer of build, one block
+finishes-one : (h : Held) (x y : List ℕ) → Finishes h x → Finishes h y → x ≡ y
+finishes-one h x y f g =
+    let n : f .n ≡ g .n = ok-inj (sym (f .answers) ∙ g .answers) in
+    sym (f .block-is) ∙ ap (λ (k : ℕ). take k (blockAfter (ok k) (h .builder) (h .bytes) (h .places))) n ∙ g .block-is
+
+module _ (size n : ℕ) (calls : List Call) (rows : List Row) (end : Held) (ran : Ran size n calls rows end) (some : 1 ≤ length rows) where
+  pub ran-finishes : Finishes end (blockBytes n rows)
+  ran-finishes = made-finishes n rows end (made-ran size n calls rows end ran) some
+
+  pub ran-block : (block : List ℕ) → Finishes end block → block ≡ blockBytes n rows
+  ran-block block f = finishes-one end block (blockBytes n rows) f ran-finishes
+
+  pub ran-laid : (block : List ℕ) → Finishes end block → LaidBlock block n rows
+  ran-laid block f = rw (ran-block block f) (laid rows some (m .rows-ok) (m .offsets-fit))
+    where
+      m : Made n rows (end .builder) (end .bytes) (end .places)
+      m = made-ran size n calls rows end ran
+
+      laid : (rows : List Row) → 1 ≤ length rows → AllOk rows → AllFit (offsets n rows) → LaidBlock (blockBytes n rows) n rows
+      laid [] s a o = absurd (omega arith)
+      laid (r ∷ rs) s a o = laid-block n r rs a o
+
+-- ---- a read has one outcome
+
+reads-one : (b : List ℕ) (t₁ t₂ : Trailer) (r₁ r₂ : List (List Keyed)) → Reads b t₁ r₁ → Reads b t₂ r₂ → (t₁ ≡ t₂) × (r₁ ≡ r₂)
+reads-one b t₁ t₂ r₁ r₂ p q =
+    let t : t₁ ≡ t₂ = ok-inj (sym (p .trailer-good) ∙ q .trailer-good) in
+    (t, ok-inj (sym (p .rows-read) ∙ ap (λ (x : Trailer). regionsRows (x .count) b x 0) t ∙ q .rows-read))
+
+pub same-rows : (b : List ℕ) (n₁ n₂ : ℕ) (rows₁ rows₂ : List Row) → LaidBlock b n₁ rows₁ → LaidBlock b n₂ rows₂ → map plainRow rows₁ ≡ map plainRow rows₂
+same-rows b n₁ n₂ rows₁ rows₂ p q =
+    let o = reads-one b (p .t) (q .t) (p .regions) (q .regions) (p .reads) (q .reads) in
+    sym (p .contents) ∙ ap (λ (x : Trailer). map (contentOf (dataOf b x)) (allRows (p .regions))) (o .0) ∙ ap (λ (x : List (List Keyed)). map (contentOf (dataOf b (q .t))) (allRows x)) (o .1) ∙ q .contents
+
+-- ---- reading back
+
+-- keys that are read are as long as their rows say
+abbrev Keyeds : List Keyed → Type 0
+Keyeds [] = Unit {0}
+Keyeds (k ∷ ks) = (length (k .key) ≡ keyLength (k .row)) × Keyeds ks
+
+keyeds-append : (xs ys : List Keyed) → Keyeds xs → Keyeds ys → Keyeds (xs ++ ys)
+keyeds-append [] ys a b = b
+keyeds-append (x ∷ xs) ys a b = (a .0, keyeds-append xs ys (a .1) b)
+
+region-keyeds : (ks : List Keyed) (left : ℕ) (d : List ℕ) (g : Region) (at : ℕ) (before : Key) → regionRows left d g at before ≡ ok ks → g .end ≤ at + left → Keyeds ks
+region-keyeds [] left d g at before p h = tt
+region-keyeds (k ∷ ks) left d g at before p h =
+    region-at left d g at before (k ∷ ks) p h
+    (λ over is. absurd (let z : _≡_ {A = ℕ} 0 1 = cc in omega arith))
+    (λ r qs m lt u more enough is.
+    let first : keyed r (keyOf d before r) ≡ k = cc in
+    let tail : qs ≡ ks = cc in
+    (rw (← first) (keyOf-length d at (g .end) before (eqb at (g .start)) r u), region-keyeds ks m d g (r .next) (keyOf d before r) (more ∙ ap ok tail) enough))
+
+regions-keyeds : (left : ℕ) (b : List ℕ) (t : Trailer) (region : ℕ) (rss : List (List Keyed)) → regionsRows left b t region ≡ ok rss → Keyeds (allRows rss)
+regions-keyeds zero b t region rss p = rw (regions-none b t region rss p, allRows-none) tt
+regions-keyeds (suc left) b t region rss p = go rss (regions-are left b t region rss p) (regions-keyeds left b t (suc region))
+  where
+    go : (rss : List (List Keyed)) → RegionsAre left b t region rss → ((rss : List (List Keyed)) → regionsRows left b t (suc region) ≡ ok rss → Keyeds (allRows rss)) → Keyeds (allRows rss)
+    go rss (next-region g rows more u q w) ih =
+        rw (allRows-next rows more)
+        (keyeds-append rows (allRows more) (region-keyeds rows (t .size) (dataOf b t) g (g .start) [] q (omega (arith, regionOf-tells b t region g u .inside))) (ih more w))
+
+-- a buffer no shorter than any accepted key has room for each row's
+abbrev pub KeysFit : ℕ → List Row → Type 0
+KeysFit room [] = Unit {0}
+KeysFit room (r ∷ rs) = (length (r .key) ≤ room) × KeysFit room rs
+
+rooms : (room : ℕ) (d : List ℕ) (ks : List Keyed) (rows : List Row) → map (contentOf d) ks ≡ map plainRow rows → Keyeds ks → KeysFit room rows → RoomFor room ks
+rooms room d [] rows e k f = tt
+rooms room d (x ∷ ks) [] e k f = absurd (let z : _≡_ {A = ℕ} 0 1 = cc in omega arith)
+rooms room d (x ∷ ks) (r ∷ rows) e k f =
+    let h : contentOf d x ≡ plainRow r = cc in
+    let t : map (contentOf d) ks ≡ map plainRow rows = cc in
+    let l : length (x .key) ≡ length (r .key) = ap (λ (y : Row). length (y .key)) h in
+    (omega (arith, k .0, f .0), rooms room d ks rows t (k .1) (f .1))
+
+-- opened, and stepped through to the end
+pub record ReadsBack (block : List ℕ) (room : ℕ) (rows : List Row) : Type 0 where
+  pub t : Trailer
+  pub given : List Keyed
+  pub opens-up : openBlock block ascending ≡ ok (opened ascending t)
+  pub opens-down : openBlock block descending ≡ ok (opened descending t)
+  pub forwards : WalksAll block room (opened ascending t) given
+  pub back : WalksAll block room (opened descending t) (backwards given)
+  pub are : map (contentOf (dataOf block t)) given ≡ map plainRow rows
+
+pub laid-reads-back : (block : List ℕ) (n room : ℕ) (rows : List Row) → LaidBlock block n rows → KeysFit room rows → ReadsBack block room rows
+laid-reads-back block n room rows l f =
+    let q : Reads block (l .t) (l .regions) = l .reads in
+    let r : RoomFor room (allRows (l .regions)) =
+        rooms room (dataOf block (l .t)) (allRows (l .regions)) rows (l .contents) (regions-keyeds (l .t .count) block (l .t) 0 (l .regions) (l .reads .rows-read)) f in
+    record {
+      t = l .t;
+      given = allRows (l .regions);
+      opens-up = open-good block ascending (l .t) (l .reads .trailer-good) (l .reads .offsets-good);
+      opens-down = open-good block descending (l .t) (l .reads .trailer-good) (l .reads .offsets-good);
+      forwards = walks-before block (l .t) room (opened ascending (l .t)) (allRows (l .regions)) (opened-before block (l .t) (l .regions) (l .reads)) r;
+      back =
+          walks-after (length (allRows (l .regions))) block (l .t) room (opened descending (l .t)) (allRows (l .regions)) (omega arith) (opened-after block (l .t) (l .regions) (l .reads)) r;
+      are = l .contents;
+    }
+
+-- ---- rows after one key
+
+-- what encoding tells
+pub record Encoded (prevLen shared : ℕ) (suffix : List ℕ) (f : Fields) (w : List ℕ) : Type 0 where
+  pub is : rowBytes shared suffix f ≡ w
+  pub shares : shared ≤ prevLen
+  pub key-ok : KeyOk shared (length suffix)
+  pub value-fits : length (valueOf f) ≤ maxValue
+
+pub encode-tells : (prevLen shared : ℕ) (suffix : List ℕ) (f : Fields) (room : ℕ) (w : List ℕ) → encodeRow prevLen shared suffix f room ≡ ok w → Encoded prevLen shared suffix f w
+unfolding encodeRow lengthTests
+encode-tells prevLen shared suffix f room w e =
+    guard-then (ltb prevLen shared) 13 _ w e λ t₁ e₁.
+    bind-then (lengthTests (shared + length suffix) (length (valueOf f))) _ w e₁ λ u l e₂.
+    guard-then (ltb room (length (rowBytes shared suffix f))) 6 _ w e₂ λ t₂ e₃.
+    bind-then (keyLengthTests (shared + length suffix)) _ u l λ u₂ k l₂.
+    guard-then (ltb maxValue (length (valueOf f))) 3 _ u l₂ λ t₃ l₃.
+    let q = keyLengthTests-tells (shared + length suffix) u₂ k in
+    record {
+      is = ok-inj e₃;
+      shares = ltb-false prevLen shared t₁;
+      key-ok = record { some = q .0; fits = q .1 };
+      value-fits = ltb-false maxValue (length (valueOf f)) t₃;
+    }
+
+pub encoded-fields : {prevLen shared : ℕ} {suffix : List ℕ} {f : Fields} {w : List ℕ} → Encoded prevLen shared suffix f w → Typed f → FieldsOk f
+encoded-fields e t = record { value-fits = e .value-fits; seq-fits = t .seq-fits; expire-fits = t .expire-fits; create-fits = t .create-fits }
+
+pub encoded-differ : (prevLen : ℕ) (s₁ : ℕ) (x₁ : List ℕ) (f₁ : Fields) (w₁ : List ℕ) (s₂ : ℕ) (x₂ : List ℕ) (f₂ : Fields) (w₂ tail : List ℕ)
+    → Encoded prevLen s₁ x₁ f₁ w₁ → Encoded prevLen s₂ x₂ f₂ w₂ → Typed f₁ → Typed f₂ → w₁ ++ tail ≡ w₂ → SameRow s₁ x₁ f₁ tail s₂ x₂ f₂ []
+encoded-differ prevLen s₁ x₁ f₁ w₁ s₂ x₂ f₂ w₂ tail e₁ e₂ t₁ t₂ h =
+    prefix-free prevLen false s₁ x₁ f₁ tail s₂ x₂ f₂ [] (e₁ .shares) (e₂ .shares) (e₁ .key-ok) (e₂ .key-ok) (encoded-fields e₁ t₁) (encoded-fields e₂ t₂)
+    (ap (λ (x : List ℕ). x ++ tail) (e₁ .is) ∙ h ∙ sym (e₂ .is) ∙ sym (append-nil (rowBytes s₂ x₂ f₂)))
+
+-- a region that ends later changes nothing for a row that is read
+wider : (d : List ℕ) (at end end′ n : ℕ) (restart : Bool) (r : RowRead) → readRow d at end n restart ≡ ok r → end ≤ end′ → readRow d at end′ n restart ≡ ok r
+unfolding readRow
+wider d at end end′ n restart r e h =
+    bind-then (rowAt d at n restart) _ r e λ g p q.
+    guard-then (ltb end (g .next)) 16 _ r q λ t c.
+    rw (p, le-ltb end′ (g .next) (omega (arith, ltb-false end (g .next) t))) c
+
+pub decoded-differ : (prevLen : ℕ) (x y tail : List ℕ) (r q : RowRead) → decodeRow x prevLen ≡ ok r → r .next ≡ length x → decodeRow y prevLen ≡ ok q → q .next ≡ length y → x ++ tail ≡ y
+    → (tail ≡ []) × (r ≡ q)
+unfolding decodeRow
+decoded-differ prevLen x y tail r q e n f m h =
+    let e₁ : readRow (x ++ []) 0 (length x) prevLen false ≡ ok r = ap (λ (d : List ℕ). readRow d 0 (length x) prevLen false) (append-nil x) ∙ e in
+    let e₂ : readRow (x ++ tail) 0 (length x) prevLen false ≡ ok r = readRow-local x [] tail 0 (length x) prevLen false r e₁ (omega (arith, n)) in
+    let long : length x ≤ length (x ++ tail) = rw (length-append x tail) (omega arith) in
+    let e₃ : readRow (x ++ tail) 0 (length (x ++ tail)) prevLen false ≡ ok r = wider (x ++ tail) 0 (length x) (length (x ++ tail)) prevLen false r e₂ long in
+    let f₁ : readRow (x ++ tail) 0 (length (x ++ tail)) prevLen false ≡ ok q = ap (λ (d : List ℕ). readRow d 0 (length d) prevLen false) h ∙ f in
+    let same : r ≡ q = ok-inj (sym e₃ ∙ f₁) in
+    let k : length tail ≡ 0 = omega (arith, n, m, ap (λ (z : RowRead). z .next) same, ap length h, length-append x tail) in
+    (nothing tail k, same)
+  where
+    nothing : (t : List ℕ) → length t ≡ 0 → t ≡ []
+    nothing [] k = refl
+    nothing (z ∷ t) k = absurd (omega arith)
