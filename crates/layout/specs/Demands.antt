@@ -1,3 +1,4 @@
 pub mod Runs
 pub mod RunsProof
 pub mod Proof3
+pub mod Proof2
