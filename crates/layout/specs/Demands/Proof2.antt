@@ -21,26 +21,26 @@ use Rattle.layout.specs.Block.{blockBytes, blockRows, offsets}
 use Rattle.layout.specs.Fixed.{unbig}
 use Rattle.layout.specs.Trailer.{shortAt, Trailer, trailerOf, dataOf, offsetAt, Region, regionOf}
 use Rattle.layout.specs.Check.{check}
-use Rattle.layout.specs.Cursor.{ascending, descending, Cursor, marked, opened, openBlock, Keyed, keyed, found, stepIs, next}
+use Rattle.layout.specs.Cursor.{ascending, descending, Cursor, marked, opened, openBlock, Keyed, keyed, found, done, Step, stepIs, next}
 use Rattle.layout.specs.Seek.{doneUp, doneDown, Sought, soughtIs, seek}
 use Rattle.layout.specs.Reads.{regionRows, regionsRows, Reads, allRows, NeverFall}
 use Rattle.layout.specs.Demands.Runs.{RoomFor, backwards, Walks, stands, gives}
 use Rattle.layout.specs.Demands.RunsProof.{WalksAll, walks-before, walks-after}
 use Rattle.layout.specs.Demands.Proof3.{Encoded, encode-tells, encoded-fields}
-use Rattle.layout.specs.Laws.Answer.{ok-inj, ltb-cases}
-use Rattle.layout.specs.Laws.Key.{AtMost, at-most-refl, below-false, le-below, below-le}
+use Rattle.layout.specs.Laws.Answer.{ok-inj, ltb-cases, clash}
+use Rattle.layout.specs.Laws.Key.{AtMost, at-most-refl, at-most-trans, at-most-antisym, below-false, le-below, below-le}
 use Rattle.layout.specs.Laws.Row.{plain, placesOf, readRow-law, placesOf-fields, placesOf-key}
 use Rattle.layout.specs.Laws.Tells.{restart-least}
 use Rattle.layout.specs.Laws.Trailer.{regionOf-tells, trailerOf-tells, OffsetsTell, allOffsets-tell}
-use Rattle.layout.specs.Laws.Cursor.{open-good}
+use Rattle.layout.specs.Laws.Cursor.{open-good, next-marked}
 use Rattle.layout.specs.Laws.Made.{Typed}
 use Rattle.layout.specs.Laws.Block.{AllOk, AllFit}
 use Rattle.layout.specs.Laws.Reads.{region-at}
 use Rattle.layout.specs.Laws.Ascend.{Before, opened-before}
 use Rattle.layout.specs.Laws.Descend.{After, opened-after}
 use Rattle.layout.specs.Laws.Accept.{Accepts, check-accepts, accepts-check}
-use Rattle.layout.specs.Laws.Sorted.{keysOf, leading-most}
-use Rattle.layout.specs.Laws.First.{leading-before, leading-here}
+use Rattle.layout.specs.Laws.Sorted.{keysOf, may-at-most}
+use Rattle.layout.specs.Laws.First.{first-before, first-here}
 use Rattle.layout.specs.Laws.Split.{Split, split-at}
 use Rattle.layout.specs.Laws.LandsUp.{LandsUp, lands, passes, SeeksUp, seeks-up}
 use Rattle.layout.specs.Laws.LandsDown.{LandsDown, lands as lands-down, passes as passes-down, SeeksDown, seeks-down}
@@ -159,3 +159,120 @@ module _ (b : List ℕ) (n : ℕ) (t : Trailer) (rows : List Keyed) (q : Rows b 
           rw (← same)
           (inl (h, l .unmarked, walks-after (length (take (leading (notAbove target) (keysOf rows)) rows)) b t room d (take (leading (notAbove target) (keysOf rows)) rows) (omega arith) l (room-take room (leading (notAbove target) (keysOf rows)) rows f)))
       go c x e (passes-down h) = inr (h, sym (ok-inj e))
+
+-- ---- the retry's row
+
+-- keys that never fall, by their numbers
+sorted-from : (a : Key) (ks : List Keyed) → NeverFall a ks → (j : ℕ) → j < length ks → AtMost a (getD (keysOf ks) j [])
+sorted-from a [] o j h = absurd (not-suc-le-zero h)
+sorted-from a (k ∷ ks) o zero h = may-at-most a (k .key) (o .0)
+sorted-from a (k ∷ ks) o (suc j) h = at-most-trans a (k .key) (getD (keysOf ks) j []) (may-at-most a (k .key) (o .0)) (sorted-from (k .key) ks (o .1) j (omega arith))
+
+pub sorted-by : (a : Key) (ks : List Keyed) → NeverFall a ks → (i j : ℕ) → i ≤ j → j < length ks → AtMost (getD (keysOf ks) i []) (getD (keysOf ks) j [])
+sorted-by a [] o i j h l = absurd (not-suc-le-zero l)
+sorted-by a (k ∷ ks) o zero zero h l = at-most-refl (k .key)
+sorted-by a (k ∷ ks) o zero (suc j) h l = sorted-from (k .key) ks (o .1) j (omega arith)
+sorted-by a (k ∷ ks) o (suc i) zero h l = absurd (not-suc-le-zero h)
+sorted-by a (k ∷ ks) o (suc i) (suc j) h l = sorted-by (k .key) ks (o .1) i j (omega arith) (omega arith)
+
+key-at : (ks : List Keyed) (n : ℕ) (k : Keyed) (rest : List Keyed) → drop n ks ≡ k ∷ rest → getD (keysOf ks) n [] ≡ k .key
+key-at [] zero k rest e = absurd (let z : _≡_ {A = ℕ} 0 1 = cc in omega arith)
+key-at [] (suc n) k rest e = absurd (let z : _≡_ {A = ℕ} 0 1 = cc in omega arith)
+key-at (x ∷ ks) zero k rest e = let s : x ≡ k = cc in ap (λ (y : Keyed). y .key) s
+key-at (x ∷ ks) (suc n) k rest e = key-at ks n k rest e
+
+-- the first row that a walk gives
+first-given : (b : List ℕ) (room : ℕ) (c : Cursor) (k : Keyed) (ks : List Keyed) (last : Cursor) → Walks b room c (k ∷ ks) last
+    → (c′ : Cursor) × (next c b room ≡ ok (stepIs c′ (found (k .row) (k .key))))
+first-given b room c k ks last w = go c (k ∷ ks) last w refl
+  where
+    go : (c : Cursor) (xs : List Keyed) (last : Cursor) → Walks b room c xs last → xs ≡ k ∷ ks → (c′ : Cursor) × (next c b room ≡ ok (stepIs c′ (found (k .row) (k .key))))
+    go c xs last (stands c₀) e = absurd (let z : _≡_ {A = ℕ} 0 1 = cc in omega arith)
+    go c xs last (gives c₀ c′ c″ x ys p w) e = let s : x ≡ k = cc in (c′, rw (← s) p)
+
+-- the row after the seek, when a row has the target as its key: it is the first such row
+pub record Found (b : List ℕ) (target : Key) (rows : List Keyed) (room : ℕ) (c : Cursor) : Type 0 where
+  pub k : Keyed
+  pub rest : List Keyed
+  pub moved : Cursor
+  pub gives-it : next c b room ≡ ok (stepIs moved (found (k .row) (k .key)))
+  pub has-it : k .key ≡ target
+  pub stands-first : drop (firstAtOrAbove target (keysOf rows)) rows ≡ k ∷ rest
+  pub none-before : (j : ℕ) → j < firstAtOrAbove target (keysOf rows) → getD (keysOf rows) j [] ≡ target → ⊥
+
+module _ (b : List ℕ) (n : ℕ) (t : Trailer) (rows : List Keyed) (q : Rows b n t rows) (target : Key) (room : ℕ) (f : RoomFor room rows) where
+  count : length (keysOf rows) ≡ length rows
+  count = length-map rows (λ (k : Keyed). k .key)
+
+  below-before : (j : ℕ) → j < firstAtOrAbove target (keysOf rows) → below (getD (keysOf rows) j []) target ≡ true
+  below-before j h = first-before target (keysOf rows) j h
+
+  pub retry-present : (i : ℕ) → i < length rows → getD (keysOf rows) i [] ≡ target → Found b target rows room (sought-up b n t rows q target room f .c)
+  retry-present i h e = ⊎-elim (λ l. here (l .0) (l .2)) (λ l. absurd (late (l .0))) (sought-up b n t rows q target room f .landed)
+    where
+      first : ℕ
+      first = firstAtOrAbove target (keysOf rows)
+
+      c : Cursor
+      c = sought-up b n t rows q target room f .c
+
+      not-below : below target target ≡ false
+      not-below = le-below target target (at-most-refl target)
+
+      no-later : firstAtOrAbove target (keysOf rows) ≤ i
+      no-later = ⊎-elim (λ u. absurd (clash (rw e at (below-before i (u .1))) not-below)) (λ u. u .1) (ltb-cases i (firstAtOrAbove target (keysOf rows)))
+
+      late : firstAtOrAbove target (keysOf rows) ≡ length rows → ⊥
+      late z = omega (arith, no-later)
+
+      here : firstAtOrAbove target (keysOf rows) < length rows → WalksAll b room (sought-up b n t rows q target room f .c) (drop (firstAtOrAbove target (keysOf rows)) rows)
+          → Found b target rows room (sought-up b n t rows q target room f .c)
+      here l w = made (drop (firstAtOrAbove target (keysOf rows)) rows) refl w
+        where
+          made : (ks : List Keyed) → drop (firstAtOrAbove target (keysOf rows)) rows ≡ ks → WalksAll b room (sought-up b n t rows q target room f .c) ks
+              → Found b target rows room (sought-up b n t rows q target room f .c)
+          made [] z w = absurd (omega (arith, ap length z, length-drop (firstAtOrAbove target (keysOf rows)) rows))
+          made (k ∷ ks) z w =
+              let g = first-given b room (sought-up b n t rows q target room f .c) k ks (w .last) (w .walks) in
+              let key : getD (keysOf rows) (firstAtOrAbove target (keysOf rows)) [] ≡ k .key = key-at rows (firstAtOrAbove target (keysOf rows)) k ks z in
+              let up : AtMost target (k .key) = below-false (k .key) target (rw key at (first-here target (keysOf rows) (omega (arith, count)))) in
+              let down : AtMost (k .key) target = rw (key, e) at (sorted-by [] rows (q .in-order) (firstAtOrAbove target (keysOf rows)) i no-later h) in
+              record {
+                k = k;
+                rest = ks;
+                moved = g .0;
+                gives-it = g .1;
+                has-it = at-most-antisym (k .key) target down up;
+                stands-first = z;
+                none-before = λ j u e′. clash (rw e′ at (below-before j u)) not-below;
+              }
+
+  pub retry-absent : (k : Keyed) (moved : Cursor) → next (sought-up b n t rows q target room f .c) b room ≡ ok (stepIs moved (found (k .row) (k .key))) → k .key ≡ target
+      → (i : ℕ) × (i < length rows) × (getD (keysOf rows) i [] ≡ target)
+  retry-absent k moved e is = ⊎-elim (λ l. here (l .0) (l .2)) (λ l. absurd (never (l .1))) (sought-up b n t rows q target room f .landed)
+    where
+      here : firstAtOrAbove target (keysOf rows) < length rows → WalksAll b room (sought-up b n t rows q target room f .c) (drop (firstAtOrAbove target (keysOf rows)) rows)
+          → (i : ℕ) × (i < length rows) × (getD (keysOf rows) i [] ≡ target)
+      here l w = made (drop (firstAtOrAbove target (keysOf rows)) rows) refl w
+        where
+          made : (ks : List Keyed) → drop (firstAtOrAbove target (keysOf rows)) rows ≡ ks → WalksAll b room (sought-up b n t rows q target room f .c) ks
+              → (i : ℕ) × (i < length rows) × (getD (keysOf rows) i [] ≡ target)
+          made [] z w = absurd (omega (arith, ap length z, length-drop (firstAtOrAbove target (keysOf rows)) rows))
+          made (x ∷ ks) z w =
+              let g = first-given b room (sought-up b n t rows q target room f .c) x ks (w .last) (w .walks) in
+              let s : stepIs (g .0) (found (x .row) (x .key)) ≡ stepIs moved (found (k .row) (k .key)) = ok-inj (sym (g .1) ∙ e) in
+              let same : x .key ≡ k .key = keys-of (ap (λ (y : Step). y .answer) s) in
+              (firstAtOrAbove target (keysOf rows), l, key-at rows (firstAtOrAbove target (keysOf rows)) x ks z ∙ same ∙ is)
+            where
+              keys-of : {r s : RowRead} {x y : Key} → found r x ≡ found s y → x ≡ y
+              keys-of e = cc
+
+      never : sought-up b n t rows q target room f .c ≡ doneUp t → ⊥
+      never z =
+          let tells = trailerOf-tells b t (q .reads .trailer-good) in
+          let d : next (doneUp t) b room ≡ ok (stepIs (doneUp t) done) = next-marked (doneUp t) b room t (q .reads .trailer-good) (omega (arith, tells .1)) zero-le refl in
+          let s : stepIs (doneUp t) done ≡ stepIs moved (found (k .row) (k .key)) = ok-inj (sym d ∙ ap (λ (y : Cursor). next y b room) (sym z) ∙ e) in
+          apart (ap (λ (y : Step). y .answer) s)
+        where
+          apart : {r : RowRead} {x : Key} → done ≡ found r x → ⊥
+          apart e = let y : _≡_ {A = ℕ} 0 1 = cc in omega arith

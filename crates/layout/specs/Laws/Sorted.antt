@@ -72,7 +72,7 @@ module _ (p : Key → Bool) where
 
 -- ---- keys that never fall
 
-may-at-most : (a b : Key) → mayFollow a b ≡ true → AtMost a b
+pub may-at-most : (a b : Key) → mayFollow a b ≡ true → AtMost a b
 unfolding mayFollow
 may-at-most a b e = below-false b a (not-true (below b a) e)
 
