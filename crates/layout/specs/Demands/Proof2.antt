@@ -10,7 +10,7 @@ use native.Mathlib.Nat.{not-suc-le-zero}
 use native.Mathlib.Numerals.{add-one}
 use lib.Dec.{ltb, eqb}
 use lib.ListN.{length, take, drop, getD, length-append, length-drop, length-map}
-use lib.Seq.{drop-cons}
+use lib.Seq.{getD-drop}
 use borrow.Author.Tests.{eq-eqb}
 use Rattle.layout.specs.Answer.{Res, ok, refuse, bind}
 use Rattle.layout.specs.Limits.{maxKey, maxRestarts}
@@ -30,7 +30,7 @@ use Rattle.layout.specs.Demands.Proof3.{Encoded, encode-tells, encoded-f
 use Rattle.layout.specs.Laws.Answer.{ok-inj, ltb-cases, clash}
 use Rattle.layout.specs.Laws.Key.{AtMost, at-most-refl, at-most-trans, at-most-antisym, below-false, le-below, below-le}
 use Rattle.layout.specs.Laws.Row.{plain, placesOf, readRow-law, placesOf-fields, placesOf-key}
-use Rattle.layout.specs.Laws.Tells.{restart-least}
+use Rattle.layout.specs.Laws.Tells.{RowEnds, readRow-ends, restart-least}
 use Rattle.layout.specs.Laws.Trailer.{regionOf-tells, trailerOf-tells, OffsetsTell, allOffsets-tell}
 use Rattle.layout.specs.Laws.Cursor.{open-good, next-marked}
 use Rattle.layout.specs.Laws.Made.{Typed}
@@ -276,3 +276,84 @@ module _ (b : List ℕ) (n : ℕ) (t : Trailer) (rows : List Keyed) (q : Rows b 
         where
           apart : {r : RowRead} {x : Key} → done ≡ found r x → ⊥
           apart e = let y : _≡_ {A = ℕ} 0 1 = cc in omega arith
+
+-- ---- at most 5,042 restarts
+
+-- two bytes spell less than 65,536
+short-small : (b : List ℕ) (at : ℕ) → ((i : ℕ) → getD b i 0 < 256) → shortAt b at < 65536
+unfolding shortAt
+short-small b at h = two (drop at b) (λ i. rw (← getD-drop at b i 0) at (h (at + i)))
+  where
+    two : (s : List ℕ) → ((i : ℕ) → getD s i 0 < 256) → unbig (take 2 s) < 65536
+    two [] h = unfold unbig in omega arith
+    two (x ∷ []) h = unfold unbig in omega (arith, h 0)
+    two (x ∷ (y ∷ s)) h = unfold unbig in omega (arith, h 0, h 1)
+
+-- each region's restart takes 13 bytes, so the offsets lie as far apart
+offsets-apart : (b : List ℕ) (t : Trailer) (regions : List (List Keyed)) → Reads b t regions → (i : ℕ) → i < t .count → 13 * i ≤ offsetAt b t i
+offsets-apart b t regions q zero h = zero-le
+offsets-apart b t regions q (suc i) h =
+    let s = split-at b t regions q i (omega arith) in
+    let tells = regionOf-tells b t i (s .g) (s .used) in
+    let ih = offsets-apart b t regions q i (omega arith) in
+    let end : s .g .end ≡ offsetAt b t (suc i) = tells .inner (omega arith) .0 ∙ ap (offsetAt b t) (add-one i) in
+    region-at (t .size) (dataOf b t) (s .g) (s .g .start) [] (s .k ∷ s .ks) (s .rows-here) (omega (arith, tells .inside))
+    (λ over is. absurd (let z : _≡_ {A = ℕ} 0 1 = cc in omega arith))
+    (λ r qs m lt u more enough is.
+    let whole : readRow (dataOf b t) (s .g .start) (s .g .end) 0 true ≡ ok r = ap (readRow (dataOf b t) (s .g .start) (s .g .end) 0) (sym (eq-eqb (s .g .start) (s .g .start) refl)) ∙ u in
+    let far = restart-least (dataOf b t) (s .g .start) (s .g .end) 0 r whole in
+    let within = readRow-ends (dataOf b t) (s .g .start) (s .g .end) 0 true r whole .within in
+    omega (arith, tells .from, end, ih, far, within))
+
+pub restarts-few : (b : List ℕ) (t : Trailer) (regions : List (List Keyed)) → Reads b t regions → ((i : ℕ) → getD b i 0 < 256) → t .count ≤ maxRestarts
+restarts-few b t regions q h =
+    let some = trailerOf-tells b t (q .trailer-good) .1 in
+    let last = offsets-apart b t regions q (t .count - 1) (omega arith) in
+    omega (arith, short-small b (t .size + 2 * (t .count - 1)) h)
+
+-- ---- a finished block is accepted exactly when its keys never fall
+
+abbrev pub RowsNeverFall : Key → List Row → Type 0
+RowsNeverFall before [] = Unit {0}
+RowsNeverFall before (r ∷ rs) = (mayFollow before (r .key) ≡ true) × RowsNeverFall (r .key) rs
+
+same-keys : (d : List ℕ) (k : Keyed) (r : Row) → contentOf d k ≡ plainRow r → k .key ≡ r .key
+same-keys d k r e = ap (λ (x : Row). x .key) e
+
+falls-to : (d : List ℕ) (before : Key) (ks : List Keyed) (rows : List Row) → map (contentOf d) ks ≡ map plainRow rows → NeverFall before ks → RowsNeverFall before rows
+falls-to d before [] [] e o = tt
+falls-to d before [] (r ∷ rows) e o = absurd (let z : _≡_ {A = ℕ} 0 1 = cc in omega arith)
+falls-to d before (k ∷ ks) [] e o = tt
+falls-to d before (k ∷ ks) (r ∷ rows) e o =
+    let h : contentOf d k ≡ plainRow r = cc in
+    let t : map (contentOf d) ks ≡ map plainRow rows = cc in
+    let s = same-keys d k r h in
+    (rw s at (o .0), falls-to d (r .key) ks rows t (rw s at (o .1)))
+
+falls-from : (d : List ℕ) (before : Key) (ks : List Keyed) (rows : List Row) → map (contentOf d) ks ≡ map plainRow rows → RowsNeverFall before rows → NeverFall before ks
+falls-from d before [] rows e o = tt
+falls-from d before (k ∷ ks) [] e o = absurd (let z : _≡_ {A = ℕ} 0 1 = cc in omega arith)
+falls-from d before (k ∷ ks) (r ∷ rows) e o =
+    let h : contentOf d k ≡ plainRow r = cc in
+    let t : map (contentOf d) ks ≡ map plainRow rows = cc in
+    let s = same-keys d k r h in
+    (rw s (o .0), rw s (falls-from d (r .key) ks rows t (o .1)))
+
+pub laid-accepted : (b : List ℕ) (n : ℕ) (rows : List Row) → LaidBlock b n rows → RowsNeverFall [] rows → check b ≡ ok (length rows)
+laid-accepted b n rows l o =
+    accepts-check b (length rows)
+    (record {
+      t = l .t;
+      regions = l .regions;
+      reads = l .reads;
+      in-order = falls-from (dataOf b (l .t)) [] (allRows (l .regions)) rows (l .contents) o;
+      many =
+          sym (length-map rows plainRow) ∙ ap length (sym (l .contents)) ∙ length-map (allRows (l .regions)) (contentOf (dataOf b (l .t)));
+    })
+
+pub accepted-laid : (b : List ℕ) (n : ℕ) (rows : List Row) (k : ℕ) → LaidBlock b n rows → check b ≡ ok k → RowsNeverFall [] rows
+accepted-laid b n rows k l e =
+    let a = check-accepts b k e in
+    let t : a .t ≡ l .t = ok-inj (sym (a .reads .trailer-good) ∙ l .reads .trailer-good) in
+    let r : a .regions ≡ l .regions = ok-inj (sym (a .reads .rows-read) ∙ ap (λ (x : Trailer). regionsRows (x .count) b x 0) t ∙ l .reads .rows-read) in
+    falls-to (dataOf b (l .t)) [] (allRows (l .regions)) rows (l .contents) (rw r at (a .in-order))

@@ -129,7 +129,7 @@ pub laid-reads-back : (block : List ℕ) (n room : ℕ) (rows : List Row) → La
 laid-reads-back block n room rows l f =
     let q : Reads block (l .t) (l .regions) = l .reads in
     let r : RoomFor room (allRows (l .regions)) =
-        rooms room (dataOf block (l .t)) (allRows (l .regions)) rows (l .contents) (regions-keyeds (l .t .count) block (l .t) 0 (l .regions) (l .reads .rows-read)) f in
+    rooms room (dataOf block (l .t)) (allRows (l .regions)) rows (l .contents) (regions-keyeds (l .t .count) block (l .t) 0 (l .regions) (l .reads .rows-read)) f in
     record {
       t = l .t;
       given = allRows (l .regions);
