@@ -1,0 +1,71 @@
+-- Demand 2. Inside the limits, on blocks that the check accepts: a row decodes to what was encoded; an ascending seek lands on the first row whose key is at least the target, a
+-- descending seek on the last whose key is at most it, or says that none is left.
+--
+-- The rows of an accepted block (`Rows`) are named by their places. The right-hand sides are the definitions that the contracts name. The proofs are in Proof2.
+use Prim.Native.Nat.{ℕ, suc, _<_, _≤_}
+use mathlib.Core.Path.{_≡_, ap, sym, _∙_}
+use mathlib.Core.List.{List, [], _∷_, _++_}
+use lib.ListN.{length, getD}
+use Rattle.layout.specs.Answer.{ok}
+use Rattle.layout.specs.Limits.{maxRestarts}
+use Rattle.layout.specs.Key.{Key}
+use Rattle.layout.specs.Row.{Fields, Row, encodeRow}
+use Rattle.layout.specs.Trailer.{Trailer}
+use Rattle.layout.specs.Check.{check}
+use Rattle.layout.specs.Cursor.{ascending, Cursor, Keyed, found, stepIs, next}
+use Rattle.layout.specs.Seek.{Sought, soughtIs, seek}
+use Rattle.layout.specs.Demands.Runs.{Held, Call, Ran, Finishes, RoomFor}
+use Rattle.layout.specs.Demands.Proof3.{encode-tells, ran-laid}
+use Rattle.layout.specs.Demands.Proof2.{DecodesBack, decodes-back, Rows, Walked, rows-walked, accepted-rows, SoughtUp, SoughtDown, sought-up, sought-down, Found, retry-present, retry-absent, restarts-few, RowsNeverFall, laid-accepted, accepted-laid}
+use Rattle.layout.specs.Laws.Answer.{ok-inj}
+use Rattle.layout.specs.Laws.Made.{Typed}
+use Rattle.layout.specs.Laws.Accept.{Accepts, check-accepts, accepts-check}
+use Rattle.layout.specs.Laws.Sorted.{keysOf}
+
+-- A row that was encoded, before any bytes, decodes to what was encoded, and ends where it ended; its full key is the shared bytes of the previous key, then the suffix.
+pub decode-encode : (prevLen shared : ℕ) (suffix : List ℕ) (f : Fields) (room : ℕ) (w post : List ℕ) → Typed f → encodeRow prevLen shared suffix f room ≡ ok w
+    → DecodesBack prevLen shared suffix f w post
+decode-encode prevLen shared suffix f room w post t e = decodes-back prevLen shared suffix f w post (encode-tells prevLen shared suffix f room w e) t
+
+-- The check accepts exactly the blocks whose trailer and offsets are good and whose rows cover the data, one starting at each restart, with keys that never fall; and it answers
+-- how many rows there are.
+pub check-exact : (b : List ℕ) (n : ℕ) → (check b ≡ ok n → Accepts b n) × (Accepts b n → check b ≡ ok n)
+check-exact b n = (check-accepts b n, accepts-check b n)
+
+module _ (b : List ℕ) (n : ℕ) (accepted : check b ≡ ok n) where
+  -- An accepted block has rows, as many as the check says.
+  pub has-rows : (t : Trailer) × (rows : List Keyed) × Rows b n t rows
+  has-rows = accepted-rows b n accepted
+
+module _ (b : List ℕ) (n : ℕ) (t : Trailer) (rows : List Keyed) (q : Rows b n t rows) (room : ℕ) (fits : RoomFor room rows) where
+  -- A walk from an opened cursor gives every row, in order or reversed, and says "done" after exactly as many steps as there are rows, and ever after, with the cursor unchanged.
+  pub walk-steps : Walked b t room rows
+  walk-steps = rows-walked b n t rows q room fits
+
+  -- The rows walked after an ascending seek are exactly those from the first at or above the target on; it is marked "done" exactly when there is none.
+  pub seek-ascending-lands : (target : Key) → SoughtUp b t target rows room
+  seek-ascending-lands target = sought-up b n t rows q target room fits
+
+  -- The rows walked after a descending seek are exactly those back from the last at or below the target; it is marked "done" exactly when there is none.
+  pub seek-descending-lands : (target : Key) → SoughtDown b t target rows room
+  seek-descending-lands target = sought-down b n t rows q target room fits
+
+  -- Some row has the target as its key exactly when the row after the ascending seek has it; and then that is the first such row.
+  pub retry-found : (target : Key) (c : Cursor) (reads : ℕ) → seek ascending b target ≡ ok (soughtIs c reads)
+      → ((i : ℕ) → i < length rows → getD (keysOf rows) i [] ≡ target → Found b target rows room c)
+      × ((k : Keyed) (moved : Cursor) → next c b room ≡ ok (stepIs moved (found (k .row) (k .key))) → k .key ≡ target → (i : ℕ) × (i < length rows) × (getD (keysOf rows) i [] ≡ target))
+  retry-found target c reads e =
+      let s = sought-up b n t rows q target room fits in
+      let same : s .c ≡ c = ap (λ (x : Sought). x .cursor) (ok-inj (sym (s .is) ∙ e)) in
+      (λ i h k. rw same at (retry-present b n t rows q target room fits i h k), λ k moved g has. retry-absent b n t rows q target room fits k moved (rw same g) has)
+
+  -- Of bytes, it has at most 5,042 restarts.
+  pub restarts-at-most : ((i : ℕ) → getD b i 0 < 256) → t .count ≤ maxRestarts
+  restarts-at-most bytes = restarts-few b t (q .regions) (q .reads) bytes
+
+-- A finished block is accepted exactly when its keys never fall.
+pub finished-accepted : (size interval : ℕ) (calls : List Call) (rows : List Row) (end : Held) (block : List ℕ) → Ran size interval calls rows end → 1 ≤ length rows → Finishes end block
+    → (RowsNeverFall [] rows → check block ≡ ok (length rows)) × ((n : ℕ) → check block ≡ ok n → RowsNeverFall [] rows)
+finished-accepted size interval calls rows end block ran some f =
+    let l = ran-laid size interval calls rows end ran some block f in
+    (laid-accepted block interval rows l, λ n e. accepted-laid block interval rows n l e)
