@@ -8,11 +8,14 @@ pub mod Key
 pub mod Row
 pub mod Tells
 pub mod RowExits
+pub mod RowWrite
+pub mod Single
 pub mod Local
 pub mod First
 pub mod Search
 pub mod Block
 pub mod Trailer
+pub mod Offsets
 pub mod Builder
 pub mod Made
 pub mod Carry

@@ -1,0 +1,28 @@
+-- What each public function promises: equations to the definitions, that settle each number answered and each byte lent.
+use Prim.Native.Nat.{ℕ}
+use mathlib.Core.Path.{_≡_}
+use mathlib.Core.List.{List}
+use lib.ListN.{take}
+use Rattle.layout.specs.Block.{trailer}
+use Rattle.layout.specs.Trailer.{trailerOf}
+use Rattle.utils.specs.Promise.{Puts}
+use Rattle.utils.specs.declared.Put.{Put}
+use Rattle.block.specs.declared.Trailer.{Trailer}
+use Rattle.block.specs.declared.TrailerRead.{TrailerRead}
+use Rattle.block.specs.declared.RegionRead.{RegionRead}
+use Rattle.block.specs.declared.Tested.{Tested}
+use Rattle.block.specs.Handed.{regionAt, offsetsAt}
+use Rattle.block.specs.Says.{trailerFrom, saysTrailer, saysRegion, saysTested}
+
+abbrev pub ReadsTrailer : List ℕ → TrailerRead → Type 0
+ReadsTrailer b a = saysTrailer a ≡ trailerOf b
+
+abbrev pub ReadsRegion : List ℕ → Trailer → ℕ → RegionRead → Type 0
+ReadsRegion b t r a = saysRegion a ≡ regionAt b (trailerFrom t) r
+
+abbrev pub TestsOffsets : List ℕ → Trailer → Tested → Type 0
+TestsOffsets b t a = saysTested a ≡ offsetsAt b (trailerFrom t)
+
+-- the trailer of the first `count` offsets, or of all where there are fewer. Its last two bytes hold the low 16 bits of their count
+abbrev pub PutsTrailer : List ℕ → ℕ → List ℕ → ℕ → Put → List ℕ → Type 0
+PutsTrailer os count buf at r buf′ = Puts (trailer (take count os)) buf at r buf′

@@ -1,0 +1,53 @@
+-- What each case of an answer says: the values, or the number of the refusal. No two cases say the same.
+use mathlib.Core.Path.{_≡_, refl, ap, sym}
+use Rattle.layout.specs.Answer.{Res, ok, refuse}
+use Rattle.layout.specs.Trailer.{Trailer as TrailerL, trailerIs, Region as RegionL, regionIs}
+use Rattle.layout.specs.Laws.Answer.{ok-inj}
+use Rattle.types.specs.Answers.{apart, refused-one}
+use Rattle.types.specs.Number.{number}
+use Rattle.block.specs.declared.Trailer.{Trailer}
+use Rattle.block.specs.declared.TrailerRead.{TrailerRead}
+use Rattle.block.specs.declared.TrailerRead.the-variants.{Good as GoodTrailer, Refused as TrailerRefused}
+use Rattle.block.specs.declared.Region.{Region}
+use Rattle.block.specs.declared.RegionRead.{RegionRead}
+use Rattle.block.specs.declared.RegionRead.the-variants.{Good as GoodRegion, Refused as RegionRefused}
+use Rattle.block.specs.declared.Tested.{Tested}
+use Rattle.block.specs.declared.Tested.the-variants.{Good as GoodOffsets, Refused as OffsetsRefused}
+
+abbrev pub trailerFrom : Trailer → TrailerL
+trailerFrom t = trailerIs (t .count) (t .size)
+
+abbrev pub saysTrailer : TrailerRead → Res TrailerL
+saysTrailer (GoodTrailer t) = ok (trailerFrom t)
+saysTrailer (TrailerRefused r) = refuse (number r)
+
+abbrev pub regionFrom : Region → RegionL
+regionFrom g = regionIs (g .start) (g .end) (g .reach)
+
+abbrev pub saysRegion : RegionRead → Res RegionL
+saysRegion (GoodRegion g) = ok (regionFrom g)
+saysRegion (RegionRefused r) = refuse (number r)
+
+abbrev pub saysTested : Tested → Res (Unit {0})
+saysTested GoodOffsets = ok tt
+saysTested (OffsetsRefused r) = refuse (number r)
+
+-- ---- one to one
+
+pub saysTrailer-one : (a b : TrailerRead) → saysTrailer a ≡ saysTrailer b → a ≡ b
+saysTrailer-one (GoodTrailer t) (GoodTrailer u) e = ap (λ (x : TrailerL). GoodTrailer (record { count = x .count; size = x .size })) (ok-inj e)
+saysTrailer-one (GoodTrailer t) (TrailerRefused r) e = absurd (apart e)
+saysTrailer-one (TrailerRefused r) (GoodTrailer t) e = absurd (apart (sym e))
+saysTrailer-one (TrailerRefused r) (TrailerRefused q) e = ap TrailerRefused (refused-one e)
+
+pub saysRegion-one : (a b : RegionRead) → saysRegion a ≡ saysRegion b → a ≡ b
+saysRegion-one (GoodRegion g) (GoodRegion h) e = ap (λ (x : RegionL). GoodRegion (record { start = x .start; end = x .end; reach = x .reach })) (ok-inj e)
+saysRegion-one (GoodRegion g) (RegionRefused r) e = absurd (apart e)
+saysRegion-one (RegionRefused r) (GoodRegion g) e = absurd (apart (sym e))
+saysRegion-one (RegionRefused r) (RegionRefused q) e = ap RegionRefused (refused-one e)
+
+pub saysTested-one : (a b : Tested) → saysTested a ≡ saysTested b → a ≡ b
+saysTested-one GoodOffsets GoodOffsets e = refl
+saysTested-one GoodOffsets (OffsetsRefused r) e = absurd (apart e)
+saysTested-one (OffsetsRefused r) GoodOffsets e = absurd (apart (sym e))
+saysTested-one (OffsetsRefused r) (OffsetsRefused q) e = ap OffsetsRefused (refused-one e)

@@ -1,0 +1,225 @@
+// The trailer of a block, written and read: the restarts' offsets and their count; and the restart regions that the offsets bound.
+// Follows slatedb 0.16.0, src/format/block.rs, and `restart_region_end` of src/block_iterator_v2.rs (Apache License 2.0), and is
+// changed: offsets are read where they stand, each when it is used, and what a block's bytes or a lent buffer can break is a refusal.
+ghost use mathlib.Core.Path.{_≡_};
+ghost use Prim.Native.Nat.{_≤_, _<_, _+_, _*_, _%_, min};
+ghost use lib.ListN.{length};
+ghost use Rattle.layout.specs.Trailer.{shortAt, firstOf, regionOf, allOffsets};
+ghost use Rattle.block.specs.Handed.{belongs};
+ghost use Rattle.block.specs.Says.{trailerFrom, saysRegion, saysTested};
+ghost use Rattle.block.specs.Promise.{ReadsTrailer, ReadsRegion, TestsOffsets, PutsTrailer};
+use types::Refusal;
+use utils::Put;
+use utils::ShortRead;
+
+// How many restarts there are, and how many bytes of rows.
+pub struct Trailer {
+    pub count: usize,
+    pub size: usize,
+}
+
+pub enum TrailerRead {
+    Good(Trailer),
+    Refused(Refusal),
+}
+
+// A restart region runs from `start` to before `end`. `reach` is the last position that an ascending cursor may have in it:
+// before its end, and in the last region also at the end.
+pub struct Region {
+    pub start: usize,
+    pub end: usize,
+    pub reach: usize,
+}
+
+pub enum RegionRead {
+    Good(Region),
+    Refused(Refusal),
+}
+
+pub enum Tested {
+    Good,
+    Refused(Refusal),
+}
+
+// The two bytes at `at`, high byte first.
+fn short_at(block: &[u8], at: usize) -> usize
+    requires { ⌜ at + 2 ≤ length (now block) ⌝ }
+    ensures { λ r. ⌜ (r ≡ shortAt (now (block .entry)) at) × (r < 65536) ⌝ }
+{
+    let a = utils::get_u16(block, at);
+    // Never taken: the bytes are there.
+    let ShortRead::Short { value, next: _ } = a else {
+        return 0;
+    };
+    value as usize
+}
+
+// Reads the count and tests it against the block: 14.
+pub fn trailer_of(block: &[u8]) -> TrailerRead
+    ensures { λ r. ⌜ ReadsTrailer (now (block .entry)) r ⌝ }
+{
+    if block.len() < 2 {
+        return TrailerRead::Refused(Refusal::BadTrailer);
+    }
+    let count = short_at(block, block.len() - 2);
+    if count == 0 {
+        return TrailerRead::Refused(Refusal::BadTrailer);
+    }
+    let taken = 2 + 2 * count;
+    if block.len() < taken {
+        return TrailerRead::Refused(Refusal::BadTrailer);
+    }
+    TrailerRead::Good(Trailer {
+        count,
+        size: block.len() - taken,
+    })
+}
+
+// Whether these numbers are those of a block of `len` bytes. They may be any, so no sum is made of them that may wrap.
+fn belongs_to(t: Trailer, len: usize) -> bool
+    ensures { λ r. ⌜ r ≡ belongs len (trailerFrom t) ⌝ }
+{
+    if len < 2 {
+        return false;
+    }
+    let taken = len - 2;
+    if taken / 2 < t.count {
+        return false;
+    }
+    t.size == taken - 2 * t.count
+}
+
+// What must be 0: the offset of region 0.
+fn first_of(r: usize, offset: usize) -> usize
+    ensures { λ x. ⌜ x ≡ firstOf r offset ⌝ }
+{
+    if r == 0 { offset } else { 0 }
+}
+
+fn region_in(block: &[u8], t: Trailer, r: usize) -> RegionRead
+    requires { ⌜ (t .size + (2 + 2 * t .count) ≡ length (now block)) × (r < t .count) ⌝ }
+    ensures { λ a. ⌜ saysRegion a ≡ regionOf (now (block .entry)) (trailerFrom t) r ⌝ }
+{
+    let size = t.size;
+    let start = short_at(block, size + 2 * r);
+    if 0 < first_of(r, start) {
+        return RegionRead::Refused(Refusal::BadOffset);
+    }
+    if size <= start {
+        return RegionRead::Refused(Refusal::BadOffset);
+    }
+    if r + 1 < t.count {
+        let end = short_at(block, size + 2 * (r + 1));
+        if end <= start {
+            return RegionRead::Refused(Refusal::BadOffset);
+        }
+        if size <= end {
+            return RegionRead::Refused(Refusal::BadOffset);
+        }
+        return RegionRead::Good(Region {
+            start,
+            end,
+            reach: end - 1,
+        });
+    }
+    RegionRead::Good(Region {
+        start,
+        end: size,
+        reach: size,
+    })
+}
+
+// Region `r`, with its offset and the next tested: 15. No other offset is looked at.
+pub fn region_of(block: &[u8], t: Trailer, r: usize) -> RegionRead
+    ensures { λ a. ⌜ ReadsRegion (now (block .entry)) t r a ⌝ }
+{
+    if !belongs_to(t, block.len()) {
+        return RegionRead::Refused(Refusal::BadTrailer);
+    }
+    if t.count <= r {
+        return RegionRead::Refused(Refusal::BadTrailer);
+    }
+    region_in(block, t, r)
+}
+
+fn offsets_rise(block: &[u8], t: Trailer) -> Tested
+    requires { ⌜ (t .size + (2 + 2 * t .count) ≡ length (now block)) × (1 ≤ t .count) ⌝ }
+    ensures { λ r. ⌜ saysTested r ≡ allOffsets (now (block .entry)) (trailerFrom t) ⌝ }
+{
+    let size = t.size;
+    let count = t.count;
+    let first = short_at(block, size);
+    if 0 < first {
+        return Tested::Refused(Refusal::BadOffset);
+    }
+    if size <= first {
+        return Tested::Refused(Refusal::BadOffset);
+    }
+    let mut previous = first;
+    let mut r: usize = 1;
+    while r < count {
+        let offset = short_at(block, size + 2 * r);
+        if offset <= previous {
+            return Tested::Refused(Refusal::BadOffset);
+        }
+        if size <= offset {
+            return Tested::Refused(Refusal::BadOffset);
+        }
+        previous = offset;
+        r += 1;
+    }
+    Tested::Good
+}
+
+// All of 15: the first offset is 0, each is above the one before and below the data's length.
+pub fn all_offsets(block: &[u8], t: Trailer) -> Tested
+    ensures { λ r. ⌜ TestsOffsets (now (block .entry)) t r ⌝ }
+{
+    if !belongs_to(t, block.len()) {
+        return Tested::Refused(Refusal::BadTrailer);
+    }
+    if t.count == 0 {
+        return Tested::Refused(Refusal::BadTrailer);
+    }
+    offsets_rise(block, t)
+}
+
+fn least(a: usize, b: usize) -> usize
+    ensures { λ r. ⌜ r ≡ min a b ⌝ }
+{
+    if a < b { a } else { b }
+}
+
+// Two bytes hold the low 16 bits of a count.
+fn low_16(n: usize) -> u16
+    ensures { λ r. ⌜ r ≡ n % 65536 ⌝ }
+{
+    (n % 65536) as u16
+}
+
+// Writes the first `count` offsets, or all where there are fewer, and then how many they are. The room is tested before the
+// first store, since a refusal writes nothing.
+pub fn put_trailer(buf: &mut [u8], at: usize, offsets: &[u16], count: usize) -> Put
+    ensures { λ r. ⌜ PutsTrailer (now (offsets .entry)) count (now (buf .entry)) at r (now (buf .exit)) ⌝ }
+{
+    let n = least(count, offsets.len());
+    if buf.len() < at {
+        return Put::Refused(Refusal::BufferTooSmall);
+    }
+    // Two bytes for each offset, and two for their count.
+    if (buf.len() - at) / 2 <= n {
+        return Put::Refused(Refusal::BufferTooSmall);
+    }
+    let mut next = at;
+    let mut i: usize = 0;
+    while i < n {
+        let p = utils::put_u16(buf, next, offsets[i]);
+        // Never taken: there is room.
+        let Put::At(after) = p else {
+            return p;
+        };
+        next = after;
+        i += 1;
+    }
+    utils::put_u16(buf, next, low_16(n))
+}

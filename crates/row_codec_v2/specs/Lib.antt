@@ -1,0 +1,5 @@
+pub mod Says
+pub mod Parts
+pub mod Promise
+pub mod OneOutcome
+pub mod Reading

@@ -1,0 +1,40 @@
+-- Each promise admits one outcome: two results, with the buffers that they leave, that both keep it are equal.
+use Prim.Native.Nat.{ℕ}
+use mathlib.Core.Path.{_≡_, sym, _∙_}
+use mathlib.Core.List.{List}
+use Rattle.types.specs.declared.Kind.{Kind}
+use Rattle.types.specs.declared.Time.{Time}
+use Rattle.row_codec_v2.specs.declared.RowFields.{RowFields}
+use Rattle.row_codec_v2.specs.declared.Sized.{Sized}
+use Rattle.row_codec_v2.specs.declared.Encoded.{Encoded}
+use Rattle.row_codec_v2.specs.declared.Restored.{Restored}
+use Rattle.row_codec_v2.specs.Promise.{Flagged, Sizes, Encodes, Restores, Decodes, DecodesAt, DecodesKey}
+use Rattle.row_codec_v2.specs.Says.{saysSized-one, saysEncoded-one, saysRestored-one, saysRow-one, saysKey-one}
+use mathlib.Core.Bool.{Bool}
+use Rattle.row_codec_v2.specs.declared.RowRead.{RowRead}
+use Rattle.row_codec_v2.specs.declared.KeyRead.{KeyRead}
+
+pub flags-settled : (row : RowFields) (m n : ℕ) → Flagged row m → Flagged row n → m ≡ n
+flags-settled row m n p q = p ∙ sym q
+
+pub encoded-size-settled : (shared suffixLen : ℕ) (kind : Kind) (valueLen : ℕ) (expire create : Time) (r q : Sized)
+    → Sizes shared suffixLen kind valueLen expire create r → Sizes shared suffixLen kind valueLen expire create q → r ≡ q
+encoded-size-settled shared suffixLen kind valueLen expire create r q a b = saysSized-one r q (a ∙ sym b)
+
+pub encode-settled : (prevLen shared : ℕ) (suffix value : List ℕ) (row : RowFields) (out : List ℕ) (r q : Encoded) (ys zs : List ℕ)
+    → Encodes prevLen shared suffix value row out r ys → Encodes prevLen shared suffix value row out q zs → (r ≡ q) × (ys ≡ zs)
+encode-settled prevLen shared suffix value row out r q ys zs a b = (saysEncoded-one r q (a .answer ∙ sym (b .answer)), a .bytes ∙ sym (b .bytes))
+
+pub restore-full-key-settled : (prev : List ℕ) (shared : ℕ) (suffix out : List ℕ) (r q : Restored) (ys zs : List ℕ)
+    → Restores prev shared suffix out r ys → Restores prev shared suffix out q zs → (r ≡ q) × (ys ≡ zs)
+restore-full-key-settled prev shared suffix out r q ys zs a b = (saysRestored-one r q (a .answer ∙ sym (b .answer)), a .bytes ∙ sym (b .bytes))
+
+pub decode-settled : (s : List ℕ) (prevLen : ℕ) (r q : RowRead) → Decodes s prevLen r → Decodes s prevLen q → r ≡ q
+decode-settled s prevLen r q a b = saysRow-one r q (a ∙ sym b)
+
+module _ (s : List ℕ) (at end prevLen : ℕ) (restart : Bool) where
+  pub decode-at-settled : (r q : RowRead) → DecodesAt s at end prevLen restart r → DecodesAt s at end prevLen restart q → r ≡ q
+  decode-at-settled r q a b = saysRow-one r q (a ∙ sym b)
+
+  pub decode-key-only-settled : (r q : KeyRead) → DecodesKey s at end prevLen restart r → DecodesKey s at end prevLen restart q → r ≡ q
+  decode-key-only-settled r q a b = saysKey-one r q (a ∙ sym b)
