@@ -45,3 +45,8 @@ allRows (rows ∷ more) = rows ++ allRows more
 abbrev pub NeverFall : Key → List Keyed → Type 0
 NeverFall before [] = Unit {0}
 NeverFall before (k ∷ ks) = (mayFollow before (k .key) ≡ true) × NeverFall (k .key) ks
+
+-- what holds of each of some rows
+abbrev pub AllOf : (Keyed → Type 0) → List Keyed → Type 0
+AllOf P [] = Unit {0}
+AllOf P (k ∷ ks) = P k × AllOf P ks

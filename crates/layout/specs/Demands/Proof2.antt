@@ -16,7 +16,7 @@ use Rattle.layout.specs.Answer.{Res, ok, refuse, bind}
 use Rattle.layout.specs.Limits.{maxKey, maxRestarts}
 use Rattle.layout.specs.Key.{Key, below, mayFollow, leading, isBelow, notAbove, firstAtOrAbove, firstAbove}
 use Rattle.layout.specs.Row.{Fields, Row, rowBytes}
-use Rattle.layout.specs.RowRead.{RowRead, readRow, decodeRow, keyOf, fieldsOf}
+use Rattle.layout.specs.RowRead.{RowRead, readRow, decodeRow, keyLength, keyOf, fieldsOf}
 use Rattle.layout.specs.Block.{blockBytes, blockRows, offsets}
 use Rattle.layout.specs.Fixed.{unbig}
 use Rattle.layout.specs.Trailer.{shortAt, Trailer, trailerOf, dataOf, offsetAt, Region, regionOf}
@@ -35,7 +35,7 @@ use Rattle.layout.specs.Laws.Trailer.{regionOf-tells, trailerOf-tells, O
 use Rattle.layout.specs.Laws.Cursor.{open-good, next-marked}
 use Rattle.layout.specs.Laws.Made.{Typed}
 use Rattle.layout.specs.Laws.Block.{AllOk, AllFit}
-use Rattle.layout.specs.Laws.Reads.{region-at}
+use Rattle.layout.specs.Laws.Reads.{region-at, rows-all}
 use Rattle.layout.specs.Laws.Ascend.{Before, opened-before}
 use Rattle.layout.specs.Laws.Descend.{After, opened-after}
 use Rattle.layout.specs.Laws.Accept.{Accepts, check-accepts, accepts-check}
@@ -108,6 +108,12 @@ pub accepted-rows : (b : List ℕ) (n : ℕ) → check b ≡ ok n → (t : Trail
 accepted-rows b n e =
     let a = check-accepts b n e in
     (a .t, allRows (a .regions), record { regions = a .regions; reads = a .reads; are = refl; in-order = a .in-order; many = a .many })
+
+-- a key buffer of the key limit has room for every row's key
+pub rows-room : (b : List ℕ) (n : ℕ) (t : Trailer) (rows : List Keyed) → Rows b n t rows → RoomFor maxKey rows
+rows-room b n t rows q =
+    rw (q .are)
+    (rows-all (λ (k : Keyed). keyLength (k .row) ≤ maxKey) (λ d at end before restart r e. readRow-ends d at end (length before) restart r e .fits) (t .count) b t 0 (q .regions) (q .reads .rows-read))
 
 -- ---- seeks
 

@@ -17,7 +17,7 @@ use Rattle.layout.specs.Block.{blockBytes, offsets}
 use Rattle.layout.specs.Trailer.{Trailer, trailerOf, dataOf, Region, regionOf, allOffsets}
 use Rattle.layout.specs.Builder.{blockAfter}
 use Rattle.layout.specs.Cursor.{ascending, descending, Cursor, opened, openBlock, Keyed, keyed}
-use Rattle.layout.specs.Reads.{regionRows, regionsRows, Reads, allRows}
+use Rattle.layout.specs.Reads.{regionsRows, Reads, allRows, AllOf}
 use Rattle.layout.specs.Demands.Runs.{Held, Call, buildOf, Ran, Finishes, RoomFor, backwards}
 use Rattle.layout.specs.Demands.RunsProof.{made-ran, made-finishes, WalksAll, walks-before, walks-after}
 use Rattle.layout.specs.Laws.Answer.{bind-then, guard-then, ok-inj}
@@ -28,8 +28,7 @@ use Rattle.layout.specs.Laws.Carry.{keyOf-length}
 use Rattle.layout.specs.Laws.Block.{RowOk, AllOk, AllFit}
 use Rattle.layout.specs.Laws.Cursor.{open-good}
 use Rattle.layout.specs.Laws.Made.{Typed, Made}
-use Rattle.layout.specs.Laws.Trailer.{regionOf-tells}
-use Rattle.layout.specs.Laws.Reads.{region-at, RegionsAre, next as next-region, regions-are, regions-none, allRows-none, allRows-next}
+use Rattle.layout.specs.Laws.Reads.{rows-all}
 use Rattle.layout.specs.Laws.Ascend.{opened-before}
 use Rattle.layout.specs.Laws.Descend.{opened-after}
 use Rattle.layout.specs.Laws.Laid.{contentOf, plainRow, LaidBlock, laid-block}
@@ -75,31 +74,7 @@ same-rows b n₁ n₂ rows₁ rows₂ p q =
 
 -- keys that are read are as long as their rows say
 abbrev Keyeds : List Keyed → Type 0
-Keyeds [] = Unit {0}
-Keyeds (k ∷ ks) = (length (k .key) ≡ keyLength (k .row)) × Keyeds ks
-
-keyeds-append : (xs ys : List Keyed) → Keyeds xs → Keyeds ys → Keyeds (xs ++ ys)
-keyeds-append [] ys a b = b
-keyeds-append (x ∷ xs) ys a b = (a .0, keyeds-append xs ys (a .1) b)
-
-region-keyeds : (ks : List Keyed) (left : ℕ) (d : List ℕ) (g : Region) (at : ℕ) (before : Key) → regionRows left d g at before ≡ ok ks → g .end ≤ at + left → Keyeds ks
-region-keyeds [] left d g at before p h = tt
-region-keyeds (k ∷ ks) left d g at before p h =
-    region-at left d g at before (k ∷ ks) p h
-    (λ over is. absurd (let z : _≡_ {A = ℕ} 0 1 = cc in omega arith))
-    (λ r qs m lt u more enough is.
-    let first : keyed r (keyOf d before r) ≡ k = cc in
-    let tail : qs ≡ ks = cc in
-    (rw (← first) (keyOf-length d at (g .end) before (eqb at (g .start)) r u), region-keyeds ks m d g (r .next) (keyOf d before r) (more ∙ ap ok tail) enough))
-
-regions-keyeds : (left : ℕ) (b : List ℕ) (t : Trailer) (region : ℕ) (rss : List (List Keyed)) → regionsRows left b t region ≡ ok rss → Keyeds (allRows rss)
-regions-keyeds zero b t region rss p = rw (regions-none b t region rss p, allRows-none) tt
-regions-keyeds (suc left) b t region rss p = go rss (regions-are left b t region rss p) (regions-keyeds left b t (suc region))
-  where
-    go : (rss : List (List Keyed)) → RegionsAre left b t region rss → ((rss : List (List Keyed)) → regionsRows left b t (suc region) ≡ ok rss → Keyeds (allRows rss)) → Keyeds (allRows rss)
-    go rss (next-region g rows more u q w) ih =
-        rw (allRows-next rows more)
-        (keyeds-append rows (allRows more) (region-keyeds rows (t .size) (dataOf b t) g (g .start) [] q (omega (arith, regionOf-tells b t region g u .inside))) (ih more w))
+Keyeds ks = AllOf (λ (k : Keyed). length (k .key) ≡ keyLength (k .row)) ks
 
 -- a buffer no shorter than any accepted key has room for each row's
 abbrev pub KeysFit : ℕ → List Row → Type 0
@@ -129,7 +104,7 @@ pub laid-reads-back : (block : List ℕ) (n room : ℕ) (rows : List Row) → La
 laid-reads-back block n room rows l f =
     let q : Reads block (l .t) (l .regions) = l .reads in
     let r : RoomFor room (allRows (l .regions)) =
-    rooms room (dataOf block (l .t)) (allRows (l .regions)) rows (l .contents) (regions-keyeds (l .t .count) block (l .t) 0 (l .regions) (l .reads .rows-read)) f in
+    rooms room (dataOf block (l .t)) (allRows (l .regions)) rows (l .contents) (rows-all (λ (k : Keyed). length (k .key) ≡ keyLength (k .row)) keyOf-length (l .t .count) block (l .t) 0 (l .regions) (l .reads .rows-read)) f in
     record {
       t = l .t;
       given = allRows (l .regions);

@@ -10,6 +10,7 @@ use Rattle.layout.specs.Row.{Fields, Row}
 use Rattle.layout.specs.RowRead.{keyLength}
 use Rattle.layout.specs.Builder.{Builder, newBuilder, add, stateAfter, dataAfter, placesAfter, build, blockAfter}
 use Rattle.layout.specs.Cursor.{Cursor, Keyed, keyed, found, done, Step, stepIs, next}
+use Rattle.layout.specs.Reads.{AllOf}
 use Rattle.layout.specs.Laws.Made.{Typed}
 
 -- ---- a builder, over its two lent buffers
@@ -103,8 +104,7 @@ pub record EndsDone (b : List ℕ) (room : ℕ) (c : Cursor) (marked-one : Curso
 
 -- a key buffer no shorter than any key
 abbrev pub RoomFor : ℕ → List Keyed → Type 0
-RoomFor room [] = Unit {0}
-RoomFor room (k ∷ ks) = (keyLength (k .row) ≤ room) × RoomFor room ks
+RoomFor room ks = AllOf (λ (k : Keyed). keyLength (k .row) ≤ room) ks
 
 -- the last row first
 unfoldable pub backwards : List Keyed → List Keyed

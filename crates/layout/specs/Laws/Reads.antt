@@ -15,8 +15,9 @@ use Rattle.layout.specs.Key.{Key}
 use Rattle.layout.specs.RowRead.{RowRead, readRow, keyLength, keyOf}
 use Rattle.layout.specs.Trailer.{Trailer, dataOf, Region, regionOf}
 use Rattle.layout.specs.Cursor.{Keyed, keyed}
-use Rattle.layout.specs.Reads.{regionRows, regionsRows, allRows}
+use Rattle.layout.specs.Reads.{regionRows, regionsRows, allRows, AllOf}
 use Rattle.layout.specs.Laws.Answer.{bind-then, ok-inj, ltb-cases}
+use Rattle.layout.specs.Laws.Trailer.{RegionTells, regionOf-tells}
 use Rattle.layout.specs.Laws.Tells.{RowEnds, readRow-ends}
 
 -- ---- a region
@@ -131,3 +132,30 @@ allRows-none = refl
 pub allRows-next : (rows : List Keyed) (rest : List (List Keyed)) → allRows (rows ∷ rest) ≡ rows ++ allRows rest
 unfolding allRows
 allRows-next rows rest = refl
+
+-- ---- what holds of each row that is read holds of all rows
+
+pub all-append : (P : Keyed → Type 0) (xs ys : List Keyed) → AllOf P xs → AllOf P ys → AllOf P (xs ++ ys)
+all-append P [] ys a b = b
+all-append P (x ∷ xs) ys a b = (a .0, all-append P xs ys (a .1) b)
+
+module _ (P : Keyed → Type 0)
+    (each : (d : List ℕ) (at end : ℕ) (before : Key) (restart : Bool) (r : RowRead) → readRow d at end (length before) restart ≡ ok r → P (keyed r (keyOf d before r))) where
+  region-all : (ks : List Keyed) (left : ℕ) (d : List ℕ) (g : Region) (at : ℕ) (before : Key) → regionRows left d g at before ≡ ok ks → g .end ≤ at + left → AllOf P ks
+  region-all [] left d g at before p h = tt
+  region-all (k ∷ ks) left d g at before p h =
+      region-at left d g at before (k ∷ ks) p h
+      (λ over is. absurd (let z : _≡_ {A = ℕ} 0 1 = cc in omega arith))
+      (λ r qs m lt u rest enough is.
+      let first : keyed r (keyOf d before r) ≡ k = cc in
+      let tail : qs ≡ ks = cc in
+      (rw (← first) (each d at (g .end) before (eqb at (g .start)) r u), region-all ks m d g (r .next) (keyOf d before r) (rest ∙ ap ok tail) enough))
+
+  pub rows-all : (left : ℕ) (b : List ℕ) (t : Trailer) (region : ℕ) (rss : List (List Keyed)) → regionsRows left b t region ≡ ok rss → AllOf P (allRows rss)
+  rows-all zero b t region rss p = rw (regions-none b t region rss p, allRows-none) tt
+  rows-all (suc left) b t region rss p = go rss (regions-are left b t region rss p) (rows-all left b t (suc region))
+    where
+      go : (rss : List (List Keyed)) → RegionsAre left b t region rss → ((rss : List (List Keyed)) → regionsRows left b t (suc region) ≡ ok rss → AllOf P (allRows rss)) → AllOf P (allRows rss)
+      go rss (next g rows rest u q w) ih =
+          rw (allRows-next rows rest)
+          (all-append P rows (allRows rest) (region-all rows (t .size) (dataOf b t) g (g .start) [] q (omega (arith, regionOf-tells b t region g u .inside))) (ih rest w))

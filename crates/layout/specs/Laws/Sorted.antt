@@ -10,7 +10,7 @@ use lib.ListN.{length, take, drop, length-append}
 use borrow.Author.Tests.{not-true}
 use Rattle.layout.specs.Key.{Key, below, mayFollow, leading, isBelow, notAbove}
 use Rattle.layout.specs.Cursor.{Keyed}
-use Rattle.layout.specs.Reads.{NeverFall}
+use Rattle.layout.specs.Reads.{NeverFall, AllOf}
 use Rattle.layout.specs.Laws.Answer.{bool-cases, clash}
 use Rattle.layout.specs.Laws.Key.{AtMost, at-most-refl, at-most-trans, below-false, le-below, below-le, below-trans}
 
@@ -20,12 +20,7 @@ keysOf ks = map (λ (k : Keyed). k .key) ks
 -- ---- rows that all pass a test
 
 abbrev pub AllPass : (Key → Bool) → List Keyed → Type 0
-AllPass p [] = Unit {0}
-AllPass p (k ∷ ks) = (p (k .key) ≡ true) × AllPass p ks
-
-pub pass-append : (p : Key → Bool) (xs ys : List Keyed) → AllPass p xs → AllPass p ys → AllPass p (xs ++ ys)
-pass-append p [] ys a b = b
-pass-append p (x ∷ xs) ys a b = (a .0, pass-append p xs ys (a .1) b)
+AllPass p ks = AllOf (λ (k : Keyed). p (k .key) ≡ true) ks
 
 module _ (p : Key → Bool) where
   -- leading rows that pass are counted whole
