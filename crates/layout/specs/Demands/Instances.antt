@@ -1,0 +1,132 @@
+-- Each demand's theorem once, on the desk's own rows, so that none is empty: what a theorem asks for is there, by computation, for a run that makes case 2's block with calls of every kind
+-- and a refused row among them, and for case 8's block.
+use Prim.Native.Nat.{ℕ, zero, suc, _+_, _<_, _≤_}
+use mathlib.Core.Path.{_≡_, refl, ap, sym, _∙_}
+use mathlib.Core.Bool.{Bool, true, false}
+use mathlib.Core.List.{List, [], _∷_, _++_, map}
+use native.Mathlib.Omega.{arith}
+use lib.Count.{leadingZeros}
+use lib.ListN.{length, take, replicate, getD}
+use Rattle.layout.specs.Answer.{Res, ok, refuse}
+use Rattle.layout.specs.Limits.{maxKey, maxRestarts}
+use Rattle.layout.specs.Varint.{varint, varintIn, varintLength, readVarint, readVarintIn}
+use Rattle.layout.specs.Fixed.{big, unbig, bits, unbits}
+use Rattle.layout.specs.Place.{varintAt, fixedAt, splice}
+use Rattle.layout.specs.Key.{Key, below, mayFollow, common}
+use Rattle.layout.specs.Row.{Kind, value, Time, Absent, Fields, Row, timeBytes, rowBytes, rowSize, keyLengthTests, lengthTests, encodeRow}
+use Rattle.layout.specs.RowRead.{RowRead, lengthsAt, headAt, flagsAt, bodyAt, timeAt, timesAt, rowAt, readRow, readKey, decodeRow}
+use Rattle.layout.specs.Block.{isRestart, shareOf, laidRow, rowsFrom, offsetsFrom, blockRows, offsets, offsetBytes, trailer, blockBytes}
+use Rattle.layout.specs.Trailer.{shortAt, Trailer, dataOf, trailerOf, risingFrom, allOffsets, regionOf}
+use Rattle.layout.specs.Builder.{Builder, fresh, newBuilder, stateTests, fits, wouldFit, add, build}
+use Rattle.layout.specs.Check.{checkRow, checkFrom, check}
+use Rattle.layout.specs.Cursor.{ascending, descending, opened, openBlock, Keyed}
+use Rattle.layout.specs.Cases.{rowWith}
+use Rattle.layout.specs.Demands.Runs.{Held, held, Call, offer, would-fit, is-empty, finish, run, rowsOf, Ran, Finishes, backwards}
+use Rattle.layout.specs.Demands.RunsProof.{WalksAll}
+use Rattle.layout.specs.Demands.Proof2.{DecodesBack, Rows, Walked, SoughtUp, SoughtDown, rows-room}
+use Rattle.layout.specs.Demands.Proof3.{KeysFit}
+use Rattle.layout.specs.Demands.Demand2.{decode-encode, has-rows, walk-steps, seek-ascending-lands, seek-descending-lands, finished-accepted}
+use Rattle.layout.specs.Demands.Demand3.{run-finishes, blocks-differ, reads-forwards, reads-backwards}
+use Rattle.layout.specs.Laws.Made.{Typed}
+use Rattle.layout.specs.Laws.Laid.{contentOf, plainRow}
+
+-- ---- case 2, by a run
+
+abbrev rowA : Row
+rowA = rowWith (97 ∷ []) [] 1
+
+abbrev rowAB : Row
+rowAB = rowWith (97 ∷ 98 ∷ []) (120 ∷ []) 2
+
+-- an empty key is refused
+abbrev noKey : Row
+noKey = rowWith [] [] 3
+
+abbrev pub calls2 : List Call
+calls2 = is-empty ∷ offer rowA ∷ offer noKey ∷ finish ∷ would-fit rowAB ∷ offer rowAB ∷ []
+
+abbrev start2 : Held
+start2 = held (fresh 4096 16) (replicate 48 7) (replicate 2 7)
+
+typed : (k : Key) (v : List ℕ) (q : ℕ) → q < 100 → Typed (rowWith k v q .fields)
+typed k v q h = record { seq-fits = omega arith; expire-fits = tt; create-fits = tt }
+
+pub case-2-ran : Ran 4096 16 calls2 (rowA ∷ rowAB ∷ []) (run start2 calls2)
+unfolding leadingZeros run rowsOf newBuilder stateTests fits wouldFit add build keyLengthTests lengthTests isRestart shareOf laidRow rowBytes timeBytes big varint varintIn common splice trailer offsetBytes
+case-2-ran =
+    record {
+      fresh-one = fresh 4096 16;
+      bytes = replicate 48 7;
+      places = replicate 2 7;
+      is-new = refl;
+      typed = (tt, (typed (97 ∷ []) [] 1 (omega arith), (typed [] [] 3 (omega arith), (tt, (tt, (typed (97 ∷ 98 ∷ []) (120 ∷ []) 2 (omega arith), tt))))));
+      rows-are = refl;
+      ends = refl;
+    }
+
+pub case-2-finishes : Finishes (run start2 calls2) (blockBytes 16 (rowA ∷ rowAB ∷ []))
+case-2-finishes = run-finishes 4096 16 calls2 (rowA ∷ rowAB ∷ []) (run start2 calls2) case-2-ran (omega arith)
+
+-- and that block is case 2's
+pub case-2-block : blockBytes 16 (rowA ∷ rowAB ∷ [])
+    ≡ 0 ∷ 1 ∷ 0 ∷ 97 ∷ 0 ∷ 0 ∷ 0 ∷ 0 ∷ 0 ∷ 0 ∷ 0 ∷ 1 ∷ 0 ∷ 1 ∷ 1 ∷ 1 ∷ 98 ∷ 120 ∷ 0 ∷ 0 ∷ 0 ∷ 0 ∷ 0 ∷ 0 ∷ 0 ∷ 2 ∷ 0 ∷ 0 ∷ 0 ∷ 0 ∷ 1 ∷ []
+unfolding blockBytes blockRows offsets rowsFrom offsetsFrom trailer offsetBytes isRestart shareOf laidRow rowBytes timeBytes big varint varintIn common
+case-2-block = refl
+
+pub case-2-accepted : check (blockBytes 16 (rowA ∷ rowAB ∷ [])) ≡ ok 2
+unfolding mayFollow below
+case-2-accepted =
+    finished-accepted 4096 16 calls2 (rowA ∷ rowAB ∷ []) (run start2 calls2) (blockBytes 16 (rowA ∷ rowAB ∷ [])) case-2-ran (omega arith) case-2-finishes .0 (refl, (refl, tt))
+
+abbrev block2 : List ℕ
+block2 = blockBytes 16 (rowA ∷ rowAB ∷ [])
+
+pub case-2-forwards : (t : Trailer) × (given : List Keyed) × (openBlock block2 ascending ≡ ok (opened ascending t)) × WalksAll block2 2 (opened ascending t) given
+    × (map (contentOf (dataOf block2 t)) given ≡ map plainRow (rowA ∷ rowAB ∷ []))
+case-2-forwards = reads-forwards 4096 16 calls2 (rowA ∷ rowAB ∷ []) (run start2 calls2) block2 case-2-ran (omega arith) case-2-finishes 2 (omega arith, (omega arith, tt))
+
+pub case-2-backwards : (t : Trailer) × (given : List Keyed) × (openBlock block2 descending ≡ ok (opened descending t)) × WalksAll block2 2 (opened descending t) (backwards given)
+    × (map (contentOf (dataOf block2 t)) given ≡ map plainRow (rowA ∷ rowAB ∷ []))
+case-2-backwards = reads-backwards 4096 16 calls2 (rowA ∷ rowAB ∷ []) (run start2 calls2) block2 case-2-ran (omega arith) case-2-finishes 2 (omega arith, (omega arith, tt))
+
+-- the run of case 2's first row alone accepts other rows, so it makes another block
+abbrev calls1 : List Call
+calls1 = offer rowA ∷ []
+
+case-1-ran : Ran 4096 16 calls1 (rowA ∷ []) (run start2 calls1)
+unfolding leadingZeros run rowsOf newBuilder stateTests fits wouldFit add keyLengthTests lengthTests isRestart shareOf laidRow rowBytes timeBytes big varint varintIn common splice
+case-1-ran =
+    record { fresh-one = fresh 4096 16; bytes = replicate 48 7; places = replicate 2 7; is-new = refl; typed = (typed (97 ∷ []) [] 1 (omega arith), tt); rows-are = refl; ends = refl }
+
+pub case-2-differs : blockBytes 16 (rowA ∷ []) ≡ block2 → ⊥
+case-2-differs =
+    blocks-differ 4096 4096 16 16 calls1 calls2 (rowA ∷ []) (rowA ∷ rowAB ∷ []) (run start2 calls1) (run start2 calls2) (blockBytes 16 (rowA ∷ [])) block2 case-1-ran case-2-ran (omega arith) (omega arith)
+    (run-finishes 4096 16 calls1 (rowA ∷ []) (run start2 calls1) case-1-ran (omega arith))
+    case-2-finishes
+    (λ e. let z : _≡_ {A = ℕ} 0 1 = cc in omega arith)
+
+-- case 2's second row after the key "a": encoded, and decoded before other bytes
+pub case-2-decodes : DecodesBack 1 1 (98 ∷ []) (rowAB .fields) (rowBytes 1 (98 ∷ []) (rowAB .fields)) (1 ∷ 2 ∷ [])
+unfolding encodeRow lengthTests keyLengthTests rowBytes timeBytes big varint varintIn
+case-2-decodes = decode-encode 1 1 (98 ∷ []) (rowAB .fields) 14 (rowBytes 1 (98 ∷ []) (rowAB .fields)) (1 ∷ 2 ∷ []) (typed (97 ∷ 98 ∷ []) (120 ∷ []) 2 (omega arith)) refl
+
+-- ---- case 8
+
+abbrev block8 : List ℕ
+block8 = blockBytes 2 (rowWith (97 ∷ []) [] 1 ∷ rowWith (98 ∷ []) [] 2 ∷ rowWith (98 ∷ []) [] 3 ∷ rowWith (98 ∷ []) [] 4 ∷ rowWith (99 ∷ []) [] 5 ∷ [])
+
+pub case-8-accepted : check block8 ≡ ok 5
+unfolding blockBytes blockRows offsets rowsFrom offsetsFrom trailer offsetBytes isRestart shareOf laidRow rowBytes timeBytes big varint varintIn common check checkFrom checkRow trailerOf shortAt unbig allOffsets risingFrom regionOf readRow rowAt headAt lengthsAt varintAt readVarint readVarintIn keyLengthTests bodyAt fixedAt flagsAt timesAt timeAt mayFollow below
+case-8-accepted = refl
+
+abbrev has8 : (t : Trailer) × (rows : List Keyed) × Rows block8 5 t rows
+has8 = has-rows block8 5 case-8-accepted
+
+pub case-8-walked : Walked block8 (has8 .0) maxKey (has8 .1)
+case-8-walked = walk-steps block8 5 (has8 .0) (has8 .1) (has8 .2) maxKey (rows-room block8 5 (has8 .0) (has8 .1) (has8 .2))
+
+pub case-8-ascending : SoughtUp block8 (has8 .0) (98 ∷ []) (has8 .1) maxKey
+case-8-ascending = seek-ascending-lands block8 5 (has8 .0) (has8 .1) (has8 .2) maxKey (rows-room block8 5 (has8 .0) (has8 .1) (has8 .2)) (98 ∷ [])
+
+pub case-8-descending : SoughtDown block8 (has8 .0) (98 ∷ []) (has8 .1) maxKey
+case-8-descending = seek-descending-lands block8 5 (has8 .0) (has8 .1) (has8 .2) maxKey (rows-room block8 5 (has8 .0) (has8 .1) (has8 .2)) (98 ∷ [])
