@@ -2,10 +2,12 @@
 -- and a refused row among them, and for case 8's block.
 use Prim.Native.Nat.{ℕ, zero, suc, _+_, _<_, _≤_}
 use mathlib.Core.Path.{_≡_, refl, ap, sym, _∙_}
-use mathlib.Core.Bool.{Bool, true, false}
+use mathlib.Core.Bool.{Bool, true, false, cond}
 use mathlib.Core.List.{List, [], _∷_, _++_, map}
+use mathlib.Core.Logic.{⊎-elim}
 use native.Mathlib.Omega.{arith}
 use lib.Count.{leadingZeros}
+use lib.Dec.{ltb}
 use lib.ListN.{length, take, replicate, getD}
 use Rattle.layout.specs.Answer.{Res, ok, refuse}
 use Rattle.layout.specs.Limits.{maxKey, maxRestarts}
@@ -19,15 +21,19 @@ use Rattle.layout.specs.Block.{isRestart, shareOf, laidRow, rowsFrom, of
 use Rattle.layout.specs.Trailer.{shortAt, Trailer, dataOf, trailerOf, risingFrom, allOffsets, regionOf}
 use Rattle.layout.specs.Builder.{Builder, fresh, newBuilder, stateTests, fits, wouldFit, add, build}
 use Rattle.layout.specs.Check.{checkRow, checkFrom, check}
-use Rattle.layout.specs.Cursor.{ascending, descending, opened, openBlock, Keyed}
+use Rattle.layout.specs.Cursor.{ascending, descending, opened, openBlock, Keyed, next}
+use Rattle.layout.specs.Reads.{regionRows, regionsRows, allRows}
 use Rattle.layout.specs.Cases.{rowWith}
-use Rattle.layout.specs.Demands.Runs.{Held, held, Call, offer, would-fit, is-empty, finish, run, rowsOf, Ran, Finishes, backwards}
+use Rattle.layout.specs.Demands.Runs.{Held, held, Call, offer, would-fit, is-empty, finish, run, rowsOf, Ran, Finishes, RoomFor, backwards}
 use Rattle.layout.specs.Demands.RunsProof.{WalksAll}
-use Rattle.layout.specs.Demands.Proof2.{DecodesBack, Rows, Walked, SoughtUp, SoughtDown, rows-room}
+use Rattle.layout.specs.Demands.Proof2.{DecodesBack, Rows, Walked, SoughtUp, SoughtDown, Found, rows-room}
 use Rattle.layout.specs.Demands.Proof3.{KeysFit}
-use Rattle.layout.specs.Demands.Demand2.{decode-encode, has-rows, walk-steps, seek-ascending-lands, seek-descending-lands, finished-accepted}
-use Rattle.layout.specs.Demands.Demand3.{run-finishes, blocks-differ, reads-forwards, reads-backwards}
+use Rattle.layout.specs.Demands.Demand1.{KeptCursor, carried, stale-bytes-tell-nothing}
+use Rattle.layout.specs.Demands.Demand2.{decode-encode, has-rows, walk-steps, seek-ascending-lands, seek-descending-lands, retry-found, restarts-at-most, finished-accepted}
+use Rattle.layout.specs.Demands.Demand3.{run-finishes, blocks-differ, reads-forwards, reads-backwards, row-begins-no-other}
+use Rattle.layout.specs.Laws.Answer.{ltb-cases, clash}
 use Rattle.layout.specs.Laws.Made.{Typed}
+use Rattle.layout.specs.Laws.Row.{SameRow}
 use Rattle.layout.specs.Laws.Laid.{contentOf, plainRow}
 
 -- ---- case 2, by a run
@@ -119,14 +125,84 @@ pub case-8-accepted : check block8 ≡ ok 5
 unfolding blockBytes blockRows offsets rowsFrom offsetsFrom trailer offsetBytes isRestart shareOf laidRow rowBytes timeBytes big varint varintIn common check checkFrom checkRow trailerOf shortAt unbig allOffsets risingFrom regionOf readRow rowAt headAt lengthsAt varintAt readVarint readVarintIn keyLengthTests bodyAt fixedAt flagsAt timesAt timeAt mayFollow below
 case-8-accepted = refl
 
-abbrev has8 : (t : Trailer) × (rows : List Keyed) × Rows block8 5 t rows
-has8 = has-rows block8 5 case-8-accepted
+pub case-8-has-rows : (t : Trailer) × (rows : List Keyed) × Rows block8 5 t rows
+case-8-has-rows = has-rows block8 5 case-8-accepted
 
-pub case-8-walked : Walked block8 (has8 .0) maxKey (has8 .1)
-case-8-walked = walk-steps block8 5 (has8 .0) (has8 .1) (has8 .2) maxKey (rows-room block8 5 (has8 .0) (has8 .1) (has8 .2))
+-- its rows by computation: five in three regions
+abbrev t8 : Trailer
+t8 = record { count = 3; size = 64 }
 
-pub case-8-ascending : SoughtUp block8 (has8 .0) (98 ∷ []) (has8 .1) maxKey
-case-8-ascending = seek-ascending-lands block8 5 (has8 .0) (has8 .1) (has8 .2) maxKey (rows-room block8 5 (has8 .0) (has8 .1) (has8 .2)) (98 ∷ [])
+abbrev unlessRefused : Res (List (List Keyed)) → List (List Keyed)
+unlessRefused (ok regions) = regions
+unlessRefused (refuse n) = []
 
-pub case-8-descending : SoughtDown block8 (has8 .0) (98 ∷ []) (has8 .1) maxKey
-case-8-descending = seek-descending-lands block8 5 (has8 .0) (has8 .1) (has8 .2) maxKey (rows-room block8 5 (has8 .0) (has8 .1) (has8 .2)) (98 ∷ [])
+abbrev regions8 : List (List Keyed)
+regions8 = unlessRefused (regionsRows 3 block8 t8 0)
+
+abbrev rows8 : List Keyed
+rows8 = allRows regions8
+
+reads8 : Rows block8 5 t8 rows8
+unfolding blockBytes blockRows offsets rowsFrom offsetsFrom trailer offsetBytes isRestart shareOf laidRow rowBytes timeBytes big varint varintIn common regionsRows regionRows allRows trailerOf shortAt unbig allOffsets risingFrom regionOf readRow rowAt headAt lengthsAt varintAt readVarint readVarintIn keyLengthTests bodyAt fixedAt flagsAt timesAt timeAt mayFollow below
+reads8 =
+    record {
+      regions = regions8;
+      reads = record { trailer-good = refl; offsets-good = refl; rows-read = refl };
+      are = refl;
+      in-order = (refl, (refl, (refl, (refl, (refl, tt)))));
+      many = refl;
+    }
+
+room8 : RoomFor maxKey rows8
+room8 = rows-room block8 5 t8 rows8 reads8
+
+pub case-8-walked : Walked block8 t8 maxKey rows8
+case-8-walked = walk-steps block8 5 t8 rows8 reads8 maxKey room8
+
+pub case-8-ascending : SoughtUp block8 t8 (98 ∷ []) rows8 maxKey
+case-8-ascending = seek-ascending-lands block8 5 t8 rows8 reads8 maxKey room8 (98 ∷ [])
+
+pub case-8-descending : SoughtDown block8 t8 (98 ∷ []) rows8 maxKey
+case-8-descending = seek-descending-lands block8 5 t8 rows8 reads8 maxKey room8 (98 ∷ [])
+
+-- row 1 has the key "b", so the row after the seek has it
+pub case-8-retry : Found block8 (98 ∷ []) rows8 maxKey (case-8-ascending .c)
+unfolding blockBytes blockRows offsets rowsFrom offsetsFrom trailer offsetBytes isRestart shareOf laidRow rowBytes timeBytes big varint varintIn common regionsRows regionRows allRows trailerOf shortAt unbig allOffsets risingFrom regionOf readRow rowAt headAt lengthsAt varintAt readVarint readVarintIn keyLengthTests bodyAt fixedAt flagsAt timesAt timeAt
+case-8-retry =
+    retry-found block8 5 t8 rows8 reads8 maxKey room8 (98 ∷ []) (case-8-ascending .c) (case-8-ascending .reads) (case-8-ascending .is) .0
+    1
+    (omega (arith, reads8 .many))
+    refl
+
+abbrev areBytes : List ℕ → Bool
+areBytes [] = true
+areBytes (x ∷ xs) = cond (ltb x 256) (areBytes xs) false
+
+are-bytes : (xs : List ℕ) → areBytes xs ≡ true → (i : ℕ) → getD xs i 0 < 256
+are-bytes [] h i = omega arith
+are-bytes (x ∷ xs) h zero = ⊎-elim (λ u. u .1) (λ u. absurd (clash (rw (u .0) at h) refl)) (ltb-cases x 256)
+are-bytes (x ∷ xs) h (suc i) = ⊎-elim (λ u. are-bytes xs (rw (u .0) at h) i) (λ u. absurd (clash (rw (u .0) at h) refl)) (ltb-cases x 256)
+
+pub case-8-restarts : 3 ≤ maxRestarts
+unfolding blockBytes blockRows offsets rowsFrom offsetsFrom trailer offsetBytes isRestart shareOf laidRow rowBytes timeBytes big varint varintIn common
+case-8-restarts = restarts-at-most block8 5 t8 rows8 reads8 maxKey room8 (are-bytes block8 refl)
+
+-- ---- one row, and bytes that tell nothing
+
+-- case 1's row begins no row but itself
+pub case-1-begins : SameRow 0 (97 ∷ []) (rowA .fields) [] 0 (97 ∷ []) (rowA .fields) []
+unfolding encodeRow lengthTests keyLengthTests rowBytes timeBytes big varint varintIn
+case-1-begins =
+    row-begins-no-other 0 0 (97 ∷ []) (rowA .fields) 13 (rowBytes 0 (97 ∷ []) (rowA .fields)) 0 (97 ∷ []) (rowA .fields) 64 (rowBytes 0 (97 ∷ []) (rowA .fields)) []
+    (typed (97 ∷ []) [] 1 (omega arith))
+    (typed (97 ∷ []) [] 1 (omega arith))
+    refl
+    refl
+    refl
+
+-- two cursors on case 8's block that carry "a", before other bytes, and two key buffers of eight bytes
+abbrev kept : List ℕ → KeptCursor
+kept after = record { direction = ascending; region = 0; at = 13; keyLen = 1; array = 97 ∷ after; mark = false }
+
+pub case-8-stale : (x y : List ℕ) → next (carried (kept x)) block8 8 ≡ next (carried (kept y)) block8 8
+case-8-stale x y = stale-bytes-tell-nothing (kept x) (kept y) refl block8 (replicate 8 0) (replicate 8 7) refl .0
