@@ -5,6 +5,7 @@ pub mod Place
 pub mod Splice
 pub mod Byte
 pub mod Key
+pub mod Compare
 pub mod Row
 pub mod Tells
 pub mod RowExits

@@ -1,0 +1,255 @@
+-- `check_region` leaves the walk before the next region, or the check's refusal.
+-- The loop's invariant: the rest of the check, from the row at `at` on, answers what the whole does. The loop does not hold the trailer, so it is said of
+-- every trailer that the block has. Each exit is a law of the walk, over the region and the row that were read on the way to it.
+use Prim.Native.Nat.{ℕ, _+_, _-_, _^_, _≤_, _<_}
+use mathlib.Core.Path.{_≡_, refl, sym, subst, _∙_}
+use mathlib.Core.List.{List}
+use native.Mathlib.Omega.{arith}
+use lib.Dec.{eqb}
+use lib.ListN.{length, length-take}
+use lib.Seq.{length-take-le}
+use borrow.Author.Needs.{needs}
+use Rattle.layout.specs.Answer.{ok}
+use Rattle.layout.specs.Place.{splice}
+use Rattle.layout.specs.RowRead.{readRow, RowRead as RowReadL}
+use Rattle.layout.specs.Trailer.{Trailer, trailerOf, dataOf, regionOf}
+use Rattle.layout.specs.Laws.Tells.{RowEnds, readRow-ends, row-shares}
+use Rattle.layout.specs.Laws.Trailer.{trailerOf-tells}
+use Rattle.types.specs.Answers.{yes, no}
+use Rattle.utils.proofs.Laws.{puts-at, puts-fits}
+use Rattle.utils.specs.declared.Put.{Put}
+use Rattle.utils.specs.Promise.{Puts}
+use Rattle.block.specs.declared.Region.{Region}
+use Rattle.block.specs.Laws.{region-used}
+use Rattle.block.specs.Says.{trailerFrom, regionFrom, saysRegion}
+use Rattle.row_codec_v2.specs.Says.{rowFrom, saysRow}
+use Rattle.block_check_v2.specs.Says.{refusalOfRegion, refusalOfRow}
+use Rattle.block_check_v2.specs.Laws.{Walks, stands-no, stands-inside, stands-walks, walks-over, walks-no, walks-room, walks-falls, walks-more, the-trailer}
+use Rattle.block_check_v2.proofs.check_region.Statement.{statement}
+use Rattle.block_check_v2.proofs.check_region.Tie as tie
+
+-- where there is room, the copy is made
+copied : {w key key′ : List ℕ} {at : ℕ} {r : Put} → at + length w ≤ length key → Puts w key at r key′ → key′ ≡ splice key at w
+copied {w} {key} {key′} {at} h p = puts-at (subst (λ (x : Put). Puts w key at x key′) (puts-fits h p) p) .is
+
+abbrev Inv-loop : tie.InvT-loop
+Inv-loop block key₀ p g size «data» at₀ key-len₀ rows₀ key at key-len rows = (t : Trailer) → trailerOf block ≡ ok t → Walks block t (p .region) (regionFrom g) at rows key key-len
+
+abbrev μ-loop : tie.MeasureT-loop
+μ-loop block key₀ p g size «data» at₀ key-len₀ rows₀ key at key-len rows = g .end - at
+
+-- a length fits a word
+short : (s : tie.Start Inv-loop μ-loop) → length (s .args .block .now) < 2 ^ 64
+short s = search needs
+
+-- the region's number is one of the trailer's
+inside : (s : tie.Start Inv-loop μ-loop) → s .args .p .region < s .args .t .count
+inside s = s .pre .1 .1 .starts (s .pre .1 .0) .0
+
+-- the region that was read
+module _ (k : tie.After-known-told Inv-loop μ-loop) where
+  used : let a = k .before .before .before .before .before .before .args in regionOf (a .block .now) (trailerFrom (a .t)) (a .p .region) ≡ ok (regionFrom (k .before .bounds .given .0 .0))
+  used =
+      let s = k .before .before .before .before .before .before in
+      sym (region-used _ _ (s .pre .0) _ (inside s)) ∙ yes saysRegion (k .before .before .before .region-of .ensures) (k .before .bounds .given .1)
+
+-- a turn of the loop: how the walk stands
+module _ (l : tie.At-loop Inv-loop μ-loop) where
+  abbrev began : tie.Start Inv-loop μ-loop
+  began = l .before .before .before .before .before .before .before .before
+
+  abbrev g : Region
+  g = l .before .before .before .bounds .given .0 .0
+
+  walk : Walks (began .args .block .now) (trailerFrom (began .args .t)) (began .args .p .region) (regionFrom g) (l .loop .at) (l .loop .rows) (l .loop .key) (l .loop .key-len)
+  walk = l .loop .inv _ (began .pre .0)
+
+  kept : length (l .loop .key) ≡ length (began .args .key .now)
+  kept = walk .checking .holds .whole ∙ sym (began .pre .1 .1 .checking .holds .whole)
+
+-- the row that was read in a turn
+module _ (n : tie.After-known-told2 Inv-loop μ-loop) where
+  abbrev turn : tie.At-loop Inv-loop μ-loop
+  turn = n .before .before .before .before .before .before .before
+
+  abbrev rows : List ℕ
+  rows = dataOf (began turn .args .block .now) (trailerFrom (began turn .args .t))
+
+  abbrev row : RowReadL
+  row = rowFrom (n .before .read .given .0 .0)
+
+  read : readRow rows (turn .loop .at) (g turn .end) (turn .loop .key-len) (eqb (turn .loop .at) (g turn .start)) ≡ ok row
+  read = yes saysRow (n .before .before .before .decode-at .ensures) (n .before .read .given .1)
+
+  told : RowEnds rows (turn .loop .at) (g turn .end) (turn .loop .key-len) (eqb (turn .loop .at) (g turn .start)) row
+  told = readRow-ends _ _ _ _ _ _ read
+
+  shares : row .shared ≤ turn .loop .key-len
+  shares = row-shares _ _ _ _ _ _ told
+
+region-of-requires : tie.Need-region-of-requires Inv-loop μ-loop
+region-of-requires c κs = search needs
+
+enum-known-bounds : tie.Need-enum-known-bounds Inv-loop μ-loop
+enum-known-bounds c = search needs
+
+enum-told : tie.Need-enum-told Inv-loop μ-loop
+enum-told c = search needs
+
+region-refusal-requires : tie.Need-region-refusal-requires Inv-loop μ-loop
+region-refusal-requires c κs = search needs
+
+returns : tie.Need-returns Inv-loop μ-loop
+returns c =
+    let s = c .before .before .before .before .before .before in
+    stands-no _ _ _ _ (s .pre .1 .1) (s .pre .1 .0)
+    (sym (region-used _ _ (s .pre .0) _ (inside s))
+    ∙ no saysRegion refusalOfRegion (c .before .before .before .region-of .ensures) (c .before .enum-told .given .1) refl (c .region-refusal .ensures))
+
+slice-aggregate-data : tie.Need-slice-aggregate-data Inv-loop μ-loop
+slice-aggregate-data c = sym (length-take-le _ _ (omega (arith, trailerOf-tells _ _ (c .before .before .before .before .before .before .before .pre .0) .0)))
+
+loop-holds : tie.Need-loop-holds Inv-loop μ-loop
+loop-holds c =
+    let s = c .before .before .before .before .before .before .before in
+    the-trailer _ _ _ (s .pre .0) (stands-walks _ _ _ _ (s .pre .1 .1) (s .pre .1 .0) _ (used (c .before)))
+
+decode-at-requires : tie.Need-decode-at-requires Inv-loop μ-loop
+decode-at-requires c κs = search needs
+
+enum-known-read : tie.Need-enum-known-read Inv-loop μ-loop
+enum-known-read c = search needs
+
+enum-told-2 : tie.Need-enum-told-2 Inv-loop μ-loop
+enum-told-2 c = search needs
+
+row-refusal-requires : tie.Need-row-refusal-requires Inv-loop μ-loop
+row-refusal-requires c κs = search needs
+
+same-length : tie.Need-same-length Inv-loop μ-loop
+same-length c = kept (c .before .before .before .before .before .before .before)
+
+returns-2 : tie.Need-returns-2 Inv-loop μ-loop
+returns-2 c =
+    let l = c .before .before .before .before .before .before .before in
+    walks-no _ _ _ _ (used (l .before .before)) _ _ _ _ (walk l) (c .before .before .before .before .before .if1 .taken)
+    (no saysRow refusalOfRow (c .before .before .before .decode-at .ensures) (c .before .enum-told2 .given .1) refl (c .row-refusal .ensures))
+
+add-to : tie.Need-add-to Inv-loop μ-loop
+add-to c =
+    let s = began (turn (c .before)) in
+    omega (arith, told (c .before) .suffix, length-take (s .args .t .size) (s .args .block .now), short s)
+
+sub-is-below : tie.Need-sub-is-below Inv-loop μ-loop
+sub-is-below c = omega arith
+
+part-is-below-start : tie.Need-part-is-below-start Inv-loop μ-loop
+part-is-below-start c = omega arith
+
+part-is-below-end : tie.Need-part-is-below-end Inv-loop μ-loop
+part-is-below-end c = told (c .before) .suffix
+
+sub-is-below-2 : tie.Need-sub-is-below-2 Inv-loop μ-loop
+sub-is-below-2 c = shares (c .before .before)
+
+part-is-below-start-2 : tie.Need-part-is-below-start-2 Inv-loop μ-loop
+part-is-below-start-2 c = shares (c .before .before .before)
+
+part-is-below-end-2 : tie.Need-part-is-below-end-2 Inv-loop μ-loop
+part-is-below-end-2 c = let w = walk (turn (c .before .before .before)) .checking .holds in omega (arith, w .few, w .whole)
+
+is-below-requires : tie.Need-is-below-requires Inv-loop μ-loop
+is-below-requires c κs = search needs
+
+same-length-2 : tie.Need-same-length-2 Inv-loop μ-loop
+same-length-2 c = kept (turn (c .before .before .before .before .before .before))
+
+returns-3 : tie.Need-returns-3 Inv-loop μ-loop
+returns-3 c =
+    let n = c .before .before .before .before .before .before in
+    walks-falls _ _ _ _ (used (turn n .before .before)) _ _ _ _ (walk (turn n)) (n .before .before .before .before .before .if1 .taken) _ (read n) (sym (c .before .is-below .ensures) ∙ c .if2 .taken)
+
+sub-copy-in : tie.Need-sub-copy-in Inv-loop μ-loop
+sub-copy-in c = omega arith
+
+part-copy-in-start : tie.Need-part-copy-in-start Inv-loop μ-loop
+part-copy-in-start c = omega arith
+
+part-copy-in-end : tie.Need-part-copy-in-end Inv-loop μ-loop
+part-copy-in-end c = told (c .before .before .before .before .before .before .before) .suffix
+
+copy-in-requires : tie.Need-copy-in-requires Inv-loop μ-loop
+copy-in-requires c κs = search needs
+
+add-key-len : tie.Need-add-key-len Inv-loop μ-loop
+add-key-len c = omega (arith, told (c .before .before .before .before .before .before .before .before .before .before .before .before) .fits)
+
+add-rows : tie.Need-add-rows Inv-loop μ-loop
+add-rows c = let f = walk (turn (c .before .before .before .before .before .before .before .before .before .before .before .before)) .few in omega (arith, told (c .before .before .before .before .before .before .before .before .before .before .before .before) .least)
+
+loop-less : tie.Need-loop-less Inv-loop μ-loop
+loop-less c = let w = told (c .before .before .before .before .before .before .before .before .before .before .before .before) in omega (arith, w .least, w .within)
+
+loop-again : tie.Need-loop-again Inv-loop μ-loop
+loop-again c =
+    let n = c .before .before .before .before .before .before .before .before .before .before .before .before in
+    let l = turn n in
+    let u = used (l .before .before) in
+    let t = n .before .before .before .before .before .if1 .taken in
+    the-trailer _ _ _ (began l .pre .0)
+    (walks-more _ _ _ _ u _ _ _ _ (walk l) t _ (read n) (sym (c .before .before .before .before .before .before .before .is-below .ensures) ∙ c .before .before .before .before .before .before .if2 .left) _
+    (copied (walks-room _ _ _ _ u _ _ _ _ (walk l) t _ (read n)) (c .before .before .before .copy-in .ensures)))
+
+add-t37 : tie.Need-add-t37 Inv-loop μ-loop
+add-t37 c = let s = c .before .before .before .before .before .before .before .before .before .before .before in omega (arith, inside s, trailerOf-tells _ _ (s .pre .0) .0)
+
+same-length-3 : tie.Need-same-length-3 Inv-loop μ-loop
+same-length-3 c = kept (c .before .before .before)
+
+returns-4 : tie.Need-returns-4 Inv-loop μ-loop
+returns-4 c =
+    let l = c .before .before .before in
+    let u = used (l .before .before) in
+    let over = c .before .if1 .left in
+    (omega (arith, stands-inside _ _ _ _ (began l .pre .1 .1) (began l .pre .1 .0) _ u), walks-over _ _ _ _ u _ _ _ _ (walk l) over)
+
+pub check-region-spec : {M : Type 1} → statement M
+check-region-spec =
+    tie.close
+    (tie.spec
+    Inv-loop
+    μ-loop
+    region-of-requires
+    enum-known-bounds
+    enum-told
+    region-refusal-requires
+    returns
+    slice-aggregate-data
+    loop-holds
+    decode-at-requires
+    enum-known-read
+    enum-told-2
+    row-refusal-requires
+    same-length
+    returns-2
+    add-to
+    sub-is-below
+    part-is-below-start
+    part-is-below-end
+    sub-is-below-2
+    part-is-below-start-2
+    part-is-below-end-2
+    is-below-requires
+    same-length-2
+    returns-3
+    sub-copy-in
+    part-copy-in-start
+    part-copy-in-end
+    copy-in-requires
+    add-key-len
+    add-rows
+    loop-less
+    loop-again
+    add-t37
+    same-length-3
+    returns-4)

@@ -1,0 +1,152 @@
+-- The walk, by what was met: one law for each thing that the code does before a region and in one.
+use Prim.Native.Nat.{ℕ, _+_, _-_, _≤_, _<_}
+use mathlib.Core.Path.{_≡_, ap, sym, _∙_, subst}
+use mathlib.Core.Bool.{true, false, cond}
+use mathlib.Core.List.{List}
+use mathlib.Core.Logic.{⊎-elim}
+use native.Mathlib.Omega.{arith}
+use lib.Dec.{ltb, eqb}
+use lib.ListN.{length, take, drop}
+use lib.Seq.{take-add, drop-at, length-take-le}
+use borrow.Author.Tests.{lt-ltb, le-ltb}
+use Rattle.layout.specs.Answer.{ok, refuse}
+use Rattle.layout.specs.Key.{below}
+use Rattle.layout.specs.Limits.{maxKey}
+use Rattle.layout.specs.Place.{splice}
+use Rattle.layout.specs.RowRead.{RowRead, readRow, keyLength}
+use Rattle.layout.specs.Trailer.{Trailer, trailerOf, dataOf, Region, regionOf, allOffsets}
+use Rattle.layout.specs.Laws.Answer.{ltb-cases, ok-inj}
+use Rattle.layout.specs.Laws.Carry.{suffixOf, suffix-fits, carries-on}
+use Rattle.layout.specs.Laws.Check.{Checking, checking-start, checking-over, checking-no, checking-more, row-region, row-no, row-falls, row-passed}
+use Rattle.layout.specs.Laws.Tells.{RowEnds, readRow-ends, row-shares}
+use Rattle.layout.specs.Laws.Trailer.{RegionTells, regionOf-tells, trailerOf-tells, allOffsets-tell}
+use Rattle.block_check_v2.specs.declared.Passed.{Passed}
+use Rattle.block_check_v2.specs.declared.Walked.{Walked}
+use Rattle.block_check_v2.specs.Walk.{rowsOf, Stands, Leaves}
+
+-- in region r, whose bounds are g: a row that ended at its end has left it
+pub record Walks (b : List ℕ) (t : Trailer) (r : ℕ) (g : Region) (at rows : ℕ) (key : List ℕ) (len : ℕ) : Type 0 where
+  pub checking : Checking b t at (cond (ltb at (g .end)) r (r + 1)) rows key len
+  pub few : rows ≤ at
+  pub within : at ≤ g .end
+
+-- the part of a list that is lent from a to before z
+abbrev pub lent : List ℕ → ℕ → ℕ → List ℕ
+lent l a z = take (z - a) (drop a l)
+
+drop-take : (a z : ℕ) (l : List ℕ) → a ≤ z → a ≤ length l → drop a (take z l) ≡ lent l a z
+drop-take a z l h k =
+    let n : z ≡ a + (z - a) = omega arith in
+    ap (λ (i : ℕ). drop a (take i l)) n ∙ rw (take-add a (z - a) l) (drop-at (take a l) (lent l a z) a (length-take-le a l k))
+
+abbrev pub passedFrom : ℕ → ℕ → ℕ → ℕ → Passed
+passedFrom at region len rows = record { at = at; region = region; «key_len» = len; rows = rows }
+
+module _ (b : List ℕ) (t : Trailer) where
+  -- the case of an answer is known, so what it leaves is
+  pub leaves-as : (p : Passed) (key : List ℕ) {w v : Walked} → Leaves b t p w key → w ≡ v → Leaves b t p v key
+  leaves-as p key l e = subst (λ (x : Walked). Leaves b t p x key) e l
+
+  pub stands-first : trailerOf b ≡ ok t → allOffsets b t ≡ ok tt → (key : List ℕ) → length key ≡ maxKey → Stands b t (passedFrom 0 0 0 0) key
+  stands-first e o key h =
+      record {
+        checking = checking-start b t key h;
+        few = omega arith;
+        starts = λ s. (omega (arith, trailerOf-tells b t e .1), sym (allOffsets-tell b t tt o .first));
+      }
+
+  -- what holds of the trailer that was read holds of every trailer that the block has
+  pub the-trailer : (P : Trailer → Type 0) → trailerOf b ≡ ok t → P t → (u : Trailer) → trailerOf b ≡ ok u → P u
+  the-trailer P e h u f = subst P (ok-inj (sym e ∙ f)) h
+
+  module _ (p : Passed) (key : List ℕ) (s : Stands b t p key) where
+    pub stands-over : t .size ≤ p .at → ok (p .rows) ≡ rowsOf b t
+    stands-over h = checking-over b t (p .at) (p .region) (p .rows) key (p .«key_len») (s .checking) h
+
+    module _ (h : p .at < t .size) where
+      pub stands-no : {n : ℕ} → regionOf b t (p .region) ≡ refuse n → refuse n ≡ rowsOf b t
+      stands-no {n} e =
+          checking-no b t (p .at) (p .region) (p .rows) key (p .«key_len») (s .checking) h n
+          (sym (row-region b t (p .at) (p .region) (p .rows) key (p .«key_len») (s .checking .holds) e))
+
+      module _ (g : Region) (e : regionOf b t (p .region) ≡ ok g) where
+        tells : RegionTells b t (p .region) g
+        tells = regionOf-tells b t (p .region) g e
+
+        pub stands-inside : p .at < g .end
+        stands-inside = omega (arith, s .starts h .1, tells .from, tells .rises)
+
+        pub stands-walks : Walks b t (p .region) g (p .at) (p .rows) key (p .«key_len»)
+        stands-walks =
+            let i = stands-inside in
+            record { checking = rw (lt-ltb (p .at) (g .end) i) (s .checking); few = s .few; within = omega arith }
+
+  module _ (r : ℕ) (g : Region) (used : regionOf b t r ≡ ok g) (at rows : ℕ) (key : List ℕ) (len : ℕ) (w : Walks b t r g at rows key len) where
+    ends : RegionTells b t r g
+    ends = regionOf-tells b t r g used
+
+    -- past the last row of the region: its end is where the next starts, or the data's end
+    pub walks-over : g .end ≤ at → Stands b t (passedFrom at (r + 1) len rows) key
+    walks-over h =
+        let m = w .within in
+        record {
+          checking = rw (le-ltb at (g .end) h) at (w .checking);
+          few = w .few;
+          starts =
+              λ s.
+              ⊎-elim
+              (λ c. (c .1, omega (arith, ends .inner (c .1) .0)))
+              (λ c. absurd (omega (arith, ends .last (c .1) .0)))
+              (ltb-cases (r + 1) (t .count));
+        }
+
+    module _ (h : at < g .end) where
+      here : Checking b t at r rows key len
+      here = rw (lt-ltb at (g .end) h) at (w .checking)
+
+      inside : at < t .size
+      inside = omega (arith, ends .inside)
+
+      pub walks-no : {n : ℕ} → readRow (dataOf b t) at (g .end) len (eqb at (g .start)) ≡ refuse n → refuse n ≡ rowsOf b t
+      walks-no {n} e = checking-no b t at r rows key len here inside n (sym (row-no b t at r rows key len (here .holds) g used e))
+
+      module _ (x : RowRead) (e : readRow (dataOf b t) at (g .end) len (eqb at (g .start)) ≡ ok x) where
+        row : RowEnds (dataOf b t) at (g .end) len (eqb at (g .start)) x
+        row = readRow-ends (dataOf b t) at (g .end) len (eqb at (g .start)) x e
+
+        -- the row's suffix and the rest of the carried key, as they are lent
+        abbrev pub suffix : List ℕ
+        suffix = lent (dataOf b t) (x .suffixAt) (x .suffixAt + x .suffixLen)
+
+        abbrev pub rest : List ℕ
+        rest = lent key (x .shared) len
+
+        suffix-is : suffixOf (dataOf b t) x ≡ suffix
+        suffix-is =
+            let n : x .suffixLen ≡ x .suffixAt + x .suffixLen - x .suffixAt = omega arith in
+            ap (λ (i : ℕ). take i (drop (x .suffixAt) (dataOf b t))) n
+
+        order : below (suffixOf (dataOf b t) x) (drop (x .shared) (take len key)) ≡ below suffix rest
+        order =
+            let h = row-shares (dataOf b t) at (g .end) len (eqb at (g .start)) x row in
+            rw (suffix-is, drop-take (x .shared) len key h (omega (arith, here .holds .few, here .holds .whole)))
+
+        pub walks-falls : below suffix rest ≡ true → refuse 17 ≡ rowsOf b t
+        walks-falls f = checking-no b t at r rows key len here inside 17 (sym (row-falls b t at r rows key len (here .holds) g used x e (order ∙ f)))
+
+        pub walks-room : x .shared + length suffix ≤ length key
+        walks-room = rw (← suffix-is) (suffix-fits (dataOf b t) at (g .end) (eqb at (g .start)) key len (here .holds) x e)
+
+        pub walks-more : below suffix rest ≡ false
+            → (key′ : List ℕ) → key′ ≡ splice key (x .shared) suffix
+            → Walks b t r g (x .next) (rows + 1) key′ (keyLength x)
+        walks-more f key′ q =
+            rw (q ∙ ap (splice key (x .shared)) (sym suffix-is))
+            (record {
+              checking =
+                  checking-more b t at r rows key len here inside (x .next) (cond (ltb (x .next) (g .end)) r (r + 1)) (rows + 1) (splice key (x .shared) (suffixOf (dataOf b t) x)) (keyLength x)
+                  (carries-on (dataOf b t) at (g .end) (eqb at (g .start)) key len (here .holds) x e) (omega (arith, row .least))
+                  (row-passed b t at r rows key len (here .holds) g used x e (order ∙ f));
+              few = omega (arith, w .few, row .least);
+              within = row .within;
+            })

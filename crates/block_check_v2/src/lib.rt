@@ -1,0 +1,156 @@
+// The check of a whole block: its trailer, all its offsets, then row after row, with the order of the keys last of each.
+// slatedb 0.16.0 has no such check. This one is added: it reads the layout of src/format/block_v2.rs and
+// src/format/row_codec_v2.rs (Apache License 2.0), takes any bytes, walks the rows where they stand and copies only the
+// suffixes of their keys.
+ghost use mathlib.Core.Path.{_≡_};
+ghost use Prim.Native.Nat.{_<_};
+ghost use Rattle.layout.specs.Answer.{ok};
+ghost use Rattle.layout.specs.Key.{below};
+ghost use Rattle.layout.specs.Trailer.{trailerOf};
+ghost use Rattle.block.specs.Says.{trailerFrom};
+ghost use Rattle.block_check_v2.specs.Says.{refusalOfTrailer, refusalOfRegion, refusalOfRow};
+ghost use Rattle.block_check_v2.specs.Walk.{Stands, Leaves};
+ghost use Rattle.block_check_v2.specs.Promise.{Checks};
+use block::RegionRead;
+use block::Tested;
+use block::Trailer;
+use block::TrailerRead;
+use row_codec_v2::RowRead;
+use types::Refusal;
+use utils::Ordering;
+
+// How many rows the block has, or why it is refused.
+pub enum Checked {
+    Rows(usize),
+    Refused(Refusal),
+}
+
+// What the rows passed so far leave: where the next region starts and its number, the length of the carried key, and how many
+// rows they are.
+struct Passed {
+    at: usize,
+    region: usize,
+    key_len: usize,
+    rows: usize,
+}
+
+enum Walked {
+    Over(Passed),
+    Refused(Refusal),
+}
+
+fn is_below(a: &[u8], b: &[u8]) -> bool
+    ensures { λ r. ⌜ r ≡ below (now (a .entry)) (now (b .entry)) ⌝ }
+{
+    let order = utils::compare(a, b);
+    match order {
+        Ordering::Less => true,
+        Ordering::Equal => false,
+        Ordering::Greater => false,
+    }
+}
+
+// Walks the rows of one region, whose bounds are read once. `key` carries the key of the row before, also over a restart.
+fn check_region(block: &[u8], t: Trailer, key: &mut [u8], p: Passed) -> Walked
+    requires { ⌜ trailerOf (now block) ≡ ok (trailerFrom t) ⌝ }
+    requires { ⌜ p .at < t .size ⌝ }
+    requires { ⌜ Stands (now block) (trailerFrom t) p (now key) ⌝ }
+    ensures { λ r. ⌜ Leaves (now (block .entry)) (trailerFrom t) p r (now (key .exit)) ⌝ }
+{
+    let bounds = block::region_of(block, t, p.region);
+    let RegionRead::Good(g) = bounds else {
+        return Walked::Refused(region_refusal(bounds));
+    };
+    let size = t.size;
+    let data = &block[..size];
+    let mut at = p.at;
+    let mut key_len = p.key_len;
+    let mut rows = p.rows;
+    while at < g.end {
+        let read = row_codec_v2::decode_at(data, at, g.end, key_len, at == g.start);
+        let RowRead::Read(row) = read else {
+            return Walked::Refused(row_refusal(read));
+        };
+        let shared = row.shared;
+        let from = row.suffix_at;
+        let to = from + row.suffix_len;
+        // 17: the shared bytes tell nothing, so the suffix is compared with what the carried key has after them, before it is
+        // put over it.
+        if is_below(&data[from..to], &key[shared..key_len]) {
+            return Walked::Refused(Refusal::KeyFalls);
+        }
+        utils::copy_in(key, shared, &data[from..to]);
+        key_len = shared + row.suffix_len;
+        at = row.next;
+        rows += 1;
+    }
+    Walked::Over(Passed {
+        at,
+        region: p.region + 1,
+        key_len,
+        rows,
+    })
+}
+
+// Checks a whole block of any bytes: 14, all of 15, then row by row, 17 last of its row. It answers how many rows there are.
+pub fn check(block: &[u8]) -> Checked
+    ensures { λ r. ⌜ Checks (now (block .entry)) r ⌝ }
+{
+    let trailer = block::trailer_of(block);
+    let TrailerRead::Good(t) = trailer else {
+        return Checked::Refused(trailer_refusal(trailer));
+    };
+    let tested = block::all_offsets(block, t);
+    if let Tested::Refused(refusal) = tested {
+        return Checked::Refused(refusal);
+    }
+    let size = t.size;
+    let mut key = [0; types::MAX_KEY];
+    let mut p = Passed {
+        at: 0,
+        region: 0,
+        key_len: 0,
+        rows: 0,
+    };
+    while p.at < size {
+        let walked = check_region(block, t, &mut key, p);
+        match walked {
+            Walked::Over(passed) => {
+                p = passed;
+            }
+            Walked::Refused(refusal) => {
+                return Checked::Refused(refusal);
+            }
+        }
+    }
+    Checked::Rows(p.rows)
+}
+
+// A read that is refused ends the call with its refusal, which a `let .. else` can't bind: these take it out of the answer.
+// Their other case is not met there.
+fn trailer_refusal(a: TrailerRead) -> Refusal
+    ensures { λ r. ⌜ r ≡ refusalOfTrailer a ⌝ }
+{
+    match a {
+        TrailerRead::Refused(refusal) => refusal,
+        TrailerRead::Good(_) => Refusal::BadTrailer,
+    }
+}
+
+fn region_refusal(a: RegionRead) -> Refusal
+    ensures { λ r. ⌜ r ≡ refusalOfRegion a ⌝ }
+{
+    match a {
+        RegionRead::Refused(refusal) => refusal,
+        RegionRead::Good(_) => Refusal::BadTrailer,
+    }
+}
+
+fn row_refusal(a: RowRead) -> Refusal
+    ensures { λ r. ⌜ r ≡ refusalOfRow a ⌝ }
+{
+    match a {
+        RowRead::Refused(refusal) => refusal,
+        RowRead::Read(_) => Refusal::InputEnds,
+    }
+}
