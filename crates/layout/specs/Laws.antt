@@ -20,9 +20,11 @@ pub mod Offsets
 pub mod Builder
 pub mod Made
 pub mod Carry
+pub mod Parts
 pub mod Check
 pub mod Cursor
 pub mod Seek
+pub mod Restart
 pub mod Reads
 pub mod Ascend
 pub mod Descend

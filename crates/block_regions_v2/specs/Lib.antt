@@ -1,0 +1,5 @@
+pub mod Regions
+pub mod Says
+pub mod Promise
+pub mod OneOutcome
+pub mod Laws

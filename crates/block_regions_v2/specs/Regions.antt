@@ -1,0 +1,45 @@
+-- The reads of a whole restart region by a caller who may hand in any region and any position: 18 where these can't belong together, then the rules' own
+-- reads.
+use Prim.Native.Nat.{ℕ}
+use mathlib.Core.List.{List, []}
+use lib.Dec.{ltb, leb}
+use lib.ListN.{length}
+use Rattle.layout.specs.Answer.{Res, ok, refuse, bind, guard}
+use Rattle.layout.specs.Place.{splice}
+use Rattle.layout.specs.Key.{Key}
+use Rattle.layout.specs.RowRead.{RowRead, keyLength}
+use Rattle.layout.specs.Trailer.{Region}
+use Rattle.layout.specs.Cursor.{Keyed, keyed, rowEndingAt}
+use Rattle.layout.specs.Seek.{Stop, walkRegion, lastAtOrBelow}
+
+-- the row that ends at `stop`, whose key a buffer of `room` bytes is to hold: 18 where no row of the region can, the rows' own refusals, 18, 19
+unfoldable pub endingAt : List ℕ → Region → ℕ → ℕ → Res Keyed
+endingAt d g stop room =
+    guard (leb stop (g .start)) 18
+    (bind (rowEndingAt stop d g stop (g .start) []) λ k.
+    guard (ltb room (keyLength (k .row))) 19
+    (ok k))
+
+-- the first row that reaches `stop`, with its key
+abbrev pub given : RowRead → ℕ → Key → ℕ → Res Keyed
+given r stop key room =
+    guard (ltb stop (r .next)) 18
+    (guard (ltb room (length key)) 19
+    (ok (keyed r key)))
+
+-- the lent buffer after it: only the key that is given is written
+abbrev pub outAfter : Res Keyed → List ℕ → List ℕ
+outAfter (ok k) out = splice out 0 (k .key)
+outAfter (refuse n) out = out
+
+-- where the walk up to a target stops: 18 for a region that ends after the data
+unfoldable pub walkTo : List ℕ → Region → Key → Res Stop
+walkTo d g target =
+    guard (ltb (length d) (g .end)) 18
+    (walkRegion (length d) d g target (g .start) [])
+
+-- where the last row at or below a target ends, or the region's start: 18 for a region that ends after the data
+unfoldable pub lastTo : List ℕ → Region → Key → Res ℕ
+lastTo d g target =
+    guard (ltb (length d) (g .end)) 18
+    (lastAtOrBelow (length d) d g target (g .start) [] (g .start))

@@ -1,0 +1,95 @@
+-- `find_restart_for_key_descending` keeps its promise: the search's refusal, or what follows from the restart found.
+-- A search that was not refused has tested the trailer, which is what reading that restart requires.
+use mathlib.Core.Path.{_≡_, refl, ap, _∙_}
+use Rattle.layout.specs.Answer.{ok}
+use Rattle.layout.specs.Seek.{foundIs}
+use Rattle.types.specs.Answers.{yes, no}
+use Rattle.block.specs.Says.{trailerFrom}
+use Rattle.block_restarts_v2.specs.Handed.{searchAt}
+use Rattle.block_restarts_v2.specs.Laws.{searched, down-no, down-past, down-refused, down-earlier, down-run}
+use Rattle.block_restarts_v2.specs.Reading.{saysProbe, refusalOfProbe, saysSearch, refusalOfSearch}
+use borrow.Author.Needs.{needs}
+use Rattle.block_restarts_v2.proofs.find_restart_for_key_descending.Statement.{statement}
+use Rattle.block_restarts_v2.proofs.find_restart_for_key_descending.Tie as tie
+
+module _ (k : tie.After-known-told) where
+  found : let a = k .before .before .before .before .before .before .args in searchAt (a .block .now) (trailerFrom (a .t)) (a .target .now) ≡ ok (foundIs (k .before .s .given .0 .0) (k .before .s .given .0 .1 .0))
+  found = yes saysSearch (k .before .before .before .search-restarts .ensures) (k .before .s .given .1)
+
+search-restarts-requires : tie.Need-search-restarts-requires
+search-restarts-requires c κs = search needs
+
+enum-known-s : tie.Need-enum-known-s
+enum-known-s c = search needs
+
+enum-told : tie.Need-enum-told
+enum-told c = search needs
+
+search-refusal-requires : tie.Need-search-refusal-requires
+search-refusal-requires c κs = search needs
+
+returns : tie.Need-returns
+returns c = down-no _ _ _ (no saysSearch refusalOfSearch (c .before .before .before .search-restarts .ensures) (c .before .enum-told .given .1) refl (c .search-refusal .ensures))
+
+earlier-requires : tie.Need-earlier-requires
+earlier-requires c κs = search needs
+
+returns-2 : tie.Need-returns-2
+returns-2 c = down-past _ _ _ _ (found (c .before .before .before)) (c .if1 .taken) (c .before .before .earlier .ensures)
+
+restart-equals-requires : tie.Need-restart-equals-requires
+restart-equals-requires c κs = (searched _ _ _ _ (found (c .before .before .before)), c .if1 .left)
+
+enum-known-p : tie.Need-enum-known-p
+enum-known-p c = search needs
+
+enum-told-2 : tie.Need-enum-told-2
+enum-told-2 c = search needs
+
+probe-refusal-requires : tie.Need-probe-refusal-requires
+probe-refusal-requires c κs = search needs
+
+returns-3 : tie.Need-returns-3
+returns-3 c =
+    let q = c .before .before .before in
+    let i = q .before in
+    down-refused _ _ _ _ (found (i .before .before .before)) (i .if1 .left) (no saysProbe refusalOfProbe (q .restart-equals .ensures) (c .before .enum-told2 .given .1) refl (c .probe-refusal .ensures))
+
+last-equal-requires : tie.Need-last-equal-requires
+last-equal-requires c κs =
+    let i = c .before .before .before .before .before in
+    (searched _ _ _ _ (found (i .before .before .before)), i .if1 .left)
+
+returns-4 : tie.Need-returns-4
+returns-4 c =
+    let p = c .before .before .before in
+    let q = p .before .before in
+    let i = q .before in
+    down-run _ _ _ _ (found (i .before .before .before)) (i .if1 .left) (yes saysProbe (q .restart-equals .ensures) (p .p .given .1) ∙ ap ok (c .before .if2 .taken)) (c .last-equal .ensures)
+
+returns-5 : tie.Need-returns-5
+returns-5 c =
+    let p = c .before .before in
+    let q = p .before .before in
+    let i = q .before in
+    down-earlier _ _ _ _ (found (i .before .before .before)) (i .if1 .left) (yes saysProbe (q .restart-equals .ensures) (p .p .given .1) ∙ ap ok (c .if2 .left)) (i .before .before .earlier .ensures)
+
+pub find-restart-for-key-descending-spec : {M : Type 1} → statement M
+find-restart-for-key-descending-spec =
+    tie.close
+    (tie.spec
+    search-restarts-requires
+    enum-known-s
+    enum-told
+    search-refusal-requires
+    returns
+    earlier-requires
+    returns-2
+    restart-equals-requires
+    enum-known-p
+    enum-told-2
+    probe-refusal-requires
+    returns-3
+    last-equal-requires
+    returns-4
+    returns-5)

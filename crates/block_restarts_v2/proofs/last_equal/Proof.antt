@@ -1,0 +1,95 @@
+-- `last_equal` keeps its promise: the last of the run, with the count handed in.
+-- The loop's invariant: the run from `last` on ends where the run from `first` on ends.
+use Prim.Native.Nat.{_-_, _<_}
+use mathlib.Core.Path.{_≡_, refl, ap, _∙_}
+use mathlib.Core.Bool.{Bool, true, false, not}
+use native.Mathlib.Omega.{arith}
+use Rattle.layout.specs.Answer.{ok}
+use Rattle.layout.specs.Laws.Seek.{Running, running-start}
+use Rattle.types.specs.Answers.{yes, no}
+use Rattle.block.specs.Says.{trailerFrom}
+use Rattle.block_restarts_v2.specs.Laws.{run-over, run-no, run-ends, run-more}
+use Rattle.block_restarts_v2.specs.Reading.{saysProbe, refusalOfProbe}
+use borrow.Author.Needs.{needs}
+use Rattle.block_restarts_v2.proofs.last_equal.Statement.{statement}
+use Rattle.block_restarts_v2.proofs.last_equal.Tie as tie
+
+was-not : (b : Bool) → not b ≡ true → b ≡ false
+was-not true e = cc
+was-not false e = refl
+
+was : (b : Bool) → not b ≡ false → b ≡ true
+was true e = refl
+was false e = cc
+
+abbrev Inv-loop : tie.InvT-loop
+Inv-loop block t target first reads count last₀ last = Running block (trailerFrom t) target first last × (last < t .count)
+
+abbrev μ-loop : tie.MeasureT-loop
+μ-loop block t target first reads count last₀ last = count - last
+
+loop-holds : tie.Need-loop-holds Inv-loop μ-loop
+loop-holds c = (running-start _ _ _ _, c .before .before .pre .1)
+
+add-loop : tie.Need-add-loop Inv-loop μ-loop
+add-loop c = omega (arith, c .loop .inv .1)
+
+add-next : tie.Need-add-next Inv-loop μ-loop
+add-next c = omega arith
+
+restart-equals-requires : tie.Need-restart-equals-requires Inv-loop μ-loop
+restart-equals-requires c κs = (c .before .before .before .before .pre .0, c .loop-test .taken)
+
+enum-known-p : tie.Need-enum-known-p Inv-loop μ-loop
+enum-known-p c = search needs
+
+enum-told : tie.Need-enum-told Inv-loop μ-loop
+enum-told c = search needs
+
+probe-refusal-requires : tie.Need-probe-refusal-requires Inv-loop μ-loop
+probe-refusal-requires c κs = search needs
+
+returns : tie.Need-returns Inv-loop μ-loop
+returns c =
+    let k = c .before .before .before in
+    let l = k .before in
+    run-no _ _ _ _ _ _ (l .before .loop .inv .0) (l .loop-test .taken) (no saysProbe refusalOfProbe (k .restart-equals .ensures) (c .before .enum-told .given .1) refl (c .probe-refusal .ensures))
+
+returns-2 : tie.Need-returns-2 Inv-loop μ-loop
+returns-2 c =
+    let p = c .before .before in
+    let k = p .before .before in
+    let l = k .before in
+    run-ends _ _ _ _ _ _ (l .before .loop .inv .0) (l .loop-test .taken) (yes saysProbe (k .restart-equals .ensures) (p .p .given .1) ∙ ap ok (was-not _ (c .if1 .taken)))
+
+loop-less : tie.Need-loop-less Inv-loop μ-loop
+loop-less c = omega arith
+
+loop-again : tie.Need-loop-again Inv-loop μ-loop
+loop-again c =
+    let p = c .before .before in
+    let k = p .before .before in
+    let l = k .before in
+    (run-more _ _ _ 0 _ _ (l .before .loop .inv .0) (l .loop-test .taken) (yes saysProbe (k .restart-equals .ensures) (p .p .given .1) ∙ ap ok (was _ (c .if1 .left))), l .loop-test .taken)
+
+returns-3 : tie.Need-returns-3 Inv-loop μ-loop
+returns-3 c = run-over _ _ _ _ _ _ (c .before .loop .inv .0) (c .loop-test .left)
+
+pub last-equal-spec : {M : Type 1} → statement M
+last-equal-spec =
+    tie.close
+    (tie.spec
+    Inv-loop
+    μ-loop
+    loop-holds
+    add-loop
+    add-next
+    restart-equals-requires
+    enum-known-p
+    enum-told
+    probe-refusal-requires
+    returns
+    returns-2
+    loop-less
+    loop-again
+    returns-3)

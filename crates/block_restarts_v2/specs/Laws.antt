@@ -1,0 +1,289 @@
+-- Each way through a search by what was met on it, one law for each exit of the code. For callers: the region answered is below the count (`up-inside`,
+-- `down-inside`); a trailer that was read from the block passes the tests, so the definitions of `layout` are left (`up-used`, `down-used`), and a seek is the
+-- start and the walk from there (`seek-up-no`, `seek-up`, `seek-down-no`, `seek-down`).
+use Prim.Native.Nat.{ℕ, suc, _+_, _-_, _*_, _/_, _≤_, _<_}
+use mathlib.Core.Path.{_≡_, refl, ap, sym, _∙_}
+use mathlib.Core.Bool.{Bool, true, false, not}
+use mathlib.Core.List.{List}
+use native.Mathlib.Omega.{arith}
+use lib.Dec.{eqb}
+use lib.ListN.{length, take, drop}
+use lib.Seq.{take-nil, length-take-le}
+use borrow.Author.Tests.{eq-eqb, ne-eqb, eqb-false}
+use Rattle.layout.specs.Answer.{Res, ok, refuse, bind, guard}
+use Rattle.layout.specs.Key.{Key, same, compare, Ordering}
+use Rattle.layout.specs.RowRead.{KeyRead, readKey}
+use Rattle.layout.specs.Trailer.{Trailer, trailerOf, dataOf, Region, regionOf}
+use Rattle.layout.specs.Cursor.{Direction, ascending, descending, Cursor}
+use Rattle.layout.specs.Seek.{Found, restartKey, restartBelow, searchRestarts, lastEqual, startDown, walkUp, walkDown, soughtIs, seekAlong, seek}
+use Rattle.layout.specs.Laws.Answer.{bind-then, guard-ok, ok-inj}
+use Rattle.layout.specs.Laws.Trailer.{trailerOf-tells}
+use Rattle.layout.specs.Laws.Seek.{restart-region, restart-no, restart-is, below-no, below-is, searchFrom, search-whole, from-no, from-up, from-down, Running, running-over, running-no, running-ends, running-more, start-past, start-no, start-earlier, start-run, up-from, down-no as fall-no, down-from, seek-search, seek-no, seek-is}
+use Rattle.layout.specs.Laws.Compare.{isLess, isEqual, compare-less-below, compare-equal-same}
+use Rattle.layout.specs.Laws.Restart.{readKey-ends, lies-within, middle-is, search-inside, start-inside}
+use Rattle.types.specs.Answers.{apart}
+use Rattle.block.specs.Handed.{belongs, regionAt}
+use Rattle.block.specs.Laws.{belongs-is, region-there}
+use Rattle.block_restarts_v2.specs.declared.Start.{Start}
+use Rattle.block_restarts_v2.specs.Handed.{startIs, handed, searchAt, startUpAt, startDownAt}
+use Rattle.block_restarts_v2.specs.Reading.{restartPlace, restartSame, startAfter, runFrom}
+
+-- ---- a restart's key
+
+module _ (b : List ℕ) (t : Trailer) (i : ℕ) where
+  -- the trailer is the block's, so a region is as the rules say
+  pub region-in : {x : Res Region} → t .size + (2 + 2 * t .count) ≡ length b → i < t .count → x ≡ regionAt b t i → x ≡ regionOf b t i
+  region-in s h e = e ∙ region-there b t i (rw (eq-eqb (t .size + (2 + 2 * t .count)) (length b) s)) h
+
+  pub place-region : {n : ℕ} → regionOf b t i ≡ refuse n → refuse n ≡ restartPlace b t i
+  unfolding restartPlace
+  place-region e = rw e
+
+  pub place-read : {x : Res KeyRead} (g : Region) → regionOf b t i ≡ ok g → x ≡ readKey (dataOf b t) (g .start) (g .end) 0 true → x ≡ restartPlace b t i
+  unfolding restartPlace
+  place-read g e q = rw e q
+
+  key-no : {n : ℕ} → restartPlace b t i ≡ refuse n → restartKey b t i ≡ refuse n
+  unfolding restartPlace
+  key-no {n} e = go (regionOf b t i) refl e
+    where
+      go : (x : Res Region) → regionOf b t i ≡ x → bind x (λ g. readKey (dataOf b t) (g .start) (g .end) 0 true) ≡ refuse n → restartKey b t i ≡ refuse n
+      go (ok g) p q = restart-no b t i g p q
+      go (refuse m) p q = restart-region b t i p ∙ (let w : m ≡ n = cc in ap refuse w)
+
+  module _ (target : Key) {n : ℕ} (e : restartPlace b t i ≡ refuse n) where
+    pub no-below : refuse n ≡ restartBelow b t target i
+    no-below = sym (below-no b t i target (key-no e))
+
+    pub no-same : refuse n ≡ restartSame b t target i
+    unfolding restartSame
+    no-same = rw (key-no e)
+
+  module _ (s : t .size + (2 + 2 * t .count) ≡ length b) (k : KeyRead) (e : restartPlace b t i ≡ ok k) where
+    -- it lies inside the rows
+    pub key-lies : k .suffixAt + k .suffixLen ≤ t .size
+    unfolding restartPlace
+    key-lies =
+        bind-then (regionOf b t i) _ k e λ g p q.
+        rw (length-take-le (t .size) b (omega arith)) at (readKey-ends (dataOf b t) (g .start) (g .end) 0 true k q .0)
+
+    key-is : restartKey b t i ≡ ok (take (k .suffixAt + k .suffixLen - k .suffixAt) (drop (k .suffixAt) b))
+    unfolding restartPlace
+    key-is =
+        bind-then (regionOf b t i) _ k e λ g p q.
+        let n : k .suffixAt + k .suffixLen - k .suffixAt ≡ k .suffixLen = omega arith in
+        restart-is b t i g p k q
+        ∙ (rw (take-nil {A = ℕ} (k .shared), n) (ap ok (lies-within (k .suffixAt) (k .suffixLen) (t .size) b key-lies)))
+
+    module _ (target : Key) {o : Ordering} (q : o ≡ compare (take (k .suffixAt + k .suffixLen - k .suffixAt) (drop (k .suffixAt) b)) target) where
+      pub says-below : {x : Bool} → x ≡ isLess o → ok x ≡ restartBelow b t target i
+      says-below w = ap ok (w ∙ ap isLess q ∙ compare-less-below _ _) ∙ sym (below-is b t i target _ key-is)
+
+      pub says-same : {x : Bool} → x ≡ isEqual o → ok x ≡ restartSame b t target i
+      unfolding restartSame
+      says-same w = rw key-is (ap ok (w ∙ ap isEqual q ∙ compare-equal-same _ _))
+
+  -- what the test for equality tells of the key
+  module _ (target : Key) where
+    key-refused : {n : ℕ} → restartSame b t target i ≡ refuse n → restartKey b t i ≡ refuse n
+    unfolding restartSame
+    key-refused {n} e = go (restartKey b t i) e
+      where
+        go : (x : Res Key) → bind x (λ k. ok (same k target)) ≡ refuse n → x ≡ refuse n
+        go (ok k) q = absurd (let z : _≡_ {A = ℕ} 0 1 = cc in omega arith)
+        go (refuse m) q = let w : m ≡ n = cc in ap refuse w
+
+    key-tested : {x : Bool} {A : Type 0} → restartSame b t target i ≡ ok x → ((k : Key) → restartKey b t i ≡ ok k → same k target ≡ x → A) → A
+    unfolding restartSame
+    key-tested {x} e f = bind-then (restartKey b t i) _ x e λ k p q. f k p (ok-inj q)
+
+-- ---- the span halved
+
+module _ (b : List ℕ) (t : Trailer) (target : Key) (low high reads : ℕ) (h : low < high) where
+  pub halved-no : {n : ℕ} → restartBelow b t target (low + (high - low) / 2) ≡ refuse n → refuse n ≡ searchFrom b t target low high reads
+  halved-no e = from-no b t target low high reads h (rw (middle-is low high) e)
+
+  pub halved-up : {x : Res Found} → restartBelow b t target (low + (high - low) / 2) ≡ ok true → x ≡ searchFrom b t target (low + (high - low) / 2 + 1) high (reads + 1)
+      → x ≡ searchFrom b t target low high reads
+  halved-up e q = q ∙ (rw (middle-is low high) at (from-up b t target low high reads h (rw (middle-is low high) e)))
+
+  pub halved-down : {x : Res Found} → restartBelow b t target (low + (high - low) / 2) ≡ ok false → x ≡ searchFrom b t target low (low + (high - low) / 2) (reads + 1)
+      → x ≡ searchFrom b t target low high reads
+  halved-down e q = q ∙ (rw (middle-is low high) at (from-down b t target low high reads h (rw (middle-is low high) e)))
+
+-- ---- the run of restarts equal to the target, with the count that it carries
+
+module _ (b : List ℕ) (t : Trailer) (target : Key) (reads first : ℕ) where
+  ran-to : (i : ℕ) → ok i ≡ lastEqual (t .count) b t target first → ok (startIs i reads) ≡ runFrom b t target first reads
+  unfolding runFrom
+  ran-to i e = ap (λ (x : Res ℕ). bind x (startAfter reads)) e
+
+  ran-no : {n : ℕ} → refuse n ≡ lastEqual (t .count) b t target first → refuse n ≡ runFrom b t target first reads
+  unfolding runFrom
+  ran-no e = ap (λ (x : Res ℕ). bind x (startAfter reads)) e
+
+  module _ (i : ℕ) (s : Running b t target first i) where
+    pub run-over : t .count ≤ i + 1 → ok (startIs i reads) ≡ runFrom b t target first reads
+    run-over h = ran-to i (running-over b t target first i s h)
+
+    module _ (h : i + 1 < t .count) where
+      pub run-no : {n : ℕ} → restartSame b t target (i + 1) ≡ refuse n → refuse n ≡ runFrom b t target first reads
+      run-no e = ran-no (running-no b t target first i s h (key-refused b t (i + 1) target e))
+
+      pub run-ends : restartSame b t target (i + 1) ≡ ok false → ok (startIs i reads) ≡ runFrom b t target first reads
+      run-ends e = key-tested b t (i + 1) target e λ k p q. ran-to i (running-ends b t target first i s h k p q)
+
+      pub run-more : restartSame b t target (i + 1) ≡ ok true → Running b t target first (i + 1)
+      run-more e = key-tested b t (i + 1) target e λ k p q. running-more b t target first i s h k p q
+
+-- ---- the tests of the trailer
+
+some-count : {n : ℕ} → (n ≡ 0 → ⊥) → 1 ≤ n
+some-count {n} h = omega (arith, h)
+
+below-count : {n place r : ℕ} → (n ≡ 0 → ⊥) → place ≤ n → place - 1 ≡ r → r < n
+below-count h k e = omega (arith, h)
+
+module _ (b : List ℕ) (t : Trailer) where
+  there : {A : Type 0} {x : Res A} → t .size + (2 + 2 * t .count) ≡ length b → (t .count ≡ 0 → ⊥) → handed b t x ≡ x
+  there s n = rw (eq-eqb (t .size + (2 + 2 * t .count)) (length b) s, ne-eqb (t .count) 0 n)
+
+  passed : {A : Type 0} (x : Res A) (a : A) → handed b t x ≡ ok a → (t .size + (2 + 2 * t .count) ≡ length b) × (t .count ≡ 0 → ⊥) × (x ≡ ok a)
+  passed x a e =
+      let p = guard-ok (not (belongs (length b) t)) 14 _ a e in
+      let q = guard-ok (eqb (t .count) 0) 14 _ a (p .1) in
+      (belongs-is (length b) t (p .0), eqb-false (t .count) 0 (q .0), q .1)
+
+  -- a refusal is handed on, and what passed goes on
+  went-no : {A B : Type 0} (x : Res A) (f : A → Res B) {n : ℕ} → handed b t x ≡ refuse n → refuse n ≡ handed b t (bind x f)
+  went-no {A} {B} x f {n} e = go (not (belongs (length b) t)) (eqb (t .count) 0) x e
+    where
+      go : (p q : Bool) (x : Res A) → guard p 14 (guard q 14 x) ≡ refuse n → refuse n ≡ guard p 14 (guard q 14 (bind x f))
+      go true q x e = let w : 14 ≡ n = cc in ap refuse (sym w)
+      go false true x e = let w : 14 ≡ n = cc in ap refuse (sym w)
+      go false false x e = rw e
+
+  went-on : {A B : Type 0} (x : Res A) (f : A → Res B) {a : A} → handed b t x ≡ ok a → f a ≡ handed b t (bind x f)
+  went-on x f {a} e = let p = passed x a e in sym (there (p .0) (p .1) ∙ (rw (p .2)))
+
+  module _ (target : Key) where
+    pub search-none : t .count ≡ 0 → refuse 14 ≡ searchAt b t target
+    unfolding searchAt
+    search-none e = rw (eq-eqb (t .count) 0 e) (either (not (belongs (length b) t)))
+      where
+        either : (p : Bool) → _≡_ {A = Res Found} (refuse 14) (guard p 14 (refuse 14))
+        either true = refl
+        either false = refl
+
+    pub search-strange : (t .size + (2 + 2 * t .count) ≡ length b → ⊥) → refuse 14 ≡ searchAt b t target
+    unfolding searchAt
+    search-strange n = rw (ne-eqb (t .size + (2 + 2 * t .count)) (length b) n)
+
+    pub search-there : {x : Res Found} → t .size + (2 + 2 * t .count) ≡ length b → (t .count ≡ 0 → ⊥) → x ≡ searchFrom b t target 0 (t .count) 0 → x ≡ searchAt b t target
+    unfolding searchAt
+    search-there s n e = search-whole b t target e ∙ sym (there s n)
+
+    -- ---- ascending, and descending by what the restart found was
+
+    module _ {n : ℕ} (e : searchAt b t target ≡ refuse n) where
+      pub up-no : refuse n ≡ startUpAt b t target
+      unfolding searchAt startUpAt
+      up-no = went-no (searchRestarts b t target) _ e
+
+      pub down-no : refuse n ≡ startDownAt b t target
+      unfolding searchAt startDownAt
+      down-no = went-no (searchRestarts b t target) _ e
+
+    module _ (f : Found) (e : searchAt b t target ≡ ok f) where
+      pub up-is : {r : ℕ} → r ≡ f .place - 1 → ok (startIs r (f .reads)) ≡ startUpAt b t target
+      unfolding searchAt startUpAt
+      up-is q = rw q (went-on (searchRestarts b t target) _ e)
+
+      -- what the search's tests showed
+      pub searched : t .size + (2 + 2 * t .count) ≡ length b
+      unfolding searchAt
+      searched = passed (searchRestarts b t target) f e .0
+
+      down-is : {x : Res Start} (y : Res ℕ) → x ≡ bind y (startAfter (f .reads)) → y ≡ startDown b t target (f .place) → x ≡ startDownAt b t target
+      unfolding searchAt startDownAt
+      down-is y q w = q ∙ ap (λ (z : Res ℕ). bind z (startAfter (f .reads))) w ∙ went-on (searchRestarts b t target) _ e
+
+      pub down-past : {r : ℕ} → t .count ≤ f .place → r ≡ f .place - 1 → ok (startIs r (f .reads)) ≡ startDownAt b t target
+      down-past {r} h q = down-is (ok r) refl (ap ok q ∙ start-past b t target (f .place) h)
+
+      module _ (h : f .place < t .count) where
+        pub down-refused : {n : ℕ} → restartSame b t target (f .place) ≡ refuse n → refuse n ≡ startDownAt b t target
+        down-refused {n} q = down-is (refuse n) refl (start-no b t target (f .place) h (key-refused b t (f .place) target q))
+
+        pub down-earlier : {r : ℕ} → restartSame b t target (f .place) ≡ ok false → r ≡ f .place - 1 → ok (startIs r (f .reads)) ≡ startDownAt b t target
+        down-earlier {r} q u = key-tested b t (f .place) target q λ k p w. down-is (ok r) refl (ap ok u ∙ start-earlier b t target (f .place) h k p w)
+
+        pub down-run : {x : Res Start} → restartSame b t target (f .place) ≡ ok true → x ≡ runFrom b t target (f .place) (f .reads) → x ≡ startDownAt b t target
+        unfolding runFrom
+        down-run q r =
+            key-tested b t (f .place) target q λ k p w.
+            down-is (lastEqual (t .count) b t target (f .place)) r (start-run b t target (f .place) h k p w refl)
+
+    -- ---- for callers
+
+    pub up-inside : (s : Start) → startUpAt b t target ≡ ok s → s .region < t .count
+    unfolding startUpAt
+    up-inside s e =
+        let p = passed (bind (searchRestarts b t target) λ f. ok (startIs (f .place - 1) (f .reads))) s e in
+        bind-then (searchRestarts b t target) _ s (p .2) λ f q w.
+        let r = ap (λ (x : Start). x .region) (ok-inj w) in
+        below-count (p .1) (search-inside b t target f q) r
+
+    pub down-inside : (s : Start) → startDownAt b t target ≡ ok s → s .region < t .count
+    unfolding startDownAt
+    down-inside s e =
+        let p = passed (bind (searchRestarts b t target) λ f. bind (startDown b t target (f .place)) λ r. ok (startIs r (f .reads))) s e in
+        bind-then (searchRestarts b t target) _ s (p .2) λ f q w.
+        bind-then (startDown b t target (f .place)) _ s w λ r u v.
+        rw (← ok-inj v) (start-inside b t target (f .place) r u (search-inside b t target f q) (some-count (p .1)))
+
+    module _ (read : trailerOf b ≡ ok t) where
+      some : t .count ≡ 0 → ⊥
+      some e = let r = trailerOf-tells b t read .1 in omega arith
+
+      pub up-used : startUpAt b t target ≡ bind (searchRestarts b t target) λ f. ok (startIs (f .place - 1) (f .reads))
+      unfolding startUpAt
+      up-used = there (trailerOf-tells b t read .0) some
+
+      pub down-used : startDownAt b t target ≡ bind (searchRestarts b t target) λ f. bind (startDown b t target (f .place)) λ r. ok (startIs r (f .reads))
+      unfolding startDownAt
+      down-used = there (trailerOf-tells b t read .0) some
+
+      -- where the start is refused, so is the seek; else the seek is the walk from there, with the count
+      pub seek-up-no : {n : ℕ} → startUpAt b t target ≡ refuse n → seek ascending b target ≡ refuse n
+      seek-up-no {n} e = go (searchRestarts b t target) refl (sym up-used ∙ e)
+        where
+          go : (x : Res Found) → searchRestarts b t target ≡ x → bind x (λ f. ok (startIs (f .place - 1) (f .reads))) ≡ refuse n → seek ascending b target ≡ refuse n
+          go (ok f) p q = absurd (apart q)
+          go (refuse m) p q = seek-search ascending b target t read p ∙ (let w : m ≡ n = cc in ap refuse w)
+
+      pub seek-down-no : {n : ℕ} → startDownAt b t target ≡ refuse n → seek descending b target ≡ refuse n
+      seek-down-no {n} e = go (searchRestarts b t target) refl (sym down-used ∙ e)
+        where
+          run : (f : Found) → searchRestarts b t target ≡ ok f → (x : Res ℕ) → startDown b t target (f .place) ≡ x → bind x (λ r. ok (startIs r (f .reads))) ≡ refuse n → seek descending b target ≡ refuse n
+          run f p (ok r) u q = absurd (apart q)
+          run f p (refuse m) u q = seek-no descending b target t read f p (sym (fall-no b t target (f .place) u)) ∙ (let w : m ≡ n = cc in ap refuse w)
+
+          go : (x : Res Found) → searchRestarts b t target ≡ x → bind x (λ f. bind (startDown b t target (f .place)) λ r. ok (startIs r (f .reads))) ≡ refuse n → seek descending b target ≡ refuse n
+          go (ok f) p q = run f p (startDown b t target (f .place)) refl q
+          go (refuse m) p q = seek-search descending b target t read p ∙ (let w : m ≡ n = cc in ap refuse w)
+
+      along : (d : Direction) (f : Found) → searchRestarts b t target ≡ ok f → (x : Res Cursor) → x ≡ seekAlong d b t target (f .place) → seek d b target ≡ bind x λ c. ok (soughtIs c (f .reads))
+      along d f p (ok c) e = seek-is d b target t read f p c (sym e)
+      along d f p (refuse n) e = seek-no d b target t read f p (sym e)
+
+      pub seek-up : (s : Start) → startUpAt b t target ≡ ok s → (x : Res Cursor) → x ≡ walkUp (t .count - s .region) b t target (s .region) → seek ascending b target ≡ bind x λ c. ok (soughtIs c (s .reads))
+      seek-up s e x =
+          bind-then (searchRestarts b t target) _ s (sym up-used ∙ e) λ f p q.
+          rw (← ok-inj q) (λ w. along ascending f p x (up-from b t target (f .place) w))
+
+      pub seek-down : (s : Start) → startDownAt b t target ≡ ok s → (x : Res Cursor) → x ≡ walkDown (suc (s .region)) b t target (s .region) → seek descending b target ≡ bind x λ c. ok (soughtIs c (s .reads))
+      seek-down s e x =
+          bind-then (searchRestarts b t target) _ s (sym down-used ∙ e) λ f p q.
+          bind-then (startDown b t target (f .place)) _ s q λ r u v.
+          rw (← ok-inj v) (λ w. along descending f p x (down-from b t target (f .place) r u w))
