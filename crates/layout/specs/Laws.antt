@@ -18,6 +18,7 @@ pub mod Block
 pub mod Trailer
 pub mod Offsets
 pub mod Builder
+pub mod Building
 pub mod Made
 pub mod Carry
 pub mod Parts

@@ -1,0 +1,57 @@
+-- `add` keeps its promise: `add_in_place` worked on a copy of the last key. An accepted row's numbers and key go into the builder given back; beside a refusal stands the
+-- builder that came.
+use mathlib.Core.Path.{_≡_}
+use lib.ListN.{length}
+use borrow.Author.Needs.{needs}
+use Rattle.block_v2.proofs.Writes.{adds-not, adds-good}
+use Rattle.block_v2.proofs.BlockBuilderV2.add.Statement.{statement}
+use Rattle.block_v2.proofs.BlockBuilderV2.add.Tie as tie
+
+long : (c : tie.Start) → length (c .args .self .«last_key») ≡ 1024
+long c = search needs
+
+state-of-requires : tie.Need-state-of-requires
+state-of-requires c κs = search needs
+
+add-in-place-requires : tie.Need-add-in-place-requires
+add-in-place-requires c κs = search needs
+
+enum-known-grown : tie.Need-enum-known-grown
+enum-known-grown c = search needs
+
+enum-known-grown-2 : tie.Need-enum-known-grown-2
+enum-known-grown-2 c = search needs
+
+same-length : tie.Need-same-length
+same-length c = search needs
+
+same-length-2 : tie.Need-same-length-2
+same-length-2 c = search needs
+
+returns : tie.Need-returns
+returns c =
+    adds-good _ (c .before .before .before .before .before .before .before .before .before .before .before .state-of .ensures) _ _ _ _ (c .before .before .before .before .before .before .before .add-in-place .ensures) (long (c .before .before .before .before .before .before .before .before .before .before .before .before .before .before .before .before)) (c .before .grown .given .1)
+
+same-length-3 : tie.Need-same-length-3
+same-length-3 c = search needs
+
+same-length-4 : tie.Need-same-length-4
+same-length-4 c = search needs
+
+returns-2 : tie.Need-returns-2
+returns-2 c = adds-not _ (c .before .before .before .before .before .before .before .before .before .before .before .state-of .ensures) _ _ _ _ (c .before .before .before .before .before .before .before .add-in-place .ensures) (c .before .grown2 .given .1)
+
+pub add-spec : {M : Type 1} → statement M
+add-spec =
+    tie.close
+    (tie.spec
+    state-of-requires
+    add-in-place-requires
+    enum-known-grown
+    enum-known-grown-2
+    same-length
+    same-length-2
+    returns
+    same-length-3
+    same-length-4
+    returns-2)

@@ -1,0 +1,69 @@
+-- Each promise admits one outcome: two results, with the buffers that they leave, that both keep it are equal.
+use Prim.Native.Nat.{ℕ}
+use mathlib.Core.Path.{_≡_, ap₂, sym, _∙_}
+use mathlib.Core.Bool.{Bool}
+use mathlib.Core.List.{List}
+use lib.ListN.{length}
+use Rattle.layout.specs.Answer.{refuse}
+use Rattle.layout.specs.Builder.{Builder, add}
+use Rattle.layout.specs.Key.{Key}
+use Rattle.layout.specs.Limits.{defaultInterval}
+use Rattle.row_codec_v2.specs.Says.{fieldsFrom}
+use Rattle.row_codec_v2.specs.declared.RowFields.{RowFields}
+use Rattle.block_v2.specs.declared.BlockBuilderV2.{BlockBuilderV2}
+use Rattle.block_v2.specs.declared.Made.{Made}
+use Rattle.block_v2.specs.declared.New.{New}
+use Rattle.block_v2.specs.declared.Fit.{Fit}
+use Rattle.block_v2.specs.declared.AddAnswer.{AddAnswer}
+use Rattle.block_v2.specs.declared.Added.{Added}
+use Rattle.block_v2.specs.declared.BuildAnswer.{BuildAnswer}
+use Rattle.block_v2.specs.declared.Built.{Built}
+use Rattle.block_v2.specs.Promise.{Makes, Fits, Adds, Empties, Builds}
+use Rattle.block_v2.specs.Says.{viewOf, stateFrom, builderFrom, saysMade-one, saysFit-one, saysAdd-one, saysBuild-one}
+
+-- a builder is its view and the bytes of its last key
+abbrev whole : Builder → List ℕ → BlockBuilderV2
+whole v last = builderFrom (stateFrom v) last
+
+pub new-with-restart-interval-settled : (size interval : ℕ) (r q : New) → Makes size interval r → Makes size interval q → r ≡ q
+new-with-restart-interval-settled size interval r q a b =
+    ap₂ (λ (x : BlockBuilderV2) (y : Made). record { builder = x; answer = y })
+    (ap₂ whole (a .view ∙ sym (b .view)) (a .key-bytes ∙ sym (b .key-bytes)))
+    (saysMade-one (r .answer) (q .answer) (a .answer ∙ sym (b .answer)))
+
+pub new-settled : (size : ℕ) (r q : New) → Makes size defaultInterval r → Makes size defaultInterval q → r ≡ q
+new-settled size = new-with-restart-interval-settled size defaultInterval
+
+pub would-fit-settled : (self : BlockBuilderV2) (dataLen placesLen : ℕ) (key : Key) (value : List ℕ) (row : RowFields) (r q : Fit)
+    → Fits self dataLen placesLen key value row r → Fits self dataLen placesLen key value row q → r ≡ q
+would-fit-settled self dataLen placesLen key value row r q a b = saysFit-one r q (a ∙ sym b)
+
+pub add-settled : (self : BlockBuilderV2) (bytes places : List ℕ) (key : Key) (value : List ℕ) (row : RowFields) (r q : Added) (ys zs os ps : List ℕ)
+    → Adds self bytes places key value row r ys os → Adds self bytes places key value row q zs ps → (r ≡ q) × (ys ≡ zs) × (os ≡ ps)
+add-settled self bytes places key value row r q ys zs os ps a b = (
+  ap₂ (λ (x : BlockBuilderV2) (y : AddAnswer). record { builder = x; answer = y })
+      (a .whole ∙ sym (b .whole))
+      (saysAdd-one (r .answer) (q .answer) (a .answer ∙ sym (b .answer))),
+  a .bytes-after ∙ sym (b .bytes-after),
+  a .places-after ∙ sym (b .places-after),
+)
+
+-- a refused row changes nothing
+pub add-refused : (self : BlockBuilderV2) (bytes places : List ℕ) (key : Key) (value : List ℕ) (row : RowFields) (r : Added) (ys os : List ℕ) (n : ℕ)
+    → Adds self bytes places key value row r ys os → add (viewOf self) (length bytes) (length places) key (fieldsFrom row value) ≡ refuse n
+    → (r .builder ≡ self) × (ys ≡ bytes) × (os ≡ places)
+add-refused self bytes places key value row r ys os n a e =
+    let h = rw e at a in
+    (h .whole, h .bytes-after, h .places-after)
+
+pub is-empty-settled : (self : BlockBuilderV2) (r q : Bool) → Empties self r → Empties self q → r ≡ q
+is-empty-settled self r q a b = a ∙ sym b
+
+pub build-settled : (self : BlockBuilderV2) (bytes places : List ℕ) (r q : Built) (ys zs : List ℕ) → Builds self bytes places r ys → Builds self bytes places q zs
+    → (r ≡ q) × (ys ≡ zs)
+build-settled self bytes places r q ys zs a b = (
+  ap₂ (λ (x : BlockBuilderV2) (y : BuildAnswer). record { builder = x; answer = y })
+      (a .whole ∙ sym (b .whole))
+      (saysBuild-one (r .answer) (q .answer) (a .answer ∙ sym (b .answer))),
+  a .bytes-after ∙ sym (b .bytes-after),
+)

@@ -1,0 +1,102 @@
+-- What the private functions of the builder answer and write: a row that is tested, with what was found on the way; a row that is
+-- written; a block that is built.
+use Prim.Native.Nat.{ℕ, _+_, _≤_}
+use mathlib.Core.Path.{_≡_}
+use mathlib.Core.Bool.{Bool, cond}
+use mathlib.Core.List.{List}
+use lib.ListN.{length, drop, set}
+use Rattle.layout.specs.Answer.{Res, ok, refuse, bind, guard}
+use Rattle.layout.specs.Block.{shareOf}
+use Rattle.layout.specs.Builder.{Builder, stateTests, atRestart, nextRow, grownSize, wouldFit, grown, add, dataAfter, placesAfter, build, blockAfter}
+use Rattle.layout.specs.Key.{Key}
+use Rattle.layout.specs.Place.{splice}
+use Rattle.layout.specs.Row.{Fields, valueOf, rowBytes, lengthTests}
+use Rattle.types.specs.Number.{number}
+use Rattle.types.specs.declared.Refusal.{Refusal}
+use Rattle.types.specs.declared.Refusal.the-variants.{EmptyKey}
+use Rattle.block_v2.specs.declared.State.{State}
+use Rattle.block_v2.specs.declared.BuildAnswer.{BuildAnswer}
+use Rattle.block_v2.specs.declared.Planned.{Planned}
+use Rattle.block_v2.specs.declared.Planned.the-variants.{Row as PlannedRow, Refused as PlannedRefused}
+use Rattle.block_v2.specs.declared.Grown.{Grown}
+use Rattle.block_v2.specs.declared.Grown.the-variants.{Row as GrownRow, Refused as GrownRefused}
+use Rattle.block_v2.specs.Says.{stateFrom, viewFrom, saysBuild}
+
+-- ---- tested
+
+-- whether these numbers are refused as a state, whatever the last key's bytes are: 18
+abbrev pub Judges : State → ℕ → ℕ → Bool → Type 0
+Judges s dataLen placesLen r = (last : List ℕ) → stateTests (viewFrom s last) dataLen placesLen ≡ guard r 18 (ok tt)
+
+pub record Plan : Type 0 where
+  pub shared : ℕ
+  pub size : ℕ
+  pub restart : Bool
+
+abbrev pub planIs : ℕ → ℕ → Bool → Plan
+planIs shared size restart = record { shared = shared; size = size; restart = restart }
+
+-- the share of the next row, the size of the block with it, and whether it is a restart
+abbrev pub planOf : Builder → Key → Fields → Plan
+planOf b key f = planIs (shareOf (atRestart b) (b .last) key) (grownSize b key f) (atRestart b)
+
+abbrev pub fitted : Builder → ℕ → ℕ → Key → Fields → Res Plan
+fitted b dataLen placesLen key f = bind (wouldFit b dataLen placesLen key f) λ _. ok (planOf b key f)
+
+abbrev pub accepted : Builder → ℕ → ℕ → Key → Fields → Res Plan
+accepted b dataLen placesLen key f = bind (add b dataLen placesLen key f) λ _. ok (planOf b key f)
+
+abbrev pub saysPlanned : Planned → Res Plan
+saysPlanned (PlannedRow shared size restart) = ok (planIs shared size restart)
+saysPlanned (PlannedRefused r) = refuse (number r)
+
+-- the refusal of an answer that is one
+abbrev pub plannedRefusal : Planned → Refusal
+plannedRefusal (PlannedRow shared size restart) = EmptyKey
+plannedRefusal (PlannedRefused r) = r
+
+-- a row that passed all tests of adding, with the share and the mark that were found for it
+pub record Tested (b : Builder) (bytes places : List ℕ) (key : Key) (f : Fields) (shared : ℕ) (restart : Bool) : Type 0 where
+  pub share-is : shared ≡ shareOf (atRestart b) (b .last) key
+  pub mark-is : restart ≡ atRestart b
+  pub passed : add b (length bytes) (length places) key f ≡ ok (grown b key f)
+
+-- ---- written
+
+-- what the row's writer needs of it
+pub record Fitting (bytes : List ℕ) (used lastLen shared : ℕ) (key : Key) (f : Fields) : Type 0 where
+  pub own : shared ≤ length key
+  pub shares : shared ≤ lastLen
+  pub tested : lengthTests (shared + length (drop shared key)) (length (valueOf f)) ≡ ok tt
+  pub room : used + length (rowBytes shared (drop shared key) f) ≤ length bytes
+
+-- the bytes of the last key after an accepted row: its key over their start
+abbrev pub lastAfter : Res Builder → Key → List ℕ → List ℕ
+lastAfter (ok v) key last = splice last 0 key
+lastAfter (refuse n) key last = last
+
+pub record Grew (b : Builder) (key : Key) (f : Fields) (last bytes places : List ℕ) (r : State) (last′ bytes′ places′ : List ℕ) : Type 0 where
+  pub state : r ≡ stateFrom (grown b key f)
+  pub last-after : last′ ≡ splice last 0 key
+  pub bytes-after : bytes′ ≡ splice bytes (b .used) (nextRow b key f)
+  pub places-after : places′ ≡ cond (atRestart b) (set places (b .restarts) (b .used)) places
+
+abbrev pub saysGrown : Grown → Res State
+saysGrown (GrownRow s) = ok s
+saysGrown (GrownRefused r) = refuse (number r)
+
+pub record Grows (want : Res Builder) (b : Builder) (key : Key) (f : Fields) (last bytes places : List ℕ) (r : Grown) (last′ bytes′ places′ : List ℕ) : Type 0 where
+  pub answer : saysGrown r ≡ bind want λ v. ok (stateFrom v)
+  pub last-after : last′ ≡ lastAfter want key last
+  pub bytes-after : bytes′ ≡ dataAfter want b key f bytes
+  pub places-after : places′ ≡ placesAfter want b places
+
+-- ---- built
+
+pub record Ends (b : Builder) (bytes places : List ℕ) (r : BuildAnswer) (bytes′ : List ℕ) : Type 0 where
+  pub answer : saysBuild r ≡ build b (length bytes) (length places)
+  pub bytes-after : bytes′ ≡ blockAfter (build b (length bytes) (length places)) b bytes places
+
+-- whatever the last key's bytes are
+abbrev pub Finishes : State → List ℕ → List ℕ → BuildAnswer → List ℕ → Type 0
+Finishes s bytes places r bytes′ = (last : List ℕ) → Ends (viewFrom s last) bytes places r bytes′
