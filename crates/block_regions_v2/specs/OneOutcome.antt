@@ -6,6 +6,7 @@ use mathlib.Core.List.{List}
 use lib.ListN.{take}
 use Rattle.layout.specs.Seek.{Stop}
 use Rattle.layout.specs.Laws.Answer.{ok-inj}
+use Rattle.types.specs.declared.Refusal.{Refusal}
 use Rattle.block.specs.declared.Region.{Region}
 use Rattle.block_regions_v2.specs.declared.Ended.{Ended}
 use Rattle.block_regions_v2.specs.declared.WalkAnswer.{WalkAnswer}
@@ -37,6 +38,12 @@ walk-region-settled d g target w v m n =
     let is : w .answer ≡ v .answer = saysStop-one (w .answer) (v .answer) (stopFrom w) (stopFrom v) said in
     let s : stopFrom w ≡ stopFrom v = beside (v .answer) w v (subst (λ a. Blank a w) is (m .blank)) (n .blank) (subst (λ a. saysStop a (stopFrom w) ≡ saysWalked v) is said) in
     record { answer = is; place = ap (λ (x : Stop). x .at) s; keyLen = m .keyLen ∙ sym (n .keyLen); key = ap (λ (x : Stop). x .before) s }
+
+-- a refused walk is settled whole
+pub walk-region-refused-settled : (d : List ℕ) (g : Region) (target : List ℕ) (w v : Walked) (r : Refusal) → Walks d g target w → Walks d g target v → w .answer ≡ Refused r → w ≡ v
+walk-region-refused-settled d g target w v r m n e =
+    let is = walk-region-settled d g target w v m n .answer in
+    subst (λ a. Blank a w) e (m .blank) ∙ sym (subst (λ a. Blank a v) (sym is ∙ e) (n .blank))
 
 pub last-at-or-below-settled : (d : List ℕ) (g : Region) (target : List ℕ) (r q : LastRead) → EndsLast d g target r → EndsLast d g target q → r ≡ q
 last-at-or-below-settled d g target r q m n = saysLast-one r q (m ∙ sym n)

@@ -34,6 +34,7 @@ abbrev pub Blank : WalkAnswer → Walked → Type 0
 Blank Stopped w = Unit {0}
 Blank (Refused r) w = w ≡ noWalk r
 
+-- the length stands apart: past the array's end it would not show in the bytes
 pub record Walks (d : List ℕ) (g : Region) (target : List ℕ) (w : Walked) : Type 0 where
   pub answer : saysWalked w ≡ walkTo d (regionFrom g) target
   pub keyLen : w .«key_len» ≡ carriedBy (walkTo d (regionFrom g) target)

@@ -1,0 +1,13 @@
+// The desk's cases and the slips this trade knows, through the code. It prints the bytes and numbers that the code answered; what they should be stands in the
+// file `stdout` alone.
+mod show;
+mod writing;
+
+fn main() {
+    writing::rows();
+    writing::blocks();
+    writing::numbers();
+    writing::flags();
+    writing::far_restarts();
+    writing::slips();
+}
