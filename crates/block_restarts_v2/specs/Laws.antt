@@ -15,101 +15,83 @@ use Rattle.layout.specs.Key.{Key, same, compare, Ordering}
 use Rattle.layout.specs.RowRead.{KeyRead, readKey}
 use Rattle.layout.specs.Trailer.{Trailer, trailerOf, dataOf, Region, regionOf}
 use Rattle.layout.specs.Cursor.{Direction, ascending, descending, Cursor}
-use Rattle.layout.specs.Seek.{Found, restartKey, restartBelow, searchRestarts, lastEqual, startDown, walkUp, walkDown, soughtIs, seekAlong, seek}
+use Rattle.layout.specs.Seek.{Found, middle, restartKey, restartBelow, searchRestarts, lastEqual, startDown, walkUp, walkDown, soughtIs, seekAlong, seek}
 use Rattle.layout.specs.Laws.Answer.{bind-then, guard-ok, ok-inj}
 use Rattle.layout.specs.Laws.Trailer.{trailerOf-tells}
 use Rattle.layout.specs.Laws.Seek.{restart-region, restart-no, restart-is, below-no, below-is, searchFrom, search-whole, from-no, from-up, from-down, Running, running-over, running-no, running-ends, running-more, start-past, start-no, start-earlier, start-run, up-from, down-no as fall-no, down-from, seek-search, seek-no, seek-is}
 use Rattle.layout.specs.Laws.Compare.{isLess, isEqual, compare-less-below, compare-equal-same}
-use Rattle.layout.specs.Laws.Restart.{readKey-ends, lies-within, middle-is, search-inside, start-inside}
+use Rattle.layout.specs.Laws.Restart.{readKey-ends, middle-is, search-inside, start-inside}
 use Rattle.types.specs.Answers.{apart}
 use Rattle.block.specs.Handed.{belongs, regionAt}
 use Rattle.block.specs.Laws.{belongs-is, region-there}
 use Rattle.block_restarts_v2.specs.declared.Start.{Start}
 use Rattle.block_restarts_v2.specs.Handed.{startIs, handed, searchAt, startUpAt, startDownAt}
-use Rattle.block_restarts_v2.specs.Reading.{restartPlace, restartSame, startAfter, runFrom}
+use Rattle.block_restarts_v2.specs.Reading.{restartCompared, startAfter, runFrom}
 
 -- ---- a restart's key
+
+-- one that was read lies inside the block
+pub key-lies : (b : List ℕ) (t : Trailer) (at end : ℕ) (k : KeyRead) → t .size + (2 + 2 * t .count) ≡ length b → readKey (dataOf b t) at end 0 true ≡ ok k
+    → k .suffixAt + k .suffixLen ≤ length b
+key-lies b t at end k s e = omega (arith, readKey-ends (dataOf b t) at end 0 true k e .0, length-take-le (t .size) b (omega arith))
 
 module _ (b : List ℕ) (t : Trailer) (i : ℕ) where
   -- the trailer is the block's, so a region is as the rules say
   pub region-in : {x : Res Region} → t .size + (2 + 2 * t .count) ≡ length b → i < t .count → x ≡ regionAt b t i → x ≡ regionOf b t i
   region-in s h e = e ∙ region-there b t i (rw (eq-eqb (t .size + (2 + 2 * t .count)) (length b) s)) h
 
-  pub place-region : {n : ℕ} → regionOf b t i ≡ refuse n → refuse n ≡ restartPlace b t i
-  unfolding restartPlace
-  place-region e = rw e
-
-  pub place-read : {x : Res KeyRead} (g : Region) → regionOf b t i ≡ ok g → x ≡ readKey (dataOf b t) (g .start) (g .end) 0 true → x ≡ restartPlace b t i
-  unfolding restartPlace
-  place-read g e q = rw e q
-
-  key-no : {n : ℕ} → restartPlace b t i ≡ refuse n → restartKey b t i ≡ refuse n
-  unfolding restartPlace
-  key-no {n} e = go (regionOf b t i) refl e
-    where
-      go : (x : Res Region) → regionOf b t i ≡ x → bind x (λ g. readKey (dataOf b t) (g .start) (g .end) 0 true) ≡ refuse n → restartKey b t i ≡ refuse n
-      go (ok g) p q = restart-no b t i g p q
-      go (refuse m) p q = restart-region b t i p ∙ (let w : m ≡ n = cc in ap refuse w)
-
-  module _ (target : Key) {n : ℕ} (e : restartPlace b t i ≡ refuse n) where
-    pub no-below : refuse n ≡ restartBelow b t target i
-    no-below = sym (below-no b t i target (key-no e))
-
-    pub no-same : refuse n ≡ restartSame b t target i
-    unfolding restartSame
-    no-same = rw (key-no e)
-
-  module _ (s : t .size + (2 + 2 * t .count) ≡ length b) (k : KeyRead) (e : restartPlace b t i ≡ ok k) where
-    -- it lies inside the rows
-    pub key-lies : k .suffixAt + k .suffixLen ≤ t .size
-    unfolding restartPlace
-    key-lies =
-        bind-then (regionOf b t i) _ k e λ g p q.
-        rw (length-take-le (t .size) b (omega arith)) at (readKey-ends (dataOf b t) (g .start) (g .end) 0 true k q .0)
-
-    key-is : restartKey b t i ≡ ok (take (k .suffixAt + k .suffixLen - k .suffixAt) (drop (k .suffixAt) b))
-    unfolding restartPlace
-    key-is =
-        bind-then (regionOf b t i) _ k e λ g p q.
-        let n : k .suffixAt + k .suffixLen - k .suffixAt ≡ k .suffixLen = omega arith in
-        restart-is b t i g p k q
-        ∙ (rw (take-nil {A = ℕ} (k .shared), n) (ap ok (lies-within (k .suffixAt) (k .suffixLen) (t .size) b key-lies)))
-
-    module _ (target : Key) {o : Ordering} (q : o ≡ compare (take (k .suffixAt + k .suffixLen - k .suffixAt) (drop (k .suffixAt) b)) target) where
-      pub says-below : {x : Bool} → x ≡ isLess o → ok x ≡ restartBelow b t target i
-      says-below w = ap ok (w ∙ ap isLess q ∙ compare-less-below _ _) ∙ sym (below-is b t i target _ key-is)
-
-      pub says-same : {x : Bool} → x ≡ isEqual o → ok x ≡ restartSame b t target i
-      unfolding restartSame
-      says-same w = rw key-is (ap ok (w ∙ ap isEqual q ∙ compare-equal-same _ _))
-
-  -- what the test for equality tells of the key
   module _ (target : Key) where
-    key-refused : {n : ℕ} → restartSame b t target i ≡ refuse n → restartKey b t i ≡ refuse n
-    unfolding restartSame
+    pub compared-region : {n : ℕ} → regionOf b t i ≡ refuse n → refuse n ≡ restartCompared b t target i
+    unfolding restartCompared
+    compared-region e = rw (restart-region b t i e)
+
+    module _ (g : Region) (e : regionOf b t i ≡ ok g) where
+      pub compared-no : {n : ℕ} → readKey (dataOf b t) (g .start) (g .end) 0 true ≡ refuse n → refuse n ≡ restartCompared b t target i
+      unfolding restartCompared
+      compared-no q = rw (restart-no b t i g e q)
+
+      -- the part of the rows that was compared is the key
+      pub compared-is : {o : Ordering} (k : KeyRead) → readKey (dataOf b t) (g .start) (g .end) 0 true ≡ ok k
+          → o ≡ compare (take (k .suffixAt + k .suffixLen - k .suffixAt) (drop (k .suffixAt) (dataOf b t))) target → ok o ≡ restartCompared b t target i
+      unfolding restartCompared
+      compared-is k q w =
+          let n : k .suffixAt + k .suffixLen - k .suffixAt ≡ k .suffixLen = omega arith in
+          rw (restart-is b t i g e k q, take-nil {A = ℕ} (k .shared)) (ap ok (w ∙ (rw n)))
+
+    -- what the comparison tells of the key
+    key-refused : {n : ℕ} → restartCompared b t target i ≡ refuse n → restartKey b t i ≡ refuse n
+    unfolding restartCompared
     key-refused {n} e = go (restartKey b t i) e
       where
-        go : (x : Res Key) → bind x (λ k. ok (same k target)) ≡ refuse n → x ≡ refuse n
-        go (ok k) q = absurd (let z : _≡_ {A = ℕ} 0 1 = cc in omega arith)
+        go : (x : Res Key) → bind x (λ k. ok (compare k target)) ≡ refuse n → x ≡ refuse n
+        go (ok k) q = absurd (apart q)
         go (refuse m) q = let w : m ≡ n = cc in ap refuse w
 
-    key-tested : {x : Bool} {A : Type 0} → restartSame b t target i ≡ ok x → ((k : Key) → restartKey b t i ≡ ok k → same k target ≡ x → A) → A
-    unfolding restartSame
-    key-tested {x} e f = bind-then (restartKey b t i) _ x e λ k p q. f k p (ok-inj q)
+    key-compared : {o : Ordering} {A : Type 0} → restartCompared b t target i ≡ ok o → ((k : Key) → restartKey b t i ≡ ok k → compare k target ≡ o → A) → A
+    unfolding restartCompared
+    key-compared {o} e f = bind-then (restartKey b t i) _ o e λ k p q. f k p (ok-inj q)
+
+    key-below : {o : Ordering} → restartCompared b t target i ≡ ok o → restartBelow b t target i ≡ ok (isLess o)
+    key-below e = key-compared e λ k p q. below-is b t i target k p ∙ ap ok (sym (compare-less-below k target) ∙ ap isLess q)
+
+    key-same : {o : Ordering} {x : Bool} {A : Type 0} → restartCompared b t target i ≡ ok o → isEqual o ≡ x → ((k : Key) → restartKey b t i ≡ ok k → same k target ≡ x → A) → A
+    key-same e w f = key-compared e λ k p q. f k p (sym (compare-equal-same k target) ∙ ap isEqual q ∙ w)
 
 -- ---- the span halved
 
 module _ (b : List ℕ) (t : Trailer) (target : Key) (low high reads : ℕ) (h : low < high) where
-  pub halved-no : {n : ℕ} → restartBelow b t target (low + (high - low) / 2) ≡ refuse n → refuse n ≡ searchFrom b t target low high reads
-  halved-no e = from-no b t target low high reads h (rw (middle-is low high) e)
+  pub halved-no : {n : ℕ} → restartCompared b t target (low + (high - low) / 2) ≡ refuse n → refuse n ≡ searchFrom b t target low high reads
+  halved-no e = from-no b t target low high reads h (rw (middle-is low high) (below-no b t _ target (key-refused b t _ target e)))
 
-  pub halved-up : {x : Res Found} → restartBelow b t target (low + (high - low) / 2) ≡ ok true → x ≡ searchFrom b t target (low + (high - low) / 2 + 1) high (reads + 1)
-      → x ≡ searchFrom b t target low high reads
-  halved-up e q = q ∙ (rw (middle-is low high) at (from-up b t target low high reads h (rw (middle-is low high) e)))
+  module _ {o : Ordering} (e : restartCompared b t target (low + (high - low) / 2) ≡ ok o) where
+    middle-below : {y : Bool} → isLess o ≡ y → restartBelow b t target (middle low high) ≡ ok y
+    middle-below w = rw (middle-is low high) (key-below b t _ target e ∙ ap ok w)
 
-  pub halved-down : {x : Res Found} → restartBelow b t target (low + (high - low) / 2) ≡ ok false → x ≡ searchFrom b t target low (low + (high - low) / 2) (reads + 1)
-      → x ≡ searchFrom b t target low high reads
-  halved-down e q = q ∙ (rw (middle-is low high) at (from-down b t target low high reads h (rw (middle-is low high) e)))
+    pub halved-up : {x : Res Found} → isLess o ≡ true → x ≡ searchFrom b t target (low + (high - low) / 2 + 1) high (reads + 1) → x ≡ searchFrom b t target low high reads
+    halved-up w q = q ∙ (rw (middle-is low high) at (from-up b t target low high reads h (middle-below w)))
+
+    pub halved-down : {x : Res Found} → isLess o ≡ false → x ≡ searchFrom b t target low (low + (high - low) / 2) (reads + 1) → x ≡ searchFrom b t target low high reads
+    halved-down w q = q ∙ (rw (middle-is low high) at (from-down b t target low high reads h (middle-below w)))
 
 -- ---- the run of restarts equal to the target, with the count that it carries
 
@@ -127,14 +109,15 @@ module _ (b : List ℕ) (t : Trailer) (target : Key) (reads first : ℕ) where
     run-over h = ran-to i (running-over b t target first i s h)
 
     module _ (h : i + 1 < t .count) where
-      pub run-no : {n : ℕ} → restartSame b t target (i + 1) ≡ refuse n → refuse n ≡ runFrom b t target first reads
+      pub run-no : {n : ℕ} → restartCompared b t target (i + 1) ≡ refuse n → refuse n ≡ runFrom b t target first reads
       run-no e = ran-no (running-no b t target first i s h (key-refused b t (i + 1) target e))
 
-      pub run-ends : restartSame b t target (i + 1) ≡ ok false → ok (startIs i reads) ≡ runFrom b t target first reads
-      run-ends e = key-tested b t (i + 1) target e λ k p q. ran-to i (running-ends b t target first i s h k p q)
+      module _ {o : Ordering} (e : restartCompared b t target (i + 1) ≡ ok o) where
+        pub run-ends : isEqual o ≡ false → ok (startIs i reads) ≡ runFrom b t target first reads
+        run-ends w = key-same b t (i + 1) target e w λ k p q. ran-to i (running-ends b t target first i s h k p q)
 
-      pub run-more : restartSame b t target (i + 1) ≡ ok true → Running b t target first (i + 1)
-      run-more e = key-tested b t (i + 1) target e λ k p q. running-more b t target first i s h k p q
+        pub run-more : isEqual o ≡ true → Running b t target first (i + 1)
+        run-more w = key-same b t (i + 1) target e w λ k p q. running-more b t target first i s h k p q
 
 -- ---- the tests of the trailer
 
@@ -212,17 +195,18 @@ module _ (b : List ℕ) (t : Trailer) where
       down-past {r} h q = down-is (ok r) refl (ap ok q ∙ start-past b t target (f .place) h)
 
       module _ (h : f .place < t .count) where
-        pub down-refused : {n : ℕ} → restartSame b t target (f .place) ≡ refuse n → refuse n ≡ startDownAt b t target
+        pub down-refused : {n : ℕ} → restartCompared b t target (f .place) ≡ refuse n → refuse n ≡ startDownAt b t target
         down-refused {n} q = down-is (refuse n) refl (start-no b t target (f .place) h (key-refused b t (f .place) target q))
 
-        pub down-earlier : {r : ℕ} → restartSame b t target (f .place) ≡ ok false → r ≡ f .place - 1 → ok (startIs r (f .reads)) ≡ startDownAt b t target
-        down-earlier {r} q u = key-tested b t (f .place) target q λ k p w. down-is (ok r) refl (ap ok u ∙ start-earlier b t target (f .place) h k p w)
+        module _ {o : Ordering} (q : restartCompared b t target (f .place) ≡ ok o) where
+          pub down-earlier : {r : ℕ} → isEqual o ≡ false → r ≡ f .place - 1 → ok (startIs r (f .reads)) ≡ startDownAt b t target
+          down-earlier {r} w u = key-same b t (f .place) target q w λ k p v. down-is (ok r) refl (ap ok u ∙ start-earlier b t target (f .place) h k p v)
 
-        pub down-run : {x : Res Start} → restartSame b t target (f .place) ≡ ok true → x ≡ runFrom b t target (f .place) (f .reads) → x ≡ startDownAt b t target
-        unfolding runFrom
-        down-run q r =
-            key-tested b t (f .place) target q λ k p w.
-            down-is (lastEqual (t .count) b t target (f .place)) r (start-run b t target (f .place) h k p w refl)
+          pub down-run : {x : Res Start} → isEqual o ≡ true → x ≡ runFrom b t target (f .place) (f .reads) → x ≡ startDownAt b t target
+          unfolding runFrom
+          down-run w r =
+              key-same b t (f .place) target q w λ k p v.
+              down-is (lastEqual (t .count) b t target (f .place)) r (start-run b t target (f .place) h k p v refl)
 
     -- ---- for callers
 

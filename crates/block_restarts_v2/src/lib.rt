@@ -4,14 +4,12 @@
 ghost use mathlib.Core.Path.{_≡_};
 ghost use Prim.Native.Nat.{_≤_, _<_, _+_, _-_, _*_};
 ghost use lib.ListN.{length};
-ghost use Rattle.layout.specs.Seek.{restartBelow};
 ghost use Rattle.layout.specs.Laws.Compare.{isLess, isEqual};
 ghost use Rattle.layout.specs.Laws.Seek.{searchFrom};
 ghost use Rattle.utils.specs.Says.{saysOrdering};
-ghost use Rattle.row_codec_v2.specs.Says.{saysKey};
 ghost use Rattle.block.specs.Says.{trailerFrom};
 ghost use Rattle.block_restarts_v2.specs.Handed.{searchAt};
-ghost use Rattle.block_restarts_v2.specs.Reading.{refusalOfRegion, refusalOfKey, saysProbe, refusalOfProbe, saysSearch, refusalOfSearch, restartPlace, restartSame, runFrom};
+ghost use Rattle.block_restarts_v2.specs.Reading.{refusalOfRegion, refusalOfKey, saysCompared, refusalOfCompared, saysSearch, refusalOfSearch, restartCompared, runFrom};
 ghost use Rattle.block_restarts_v2.specs.Says.{saysStart};
 ghost use Rattle.block_restarts_v2.specs.Promise.{StartsUp, StartsDown};
 use block::RegionRead;
@@ -37,8 +35,8 @@ enum Search {
     Refused(Refusal),
 }
 
-enum Probe {
-    Is(bool),
+enum Compared {
+    Is(Ordering),
     Refused(Refusal),
 }
 
@@ -60,12 +58,12 @@ fn key_refusal(a: KeyRead) -> Refusal
     }
 }
 
-fn probe_refusal(a: Probe) -> Refusal
-    ensures { λ r. ⌜ r ≡ refusalOfProbe a ⌝ }
+fn compared_refusal(a: Compared) -> Refusal
+    ensures { λ r. ⌜ r ≡ refusalOfCompared a ⌝ }
 {
     match a {
-        Probe::Refused(refusal) => refusal,
-        Probe::Is(_) => Refusal::BadTrailer,
+        Compared::Refused(refusal) => refusal,
+        Compared::Is(_) => Refusal::BadTrailer,
     }
 }
 
@@ -98,45 +96,30 @@ fn is_equal(order: Ordering) -> bool
     }
 }
 
-// Where the first key of a restart region lies: a restart shares nothing, so its suffix is the whole key.
-fn decode_first_key_at_restart(block: &[u8], t: Trailer, restart_idx: usize) -> KeyRead
+// How the first key of a restart region stands to the target. It is compared where it lies: a restart shares nothing, so its
+// suffix is the whole key.
+fn compare_first_key_at_restart(
+    block: &[u8],
+    t: Trailer,
+    target: &[u8],
+    restart_idx: usize,
+) -> Compared
     requires { ⌜ (t .size + (2 + 2 * t .count) ≡ length (now block)) × («restart_idx» < t .count) ⌝ }
-    ensures { λ r. ⌜ saysKey r ≡ restartPlace (now (block .entry)) (trailerFrom t) «restart_idx» ⌝ }
+    ensures { λ r. ⌜ saysCompared r ≡ restartCompared (now (block .entry)) (trailerFrom t) (now (target .entry)) «restart_idx» ⌝ }
 {
     let g = block::region_of(block, t, restart_idx);
     let RegionRead::Good(region) = g else {
-        return KeyRead::Refused(region_refusal(g));
+        return Compared::Refused(region_refusal(g));
     };
     let size = t.size;
-    row_codec_v2::decode_key_only(&block[..size], region.start, region.end, 0, true)
-}
-
-// Whether a restart's key is below the target.
-fn restart_below(block: &[u8], t: Trailer, target: &[u8], restart_idx: usize) -> Probe
-    requires { ⌜ (t .size + (2 + 2 * t .count) ≡ length (now block)) × («restart_idx» < t .count) ⌝ }
-    ensures { λ r. ⌜ saysProbe r ≡ restartBelow (now (block .entry)) (trailerFrom t) (now (target .entry)) «restart_idx» ⌝ }
-{
-    let k = decode_first_key_at_restart(block, t, restart_idx);
+    let rows = &block[..size];
+    let k = row_codec_v2::decode_key_only(rows, region.start, region.end, 0, true);
     let KeyRead::Read(key) = k else {
-        return Probe::Refused(key_refusal(k));
+        return Compared::Refused(key_refusal(k));
     };
     let from = key.suffix_at;
     let to = from + key.suffix_len;
-    Probe::Is(is_less(utils::compare(&block[from..to], target)))
-}
-
-// Whether it equals the target.
-fn restart_equals(block: &[u8], t: Trailer, target: &[u8], restart_idx: usize) -> Probe
-    requires { ⌜ (t .size + (2 + 2 * t .count) ≡ length (now block)) × («restart_idx» < t .count) ⌝ }
-    ensures { λ r. ⌜ saysProbe r ≡ restartSame (now (block .entry)) (trailerFrom t) (now (target .entry)) «restart_idx» ⌝ }
-{
-    let k = decode_first_key_at_restart(block, t, restart_idx);
-    let KeyRead::Read(key) = k else {
-        return Probe::Refused(key_refusal(k));
-    };
-    let from = key.suffix_at;
-    let to = from + key.suffix_len;
-    Probe::Is(is_equal(utils::compare(&block[from..to], target)))
+    Compared::Is(utils::compare(&rows[from..to], target))
 }
 
 // The first restart from `low` on, and before `high`, whose key is not below the target; `high` where there is none. `reads`
@@ -157,11 +140,11 @@ fn binary_search_restarts(
         return Search::Found { place: low, reads };
     }
     let mid = low + (high - low) / 2;
-    let p = restart_below(block, t, target, mid);
-    let Probe::Is(below) = p else {
-        return Search::Refused(probe_refusal(p));
+    let compared = compare_first_key_at_restart(block, t, target, mid);
+    let Compared::Is(order) = compared else {
+        return Search::Refused(compared_refusal(compared));
     };
-    if below {
+    if is_less(order) {
         binary_search_restarts(block, t, target, mid + 1, high, reads + 1)
     } else {
         binary_search_restarts(block, t, target, low, mid, reads + 1)
@@ -213,11 +196,11 @@ fn last_equal(block: &[u8], t: Trailer, target: &[u8], first: usize, reads: usiz
     let mut last = first;
     while last + 1 < count {
         let next = last + 1;
-        let p = restart_equals(block, t, target, next);
-        let Probe::Is(equal) = p else {
-            return StartRead::Refused(probe_refusal(p));
+        let compared = compare_first_key_at_restart(block, t, target, next);
+        let Compared::Is(order) = compared else {
+            return StartRead::Refused(compared_refusal(compared));
         };
-        if !equal {
+        if !is_equal(order) {
             return StartRead::At(Start {
                 region: last,
                 reads,
@@ -244,11 +227,11 @@ pub fn find_restart_for_key_descending(block: &[u8], t: Trailer, target: &[u8]) 
     if t.count <= low {
         return StartRead::At(Start { region, reads });
     }
-    let p = restart_equals(block, t, target, low);
-    let Probe::Is(equal) = p else {
-        return StartRead::Refused(probe_refusal(p));
+    let compared = compare_first_key_at_restart(block, t, target, low);
+    let Compared::Is(order) = compared else {
+        return StartRead::Refused(compared_refusal(compared));
     };
-    if equal {
+    if is_equal(order) {
         return last_equal(block, t, target, low, reads);
     }
     StartRead::At(Start { region, reads })

@@ -7,7 +7,7 @@ use native.Mathlib.Omega.{arith}
 use lib.Dec.{ltb, leb, eqb}
 use lib.ListN.{length, drop}
 use borrow.Author.Tests.{ltb-true, leb-true, leb-false}
-use Rattle.layout.specs.Answer.{Res, ok, refuse, bind}
+use Rattle.layout.specs.Answer.{Res, ok, refuse, bind, guard}
 use Rattle.layout.specs.Block.{shareOf}
 use Rattle.layout.specs.Builder.{Builder, restartsOf, stateTests, atRestart, nextRow, grownSize, fits, wouldFit, grown, add}
 use Rattle.layout.specs.Key.{Key}
@@ -50,74 +50,78 @@ state-passed b dataLen placesLen block some few in-data in-places allowed rows c
       last-fits = last-fits;
     })
 
+-- what the state's judge says, by its answer
+pub state-refused : {x : Res (Unit {0})} (t : Bool) → x ≡ guard t 18 (ok tt) → t ≡ true → x ≡ refuse 18
+state-refused t e q = rw q at e
+
+pub state-taken : {x : Res (Unit {0})} (t : Bool) → x ≡ guard t 18 (ok tt) → t ≡ false → x ≡ ok tt
+state-taken t e q = rw q at e
+
 -- ---- a row that is tested: the fit question
 
 pub share-fits : (restart : Bool) (before key : Key) {shared : ℕ} → shared ≡ shareOf restart before key → shared ≤ length key
 share-fits restart before key e = omega (arith, shares-is restart before key .own)
 
+-- what is known of a row once its size is answered
+pub record Measured (b : Builder) (dataLen placesLen : ℕ) (key : Key) (f : Fields) (shared : ℕ) (restart : Bool) (size : Res ℕ) : Type 0 where
+  pub state : stateTests b dataLen placesLen ≡ ok tt
+  pub mark : restart ≡ atRestart b
+  pub share : shared ≡ shareOf restart (b .last) key
+  pub size-is : sizeOf shared (drop shared key) f ≡ size
+
 module _ (b : Builder) (dataLen placesLen : ℕ) (key : Key) (f : Fields) where
   pub plan-state : {n : ℕ} → stateTests b dataLen placesLen ≡ refuse n → refuse n ≡ fitted b dataLen placesLen key f
   plan-state e = handed _ (fit-state b dataLen placesLen key f e)
 
-  module _ {shared : ℕ} {restart : Bool} (mark : restart ≡ atRestart b) (share : shared ≡ shareOf restart (b .last) key) where
+  module _ {shared : ℕ} {restart : Bool} {size : Res ℕ} (m : Measured b dataLen placesLen key f shared restart size) where
     share-is : shared ≡ shareOf (atRestart b) (b .last) key
-    share-is = share ∙ ap (λ (t : Bool). shareOf t (b .last) key) mark
+    share-is = m .share ∙ ap (λ (t : Bool). shareOf t (b .last) key) (m .mark)
 
     -- share and suffix make the key
     whole : shared + length (drop shared key) ≡ length key
     whole = rw share-is (shares-is (atRestart b) (b .last) key .whole)
 
-    bytes-are : rowBytes shared (drop shared key) f ≡ nextRow b key f
-    bytes-are = rw share-is (laidRow-bytes (b .last) key (atRestart b) f)
+    pub plan-unsized : {n : ℕ} → size ≡ refuse n → refuse n ≡ fitted b dataLen placesLen key f
+    plan-unsized q =
+        let t = size-refused _ _ _ _ _ _ (m .size-is ∙ q) in
+        handed _ (fit-lengths b dataLen placesLen key f (m .state) (rw (← whole, length-kept (f .kind) (f .val)) t))
 
-    module _ (state : stateTests b dataLen placesLen ≡ ok tt) where
-      pub plan-unsized : {n : ℕ} → sizeOf shared (drop shared key) f ≡ refuse n → refuse n ≡ fitted b dataLen placesLen key f
-      plan-unsized q =
-          let t = size-refused _ _ _ _ _ _ q in
-          handed _ (fit-lengths b dataLen placesLen key f state (rw (← whole, length-kept (f .kind) (f .val)) t))
+    module _ {n : ℕ} (q : size ≡ ok n) where
+      tells : SizeTells shared (length (drop shared key)) (keptLength (f .kind) (length (f .val))) (present (f .expire)) (present (f .create)) n
+      tells = size-tells _ _ _ _ _ _ (m .size-is ∙ q)
 
-      module _ {n : ℕ} (size : sizeOf shared (drop shared key) f ≡ ok n) where
-        tells : SizeTells shared (length (drop shared key)) (keptLength (f .kind) (length (f .val))) (present (f .expire)) (present (f .create)) n
-        tells = size-tells _ _ _ _ _ _ size
+      tested : lengthTests (length key) (length (valueOf f)) ≡ ok tt
+      tested = rw (← whole, length-kept (f .kind) (f .val)) (tells .tested)
 
-        tested : lengthTests (length key) (length (valueOf f)) ≡ ok tt
-        tested = rw (← whole, length-kept (f .kind) (f .val)) (tells .tested)
+      bytes-are : n ≡ length (rowBytes shared (drop shared key) f)
+      bytes-are = size-bytes shared (drop shared key) f (m .size-is ∙ q)
 
-        size-is : n ≡ length (nextRow b key f)
-        size-is = size-bytes shared (drop shared key) f size ∙ ap length bytes-are
+      -- no sum with it wraps
+      pub size-small : n ≤ 66599
+      size-small = omega (arith, bytes-are, rowBytes-most shared (drop shared key) f, tells .key-small, tells .value-small, length-kept (f .kind) (f .val))
 
-        -- no sum with it wraps
-        pub size-small : n ≤ 66599
-        size-small =
-            omega (
-              arith,
-              size-bytes shared (drop shared key) f size,
-              rowBytes-most shared (drop shared key) f,
-              tells .key-small,
-              tells .value-small,
-              length-kept (f .kind) (f .val),
-            )
+      pub plan-past : b .size < b .used → refuse 4 ≡ fitted b dataLen placesLen key f
+      plan-past h =
+          let o = state-tells b dataLen placesLen tt (m .state) in
+          handed _ (fit-no b dataLen placesLen key f (m .state) tested (fits-not b key f (λ z. absurd (omega (arith, o .no-rows z))) (omega arith)))
 
-        pub plan-past : b .size < b .used → refuse 4 ≡ fitted b dataLen placesLen key f
-        plan-past h =
-            let o = state-tells b dataLen placesLen tt state in
-            handed _ (fit-no b dataLen placesLen key f state tested (fits-not b key f (λ z. absurd (omega (arith, o .no-rows z))) (omega arith)))
+      module _ {present over : ℕ} (now : present ≡ b .used + 2 * b .restarts + 2) (more : over ≡ ifSo restart 2) where
+        grown-is : present + n + over ≡ grownSize b key f
+        grown-is =
+            let row : rowBytes shared (drop shared key) f ≡ nextRow b key f = rw share-is (laidRow-bytes (b .last) key (atRestart b) f) in
+            omega (arith, bytes-are ∙ ap length row, more ∙ ap (λ (t : Bool). ifSo t 2) (m .mark))
 
-        module _ {present over : ℕ} (now : present ≡ b .used + 2 * b .restarts + 2) (more : over ≡ ifSo restart 2) where
-          grown-is : present + n + over ≡ grownSize b key f
-          grown-is = omega (arith, size-is, more ∙ ap (λ (t : Bool). ifSo t 2) mark)
+        plan-yes : fits b key f ≡ true → ok (planIs shared (present + n + over) restart) ≡ fitted b dataLen placesLen key f
+        plan-yes e = rw (fit-yes b dataLen placesLen key f (m .state) tested e, grown-is, share-is, m .mark)
 
-          plan-yes : fits b key f ≡ true → ok (planIs shared (present + n + over) restart) ≡ fitted b dataLen placesLen key f
-          plan-yes e = rw (fit-yes b dataLen placesLen key f state tested e, grown-is, share-is, mark)
+        pub plan-empty : b .rows ≡ 0 → ok (planIs shared (present + n + over) restart) ≡ fitted b dataLen placesLen key f
+        plan-empty z = plan-yes (fits-empty b key f z)
 
-          pub plan-empty : b .rows ≡ 0 → ok (planIs shared (present + n + over) restart) ≡ fitted b dataLen placesLen key f
-          plan-empty z = plan-yes (fits-empty b key f z)
+        pub plan-over : (b .rows ≡ 0 → ⊥) → b .size < present + n + over → refuse 4 ≡ fitted b dataLen placesLen key f
+        plan-over z h = handed _ (fit-no b dataLen placesLen key f (m .state) tested (fits-not b key f z (rw (← grown-is) h)))
 
-          pub plan-over : (b .rows ≡ 0 → ⊥) → b .size < present + n + over → refuse 4 ≡ fitted b dataLen placesLen key f
-          plan-over z h = handed _ (fit-no b dataLen placesLen key f state tested (fits-not b key f z (rw (← grown-is) h)))
-
-          pub plan-fits : (b .rows ≡ 0 → ⊥) → present + n + over ≤ b .size → ok (planIs shared (present + n + over) restart) ≡ fitted b dataLen placesLen key f
-          plan-fits z h = plan-yes (fits-room b key f z (rw (← grown-is) h))
+        pub plan-fits : (b .rows ≡ 0 → ⊥) → present + n + over ≤ b .size → ok (planIs shared (present + n + over) restart) ≡ fitted b dataLen placesLen key f
+        plan-fits z h = plan-yes (fits-room b key f z (rw (← grown-is) h))
 
 -- ---- a row that is tested: adding
 

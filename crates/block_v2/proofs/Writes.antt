@@ -111,7 +111,7 @@ module _ (s : State) (last bytes places : List ℕ) (key : Key) (f : Fields) {sh
   -- and was written
   pub grew : {used count : ℕ} {p : Put} {last′ bytes′ places′ : List ℕ} → length last ≡ 1024 → Wrote bytes (s .used) (rowBytes shared (drop shared key) f) bytes′ used
       → (count ≡ s .restarts + ifSo restart 1) × (places′ ≡ cond restart (set places (s .restarts) (s .used)) places) → Puts key last 0 p last′
-      → Grew (viewFrom s last) key f last bytes places
+      → Grew s last bytes places key f
       (record {
         «block_size» = s .«block_size»;
         «restart_interval» = s .«restart_interval»;
@@ -158,16 +158,15 @@ module _ (bytes : List ℕ) (used lastLen shared : ℕ) (key value : List ℕ) (
 
 -- ---- adding, in place
 
-module _ (b : Builder) (key : Key) (f : Fields) (last bytes places : List ℕ) where
-  pub grows-not : {x : Refusal} → accepted b (length bytes) (length places) key f ≡ refuse (number x)
-      → Grows (add b (length bytes) (length places) key f) b key f last bytes places (GrownRefused x) last bytes places
+module _ (s : State) (last bytes places : List ℕ) (key : Key) (f : Fields) where
+  pub grows-not : {x : Refusal} → accepted (viewFrom s last) (length bytes) (length places) key f ≡ refuse (number x)
+      → Grows s last bytes places key f (GrownRefused x) last bytes places
   grows-not q =
-      rw (passed-not (add b (length bytes) (length places) key f) (λ _. planOf b key f) q)
+      rw (passed-not (add (viewFrom s last) (length bytes) (length places) key f) (λ _. planOf (viewFrom s last) key f) q)
       (record { answer = refl; last-after = refl; bytes-after = refl; places-after = refl })
 
-  pub grows : {shared : ℕ} {restart : Bool} {r : State} {last′ bytes′ places′ : List ℕ} → Tested b bytes places key f shared restart
-      → Grew b key f last bytes places r last′ bytes′ places′
-      → Grows (add b (length bytes) (length places) key f) b key f last bytes places (GrownRow r) last′ bytes′ places′
+  pub grows : {shared : ℕ} {restart : Bool} {r : State} {last′ bytes′ places′ : List ℕ} → Tested (viewFrom s last) bytes places key f shared restart
+      → Grew s last bytes places key f r last′ bytes′ places′ → Grows s last bytes places key f (GrownRow r) last′ bytes′ places′
   grows t g = rw (t .passed) (record { answer = ap ok (g .state); last-after = g .last-after; bytes-after = g .bytes-after; places-after = g .places-after })
 
 -- ---- the public functions, over the builder's state
@@ -182,14 +181,14 @@ module _ (self : BlockBuilderV2) {s : State} (is : s ≡ stateOf self) where
     fit-refused q = sym (passed-not (wouldFit (viewOf self) dataLen placesLen key f) (λ _. planOf (viewOf self) key f) (rw is at q))
 
   module _ (bytes places : List ℕ) (key : Key) (f : Fields) {r : Grown} {last′ bytes′ places′ : List ℕ}
-      (g : Grows (add (viewFrom s (self .«last_key»)) (length bytes) (length places) key f) (viewFrom s (self .«last_key»)) key f (self .«last_key») bytes places r last′ bytes′ places′) where
+      (g : Grows s (self .«last_key») bytes places key f r last′ bytes′ places′) where
     pub adds-not : {x : Refusal} → r ≡ GrownRefused x
-        → AddsAs (add (viewOf self) (length bytes) (length places) key f) self bytes places key f (record { builder = self; answer = AddRefused x }) bytes′ places′
+        → AddsAs (add (viewOf self) (length bytes) (length places) key f) self bytes places key f (record { builder = builderFrom (stateOf self) last′; answer = AddRefused x }) bytes′ places′
     adds-not q =
         let h = rw (is, q) at g in
         let e = passed-not (add (viewOf self) (length bytes) (length places) key f) stateFrom (sym (h .answer)) in
         let k = rw e at h in
-        rw e (record { answer = refl; view = refl; whole = refl; bytes-after = k .bytes-after; places-after = k .places-after })
+        rw (e, k .last-after) (record { answer = refl; view = refl; whole = refl; bytes-after = k .bytes-after; places-after = k .places-after })
 
     pub adds-good : {t : State} → length (self .«last_key») ≡ 1024 → r ≡ GrownRow t
         → AddsAs (add (viewOf self) (length bytes) (length places) key f) self bytes places key f

@@ -75,21 +75,27 @@ abbrev pub lastAfter : Res Builder → Key → List ℕ → List ℕ
 lastAfter (ok v) key last = splice last 0 key
 lastAfter (refuse n) key last = last
 
-pub record Grew (b : Builder) (key : Key) (f : Fields) (last bytes places : List ℕ) (r : State) (last′ bytes′ places′ : List ℕ) : Type 0 where
-  pub state : r ≡ stateFrom (grown b key f)
+-- an accepted row: the state and the three arrays after it
+pub record Grew (s : State) (last bytes places : List ℕ) (key : Key) (f : Fields) (r : State) (last′ bytes′ places′ : List ℕ) : Type 0 where
+  pub state : r ≡ stateFrom (grown (viewFrom s last) key f)
   pub last-after : last′ ≡ splice last 0 key
-  pub bytes-after : bytes′ ≡ splice bytes (b .used) (nextRow b key f)
-  pub places-after : places′ ≡ cond (atRestart b) (set places (b .restarts) (b .used)) places
+  pub bytes-after : bytes′ ≡ splice bytes (s .used) (nextRow (viewFrom s last) key f)
+  pub places-after : places′ ≡ cond (atRestart (viewFrom s last)) (set places (s .restarts) (s .used)) places
 
 abbrev pub saysGrown : Grown → Res State
 saysGrown (GrownRow s) = ok s
 saysGrown (GrownRefused r) = refuse (number r)
 
-pub record Grows (want : Res Builder) (b : Builder) (key : Key) (f : Fields) (last bytes places : List ℕ) (r : Grown) (last′ bytes′ places′ : List ℕ) : Type 0 where
+-- the same, or a refusal and nothing written
+pub record GrowsAs (want : Res Builder) (b : Builder) (last bytes places : List ℕ) (key : Key) (f : Fields) (r : Grown) (last′ bytes′ places′ : List ℕ) : Type 0 where
   pub answer : saysGrown r ≡ bind want λ v. ok (stateFrom v)
   pub last-after : last′ ≡ lastAfter want key last
   pub bytes-after : bytes′ ≡ dataAfter want b key f bytes
   pub places-after : places′ ≡ placesAfter want b places
+
+abbrev pub Grows : State → List ℕ → List ℕ → List ℕ → Key → Fields → Grown → List ℕ → List ℕ → List ℕ → Type 0
+Grows s last bytes places key f r last′ bytes′ places′ =
+    GrowsAs (add (viewFrom s last) (length bytes) (length places) key f) (viewFrom s last) last bytes places key f r last′ bytes′ places′
 
 -- ---- built
 

@@ -8,7 +8,7 @@ ghost use Prim.Native.Nat.{_≤_, _<_, _+_, _*_, _^_};
 ghost use lib.Dec.{ltb, leb, eqb};
 ghost use lib.ListN.{length, take, drop, set};
 ghost use Rattle.layout.specs.Block.{isRestart, shareOf};
-ghost use Rattle.layout.specs.Builder.{fresh, restartsOf, add};
+ghost use Rattle.layout.specs.Builder.{fresh, restartsOf};
 ghost use Rattle.layout.specs.Key.{common};
 ghost use Rattle.layout.specs.Limits.{maxKey, maxBlock, maxInterval, defaultInterval, maxOffset, maxRestarts, leastRow};
 ghost use Rattle.layout.specs.Row.{ifSo, rowBytes};
@@ -377,7 +377,7 @@ fn grow(
 ) -> State
     requires { ⌜ length (now «last_key») ≡ maxKey ⌝ }
     requires { ⌜ Tested (viewFrom s (now «last_key»)) (now «data») (now restarts) (now key) (fieldsFrom row (now value)) shared restart ⌝ }
-    ensures { λ r. ⌜ Grew (viewFrom s (now («last_key» .entry))) (now (key .entry)) (fieldsFrom row (now (value .entry))) (now («last_key» .entry)) (now («data» .entry)) (now (restarts .entry)) r (now («last_key» .exit)) (now («data» .exit)) (now (restarts .exit)) ⌝ }
+    ensures { λ r. ⌜ Grew s (now («last_key» .entry)) (now («data» .entry)) (now (restarts .entry)) (now (key .entry)) (fieldsFrom row (now (value .entry))) r (now («last_key» .exit)) (now («data» .exit)) (now (restarts .exit)) ⌝ }
 {
     let used = write_row(data, s.used, s.last_key_len, shared, key, value, row);
     let count = put_restart(restarts, restart, s.restarts, s.used);
@@ -411,7 +411,7 @@ fn add_in_place(
     row: RowFields,
 ) -> Grown
     requires { ⌜ length (now «last_key») ≡ maxKey ⌝ }
-    ensures { λ r. ⌜ Grows (add (viewFrom s (now («last_key» .entry))) (length (now («data» .entry))) (length (now (restarts .entry))) (now (key .entry)) (fieldsFrom row (now (value .entry)))) (viewFrom s (now («last_key» .entry))) (now (key .entry)) (fieldsFrom row (now (value .entry))) (now («last_key» .entry)) (now («data» .entry)) (now (restarts .entry)) r (now («last_key» .exit)) (now («data» .exit)) (now (restarts .exit)) ⌝ }
+    ensures { λ r. ⌜ Grows s (now («last_key» .entry)) (now («data» .entry)) (now (restarts .entry)) (now (key .entry)) (fieldsFrom row (now (value .entry))) r (now («last_key» .exit)) (now («data» .exit)) (now (restarts .exit)) ⌝ }
 {
     let planned = accept_row(s, last_key, data.len(), restarts.len(), key, value, row);
     let Planned::Row {
@@ -528,8 +528,15 @@ impl BlockBuilderV2 {
     ) -> Fit
         ensures { λ r. ⌜ Fits self «data_len» «places_len» (now (key .entry)) (now (value .entry)) row r ⌝ }
     {
-        let s = state_of(self);
-        let planned = plan_row(s, &self.last_key, data_len, places_len, key, value, row);
+        let planned = plan_row(
+            state_of(self),
+            &self.last_key,
+            data_len,
+            places_len,
+            key,
+            value,
+            row,
+        );
         match planned {
             Planned::Row { .. } => Fit::Yes,
             Planned::Refused(refusal) => Fit::Refused(refusal),
@@ -538,7 +545,7 @@ impl BlockBuilderV2 {
 
     // Adds a row: 18, 1, 2, 3, 4, 5, 6.
     pub fn add(
-        self,
+        mut self,
         data: &mut [u8],
         restarts: &mut [u16],
         key: &[u8],
@@ -547,20 +554,20 @@ impl BlockBuilderV2 {
     ) -> Added
         ensures { λ r. ⌜ Adds self (now («data» .entry)) (now (restarts .entry)) (now (key .entry)) (now (value .entry)) row r (now («data» .exit)) (now (restarts .exit)) ⌝ }
     {
-        let mut b = self;
         let s = state_of(self);
-        let grown = add_in_place(&mut b.last_key, s, data, restarts, key, value, row);
+        let grown = add_in_place(&mut self.last_key, s, data, restarts, key, value, row);
         match grown {
             Grown::Row(t) => {
-                b.used = t.used;
-                b.restarts = t.restarts;
-                b.counter = t.counter;
-                b.last_key_len = t.last_key_len;
+                self.used = t.used;
+                self.restarts = t.restarts;
+                self.counter = t.counter;
+                self.last_key_len = t.last_key_len;
                 Added {
-                    builder: b,
+                    builder: self,
                     answer: AddAnswer::Good,
                 }
             }
+            // Nothing is written, and the last key is as it was.
             Grown::Refused(refusal) => Added {
                 builder: self,
                 answer: AddAnswer::Refused(refusal),

@@ -1,5 +1,6 @@
 // The desk's cases and the slips this trade knows, through the code. It prints the bytes and numbers that the code answered; what they should be stands in the
 // file `stdout` alone.
+mod reading;
 mod show;
 mod writing;
 
@@ -10,4 +11,5 @@ fn main() {
     writing::flags();
     writing::far_restarts();
     writing::slips();
+    reading::seeks();
 }

@@ -1,13 +1,14 @@
 -- `find_restart_for_key_descending` keeps its promise: the search's refusal, or what follows from the restart found.
 -- A search that was not refused has tested the trailer, which is what reading that restart requires.
-use mathlib.Core.Path.{_≡_, refl, ap, _∙_}
+use mathlib.Core.Path.{_≡_, refl, sym, _∙_}
 use Rattle.layout.specs.Answer.{ok}
 use Rattle.layout.specs.Seek.{foundIs}
 use Rattle.types.specs.Answers.{yes, no}
+use Rattle.utils.specs.Says.{saysOrdering}
 use Rattle.block.specs.Says.{trailerFrom}
 use Rattle.block_restarts_v2.specs.Handed.{searchAt}
 use Rattle.block_restarts_v2.specs.Laws.{searched, down-no, down-past, down-refused, down-earlier, down-run}
-use Rattle.block_restarts_v2.specs.Reading.{saysProbe, refusalOfProbe, saysSearch, refusalOfSearch}
+use Rattle.block_restarts_v2.specs.Reading.{saysCompared, refusalOfCompared, restartCompared, saysSearch, refusalOfSearch}
 use borrow.Author.Needs.{needs}
 use Rattle.block_restarts_v2.proofs.find_restart_for_key_descending.Statement.{statement}
 use Rattle.block_restarts_v2.proofs.find_restart_for_key_descending.Tie as tie
@@ -15,6 +16,17 @@ use Rattle.block_restarts_v2.proofs.find_restart_for_key_descending.Tie
 module _ (k : tie.After-known-told) where
   found : let a = k .before .before .before .before .before .before .args in searchAt (a .block .now) (trailerFrom (a .t)) (a .target .now) ≡ ok (foundIs (k .before .s .given .0 .0) (k .before .s .given .0 .1 .0))
   found = yes saysSearch (k .before .before .before .search-restarts .ensures) (k .before .s .given .1)
+
+module _ (k : tie.After-known-told2) where
+  abbrev here : tie.Else1
+  here = k .before .before .before .before
+
+  abbrev met : tie.After-known-told
+  met = here .before .before .before
+
+  here-compared : let a = met .before .before .before .before .before .before .args in
+      restartCompared (a .block .now) (trailerFrom (a .t)) (a .target .now) (met .before .s .given .0 .0) ≡ ok (saysOrdering (k .before .compared .given .0 .0))
+  here-compared = yes saysCompared (k .before .before .before .compare-first-key-at-restart .ensures) (k .before .compared .given .1)
 
 search-restarts-requires : tie.Need-search-restarts-requires
 search-restarts-requires c κs = search needs
@@ -37,42 +49,44 @@ earlier-requires c κs = search needs
 returns-2 : tie.Need-returns-2
 returns-2 c = down-past _ _ _ _ (found (c .before .before .before)) (c .if1 .taken) (c .before .before .earlier .ensures)
 
-restart-equals-requires : tie.Need-restart-equals-requires
-restart-equals-requires c κs = (searched _ _ _ _ (found (c .before .before .before)), c .if1 .left)
+compare-first-key-at-restart-requires : tie.Need-compare-first-key-at-restart-requires
+compare-first-key-at-restart-requires c κs = (searched _ _ _ _ (found (c .before .before .before)), c .if1 .left)
 
-enum-known-p : tie.Need-enum-known-p
-enum-known-p c = search needs
+enum-known-compared : tie.Need-enum-known-compared
+enum-known-compared c = search needs
 
 enum-told-2 : tie.Need-enum-told-2
 enum-told-2 c = search needs
 
-probe-refusal-requires : tie.Need-probe-refusal-requires
-probe-refusal-requires c κs = search needs
+compared-refusal-requires : tie.Need-compared-refusal-requires
+compared-refusal-requires c κs = search needs
 
 returns-3 : tie.Need-returns-3
 returns-3 c =
     let q = c .before .before .before in
     let i = q .before in
-    down-refused _ _ _ _ (found (i .before .before .before)) (i .if1 .left) (no saysProbe refusalOfProbe (q .restart-equals .ensures) (c .before .enum-told2 .given .1) refl (c .probe-refusal .ensures))
+    down-refused _ _ _ _ (found (i .before .before .before)) (i .if1 .left)
+    (no saysCompared refusalOfCompared (q .compare-first-key-at-restart .ensures) (c .before .enum-told2 .given .1) refl (c .compared-refusal .ensures))
+
+is-equal-requires : tie.Need-is-equal-requires
+is-equal-requires c κs = search needs
 
 last-equal-requires : tie.Need-last-equal-requires
 last-equal-requires c κs =
-    let i = c .before .before .before .before .before in
-    (searched _ _ _ _ (found (i .before .before .before)), i .if1 .left)
+    let k = c .before .before in
+    (searched _ _ _ _ (found (met k)), here k .if1 .left)
 
 returns-4 : tie.Need-returns-4
 returns-4 c =
-    let p = c .before .before .before in
-    let q = p .before .before in
-    let i = q .before in
-    down-run _ _ _ _ (found (i .before .before .before)) (i .if1 .left) (yes saysProbe (q .restart-equals .ensures) (p .p .given .1) ∙ ap ok (c .before .if2 .taken)) (c .last-equal .ensures)
+    let q = c .before .before in
+    let k = q .before in
+    down-run _ _ _ _ (found (met k)) (here k .if1 .left) (here-compared k) (sym (q .is-equal .ensures) ∙ c .before .if2 .taken) (c .last-equal .ensures)
 
 returns-5 : tie.Need-returns-5
 returns-5 c =
-    let p = c .before .before in
-    let q = p .before .before in
-    let i = q .before in
-    down-earlier _ _ _ _ (found (i .before .before .before)) (i .if1 .left) (yes saysProbe (q .restart-equals .ensures) (p .p .given .1) ∙ ap ok (c .if2 .left)) (i .before .before .earlier .ensures)
+    let q = c .before in
+    let k = q .before in
+    down-earlier _ _ _ _ (found (met k)) (here k .if1 .left) (here-compared k) (sym (q .is-equal .ensures) ∙ c .if2 .left) (here k .before .before .earlier .ensures)
 
 pub find-restart-for-key-descending-spec : {M : Type 1} → statement M
 find-restart-for-key-descending-spec =
@@ -85,11 +99,12 @@ find-restart-for-key-descending-spec =
     returns
     earlier-requires
     returns-2
-    restart-equals-requires
-    enum-known-p
+    compare-first-key-at-restart-requires
+    enum-known-compared
     enum-told-2
-    probe-refusal-requires
+    compared-refusal-requires
     returns-3
+    is-equal-requires
     last-equal-requires
     returns-4
     returns-5)

@@ -1,15 +1,16 @@
 -- `last_equal` keeps its promise: the last of the run, with the count handed in.
 -- The loop's invariant: the run from `last` on ends where the run from `first` on ends.
-use Prim.Native.Nat.{_-_, _<_}
-use mathlib.Core.Path.{_≡_, refl, ap, _∙_}
+use Prim.Native.Nat.{_+_, _-_, _<_}
+use mathlib.Core.Path.{_≡_, refl, sym, _∙_}
 use mathlib.Core.Bool.{Bool, true, false, not}
 use native.Mathlib.Omega.{arith}
 use Rattle.layout.specs.Answer.{ok}
 use Rattle.layout.specs.Laws.Seek.{Running, running-start}
 use Rattle.types.specs.Answers.{yes, no}
+use Rattle.utils.specs.Says.{saysOrdering}
 use Rattle.block.specs.Says.{trailerFrom}
 use Rattle.block_restarts_v2.specs.Laws.{run-over, run-no, run-ends, run-more}
-use Rattle.block_restarts_v2.specs.Reading.{saysProbe, refusalOfProbe}
+use Rattle.block_restarts_v2.specs.Reading.{saysCompared, refusalOfCompared, restartCompared}
 use borrow.Author.Needs.{needs}
 use Rattle.block_restarts_v2.proofs.last_equal.Statement.{statement}
 use Rattle.block_restarts_v2.proofs.last_equal.Tie as tie
@@ -28,6 +29,14 @@ Inv-loop block t target first reads count last₀ last = Running block (trailerF
 abbrev μ-loop : tie.MeasureT-loop
 μ-loop block t target first reads count last₀ last = count - last
 
+module _ (k : tie.After-known-told Inv-loop μ-loop) where
+  abbrev turn : tie.In-loop Inv-loop μ-loop
+  turn = k .before .before .before .before
+
+  next-compared : let l = turn .before in let a = l .before .before .before .args in
+      restartCompared (a .block .now) (trailerFrom (a .t)) (a .target .now) (l .loop .last + 1) ≡ ok (saysOrdering (k .before .compared .given .0 .0))
+  next-compared = yes saysCompared (k .before .before .before .compare-first-key-at-restart .ensures) (k .before .compared .given .1)
+
 loop-holds : tie.Need-loop-holds Inv-loop μ-loop
 loop-holds c = (running-start _ _ _ _, c .before .before .pre .1)
 
@@ -37,40 +46,42 @@ add-loop c = omega (arith, c .loop .inv .1)
 add-next : tie.Need-add-next Inv-loop μ-loop
 add-next c = omega arith
 
-restart-equals-requires : tie.Need-restart-equals-requires Inv-loop μ-loop
-restart-equals-requires c κs = (c .before .before .before .before .pre .0, c .loop-test .taken)
+compare-first-key-at-restart-requires : tie.Need-compare-first-key-at-restart-requires Inv-loop μ-loop
+compare-first-key-at-restart-requires c κs = (c .before .before .before .before .pre .0, c .loop-test .taken)
 
-enum-known-p : tie.Need-enum-known-p Inv-loop μ-loop
-enum-known-p c = search needs
+enum-known-compared : tie.Need-enum-known-compared Inv-loop μ-loop
+enum-known-compared c = search needs
 
 enum-told : tie.Need-enum-told Inv-loop μ-loop
 enum-told c = search needs
 
-probe-refusal-requires : tie.Need-probe-refusal-requires Inv-loop μ-loop
-probe-refusal-requires c κs = search needs
+compared-refusal-requires : tie.Need-compared-refusal-requires Inv-loop μ-loop
+compared-refusal-requires c κs = search needs
 
 returns : tie.Need-returns Inv-loop μ-loop
 returns c =
     let k = c .before .before .before in
     let l = k .before in
-    run-no _ _ _ _ _ _ (l .before .loop .inv .0) (l .loop-test .taken) (no saysProbe refusalOfProbe (k .restart-equals .ensures) (c .before .enum-told .given .1) refl (c .probe-refusal .ensures))
+    run-no _ _ _ _ _ _ (l .before .loop .inv .0) (l .loop-test .taken)
+    (no saysCompared refusalOfCompared (k .compare-first-key-at-restart .ensures) (c .before .enum-told .given .1) refl (c .compared-refusal .ensures))
+
+is-equal-requires : tie.Need-is-equal-requires Inv-loop μ-loop
+is-equal-requires c κs = search needs
 
 returns-2 : tie.Need-returns-2 Inv-loop μ-loop
 returns-2 c =
-    let p = c .before .before in
-    let k = p .before .before in
-    let l = k .before in
-    run-ends _ _ _ _ _ _ (l .before .loop .inv .0) (l .loop-test .taken) (yes saysProbe (k .restart-equals .ensures) (p .p .given .1) ∙ ap ok (was-not _ (c .if1 .taken)))
+    let q = c .before in
+    let l = turn (q .before) in
+    run-ends _ _ _ _ _ _ (l .before .loop .inv .0) (l .loop-test .taken) (next-compared (q .before)) (sym (q .is-equal .ensures) ∙ was-not _ (c .if1 .taken))
 
 loop-less : tie.Need-loop-less Inv-loop μ-loop
 loop-less c = omega arith
 
 loop-again : tie.Need-loop-again Inv-loop μ-loop
 loop-again c =
-    let p = c .before .before in
-    let k = p .before .before in
-    let l = k .before in
-    (run-more _ _ _ 0 _ _ (l .before .loop .inv .0) (l .loop-test .taken) (yes saysProbe (k .restart-equals .ensures) (p .p .given .1) ∙ ap ok (was _ (c .if1 .left))), l .loop-test .taken)
+    let q = c .before in
+    let l = turn (q .before) in
+    (run-more _ _ _ 0 _ _ (l .before .loop .inv .0) (l .loop-test .taken) (next-compared (q .before)) (sym (q .is-equal .ensures) ∙ was _ (c .if1 .left)), l .loop-test .taken)
 
 returns-3 : tie.Need-returns-3 Inv-loop μ-loop
 returns-3 c = run-over _ _ _ _ _ _ (c .before .loop .inv .0) (c .loop-test .left)
@@ -84,11 +95,12 @@ last-equal-spec =
     loop-holds
     add-loop
     add-next
-    restart-equals-requires
-    enum-known-p
+    compare-first-key-at-restart-requires
+    enum-known-compared
     enum-told
-    probe-refusal-requires
+    compared-refusal-requires
     returns
+    is-equal-requires
     returns-2
     loop-less
     loop-again

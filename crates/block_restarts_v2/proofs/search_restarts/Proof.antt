@@ -30,7 +30,7 @@ sub-if3-2 c = search needs
 returns-3 : tie.Need-returns-3
 returns-3 c =
     let a = c .before .before .before .before .before .before .before .before .before .args in
-    search-strange (a .block .now) (trailerFrom (a .t)) _ (λ e. c .if3 .taken (omega arith))
+    search-strange (a .block .now) (trailerFrom (a .t)) _ (λ e. omega (arith, c .if3 .taken))
 
 binary-search-restarts-requires : tie.Need-binary-search-restarts-requires
 binary-search-restarts-requires c κs = search needs

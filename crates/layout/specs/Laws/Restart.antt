@@ -1,14 +1,13 @@
--- A restart's key as a search meets it: read alone, it lies inside the data, without its trailer as with it. The middle of a span in numbers. And the
--- regions that the searches answer: each is below the count.
+-- A restart's key as a search meets it: read alone, it lies inside the data and the region. The middle of a span in numbers. And the regions that the
+-- searches answer: each is below the count.
 use Prim.Native.Nat.{ℕ, zero, suc, _+_, _-_, _/_, _<_, _≤_}
 use mathlib.Core.Path.{_≡_, refl}
 use mathlib.Core.Bool.{Bool}
-use mathlib.Core.List.{List, [], _∷_}
+use mathlib.Core.List.{List}
 use mathlib.Core.Logic.{⊎-elim}
 use native.Mathlib.Omega.{arith}
 use lib.Dec.{ltb}
-use lib.ListN.{length, take, drop}
-use lib.Seq.{take-take}
+use lib.ListN.{length}
 use borrow.Author.Tests.{ltb-false}
 use Rattle.layout.specs.Answer.{ok}
 use Rattle.layout.specs.Key.{Key, same}
@@ -28,13 +27,6 @@ readKey-ends d at end prevLen restart k e =
     guard-then (ltb (length d) (valueAt l)) 9 _ k q λ t₁ q₁.
     guard-then (ltb end (valueAt l)) 16 _ k q₁ λ t₂ q₂.
     rw (← ok-inj q₂) (ltb-false (length d) (valueAt l) t₁, ltb-false end (valueAt l) t₂)
-
--- bytes that lie inside the first `size` lie at the same place in all
-pub lies-within : (at n size : ℕ) (b : List ℕ) → at + n ≤ size → take n (drop at (take size b)) ≡ take n (drop at b)
-lies-within zero n size b h = take-take n size b (omega arith)
-lies-within (suc at) n zero b h = absurd (omega arith)
-lies-within (suc at) n (suc size) [] h = refl
-lies-within (suc at) n (suc size) (x ∷ b) h = lies-within at n size b (omega arith)
 
 -- ---- the middle of a span
 

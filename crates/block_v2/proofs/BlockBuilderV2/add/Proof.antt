@@ -1,5 +1,5 @@
--- `add` keeps its promise: `add_in_place` worked on a copy of the last key. An accepted row's numbers and key go into the builder given back; beside a refusal stands the
--- builder that came.
+-- `add` keeps its promise: `add_in_place` works on the last key where it lies. An accepted row's numbers go into the builder given back; a refused one left the key as it was,
+-- and so the builder.
 use mathlib.Core.Path.{_≡_}
 use lib.ListN.{length}
 use borrow.Author.Needs.{needs}
@@ -7,7 +7,7 @@ use Rattle.block_v2.proofs.Writes.{adds-not, adds-good}
 use Rattle.block_v2.proofs.BlockBuilderV2.add.Statement.{statement}
 use Rattle.block_v2.proofs.BlockBuilderV2.add.Tie as tie
 
-long : (c : tie.Start) → length (c .args .self .«last_key») ≡ 1024
+long : (c : tie.Start) → length (c .args .t1 .«last_key») ≡ 1024
 long c = search needs
 
 state-of-requires : tie.Need-state-of-requires
@@ -29,8 +29,7 @@ same-length-2 : tie.Need-same-length-2
 same-length-2 c = search needs
 
 returns : tie.Need-returns
-returns c =
-    adds-good _ (c .before .before .before .before .before .before .before .before .before .before .before .state-of .ensures) _ _ _ _ (c .before .before .before .before .before .before .before .add-in-place .ensures) (long (c .before .before .before .before .before .before .before .before .before .before .before .before .before .before .before .before)) (c .before .grown .given .1)
+returns c = adds-good _ (c .before .before .before .before .before .before .before .before .before .before .before .state-of .ensures) _ _ _ _ (c .before .before .before .before .before .before .before .add-in-place .ensures) (long (c .before .before .before .before .before .before .before .before .before .before .before .before .before .before .before .before)) (c .before .grown .given .1)
 
 same-length-3 : tie.Need-same-length-3
 same-length-3 c = search needs

@@ -1,0 +1,126 @@
+-- What a cursor is to the definitions, and what each case of an answer says: the values, or the number of the refusal. No two cases say the same.
+use Prim.Native.Nat.{ℕ}
+use mathlib.Core.Bool.{Bool, true, false}
+use mathlib.Core.Path.{_≡_, refl, ap, sym, _∙_}
+use native.Mathlib.Omega.{arith}
+use lib.ListN.{take}
+use Rattle.layout.specs.Answer.{Res, ok, refuse}
+use Rattle.layout.specs.RowRead.{RowRead as RowReadL}
+use Rattle.layout.specs.Cursor.{Cursor, Answer, found, done, Step}
+use Rattle.layout.specs.Seek.{Sought as SoughtL}
+use Rattle.layout.specs.Laws.Answer.{ok-inj}
+use Rattle.types.specs.Answers.{apart, refused-one}
+use Rattle.types.specs.Number.{number}
+use Rattle.types.specs.Says.{saysOrder, saysOrder-one}
+use Rattle.row_codec_v2.specs.Says.{rowFrom, saysRow-one}
+use Rattle.row_codec_v2.specs.declared.Row.{Row}
+use Rattle.row_codec_v2.specs.declared.RowRead.{RowRead}
+use Rattle.row_codec_v2.specs.declared.RowRead.the-variants.{Read as ReadRow}
+use Rattle.block_iterator_v2.specs.declared.BlockIteratorV2.{BlockIteratorV2}
+use Rattle.block_iterator_v2.specs.declared.OpenAnswer.{OpenAnswer}
+use Rattle.block_iterator_v2.specs.declared.OpenAnswer.the-variants.{Good, Refused as OpenRefused}
+use Rattle.block_iterator_v2.specs.declared.NextAnswer.{NextAnswer}
+use Rattle.block_iterator_v2.specs.declared.NextAnswer.the-variants.{Found, Done as NextDone, Refused as NextRefused}
+use Rattle.block_iterator_v2.specs.declared.SeekAnswer.{SeekAnswer}
+use Rattle.block_iterator_v2.specs.declared.SeekAnswer.the-variants.{Landed, Done as SeekDone, Refused as SeekRefused}
+use Rattle.block_iterator_v2.specs.declared.EmptyRead.{EmptyRead}
+use Rattle.block_iterator_v2.specs.declared.EmptyRead.the-variants.{Is, Refused as EmptyRefused}
+
+-- bytes past the key's length tell nothing; the length is told as the number that it is
+abbrev pub viewOf : BlockIteratorV2 → Cursor
+viewOf c = record { direction = saysOrder (c .order); region = c .region; at = c .at; keyLen = c .«key_len»; key = take (c .«key_len») (c .key); mark = c .done }
+
+abbrev pub saysOpen : OpenAnswer → Res (Unit {0})
+saysOpen Good = ok tt
+saysOpen (OpenRefused r) = refuse (number r)
+
+-- what a step answers beside the key, which goes to the lent buffer
+pub data Told : Type 0 where
+  row : RowReadL → Told
+  none : Told
+
+abbrev pub toldOf : Answer → Told
+toldOf (found r key) = row r
+toldOf done = none
+
+abbrev pub told : Step → Res Told
+told s = ok (toldOf (s .answer))
+
+abbrev pub saysNext : NextAnswer → Res Told
+saysNext (Found r) = ok (row (rowFrom r))
+saysNext NextDone = ok none
+saysNext (NextRefused r) = refuse (number r)
+
+-- what a seek answers beside its cursor: whether none is left, and how many restart keys the search read
+pub record Report : Type 0 where
+  pub over : Bool
+  pub reads : ℕ
+
+abbrev pub reportIs : Bool → ℕ → Report
+reportIs o n = record { over = o; reads = n }
+
+abbrev pub reported : SoughtL → Res Report
+reported s = ok (reportIs (s .cursor .mark) (s .reads))
+
+abbrev pub saysSeek : SeekAnswer → Res Report
+saysSeek (Landed n) = ok (reportIs false n)
+saysSeek (SeekDone n) = ok (reportIs true n)
+saysSeek (SeekRefused r) = refuse (number r)
+
+abbrev pub saysEmpty : EmptyRead → Res Bool
+saysEmpty (Is b) = ok b
+saysEmpty (EmptyRefused r) = refuse (number r)
+
+-- ---- one to one
+
+-- two cursors that are known as one, with the same bytes past the key
+pub viewOf-one : (a b : BlockIteratorV2) → viewOf a ≡ viewOf b → a .key ≡ b .key → a ≡ b
+viewOf-one a b e k =
+    let o = saysOrder-one (a .order) (b .order) (ap (λ (x : Cursor). x .direction) e) in
+    ap (λ (x : Cursor). record { order = a .order; region = x .region; at = x .at; key = a .key; «key_len» = x .keyLen; done = x .mark }) e ∙ rw (o, k)
+
+pub saysOpen-one : (a b : OpenAnswer) → saysOpen a ≡ saysOpen b → a ≡ b
+saysOpen-one Good Good e = refl
+saysOpen-one Good (OpenRefused r) e = absurd (apart e)
+saysOpen-one (OpenRefused r) Good e = absurd (apart (sym e))
+saysOpen-one (OpenRefused r) (OpenRefused q) e = ap OpenRefused (refused-one e)
+
+row-one : (r q : Row) → rowFrom r ≡ rowFrom q → r ≡ q
+row-one r q e = let w : _≡_ {A = RowRead} (ReadRow r) (ReadRow q) = saysRow-one (ReadRow r) (ReadRow q) (ap (λ (x : RowReadL). ok x) e) in cc
+
+told-row : {r q : RowReadL} → _≡_ {A = Told} (row r) (row q) → r ≡ q
+told-row e = cc
+
+told-apart : {r : RowReadL} → _≡_ {A = Told} (row r) none → ⊥
+told-apart e = let z : _≡_ {A = ℕ} 0 1 = cc in omega arith
+
+pub saysNext-one : (a b : NextAnswer) → saysNext a ≡ saysNext b → a ≡ b
+saysNext-one (Found r) (Found q) e = ap Found (row-one r q (told-row (ok-inj e)))
+saysNext-one (Found r) NextDone e = absurd (told-apart (ok-inj e))
+saysNext-one (Found r) (NextRefused q) e = absurd (apart e)
+saysNext-one NextDone (Found q) e = absurd (told-apart (sym (ok-inj e)))
+saysNext-one NextDone NextDone e = refl
+saysNext-one NextDone (NextRefused q) e = absurd (apart e)
+saysNext-one (NextRefused r) (Found q) e = absurd (apart (sym e))
+saysNext-one (NextRefused r) NextDone e = absurd (apart (sym e))
+saysNext-one (NextRefused r) (NextRefused q) e = ap NextRefused (refused-one e)
+
+over-apart : {m n : ℕ} → reportIs false m ≡ reportIs true n → ⊥
+over-apart e = let o : false ≡ true = ap (λ (x : Report). x .over) e in let z : _≡_ {A = ℕ} 0 1 = cc in omega arith
+
+pub saysSeek-one : (a b : SeekAnswer) → saysSeek a ≡ saysSeek b → a ≡ b
+saysSeek-one (Landed m) (Landed n) e = ap (λ (x : Report). Landed (x .reads)) (ok-inj e)
+saysSeek-one (Landed m) (SeekDone n) e = absurd (over-apart (ok-inj e))
+saysSeek-one (Landed m) (SeekRefused q) e = absurd (apart e)
+saysSeek-one (SeekDone m) (Landed n) e = absurd (over-apart (sym (ok-inj e)))
+saysSeek-one (SeekDone m) (SeekDone n) e = ap (λ (x : Report). SeekDone (x .reads)) (ok-inj e)
+saysSeek-one (SeekDone m) (SeekRefused q) e = absurd (apart e)
+saysSeek-one (SeekRefused r) (Landed n) e = absurd (apart (sym e))
+saysSeek-one (SeekRefused r) (SeekDone n) e = absurd (apart (sym e))
+saysSeek-one (SeekRefused r) (SeekRefused q) e = ap SeekRefused (refused-one e)
+
+pub saysEmpty-one : (a b : EmptyRead) → saysEmpty a ≡ saysEmpty b → a ≡ b
+saysEmpty-one (Is a) (Is b) e = ap Is (ok-inj e)
+saysEmpty-one (Is a) (EmptyRefused r) e = absurd (apart e)
+saysEmpty-one (EmptyRefused r) (Is a) e = absurd (apart (sym e))
+saysEmpty-one (EmptyRefused r) (EmptyRefused q) e = ap EmptyRefused (refused-one e)

@@ -1,0 +1,114 @@
+// Cases 8 to 10, and the walks both ways, on the block of keys a, b, b, b, c with interval 2. A row is known by its sequence number, which is its place.
+use crate::show;
+use crate::writing::add;
+use block_check_v2::Checked;
+use block_iterator_v2::BlockIteratorV2;
+use block_iterator_v2::NextAnswer;
+use block_iterator_v2::SeekAnswer;
+use block_v2::BlockBuilderV2;
+use block_v2::BuildAnswer;
+use types::IterationOrder;
+
+// The block's length: it stands at the start of `data`.
+fn five_rows(data: &mut [u8]) -> usize {
+    let mut restarts = [0u16; 4];
+    let fresh = BlockBuilderV2::new_with_restart_interval(4096, 2).builder;
+    let one = add(fresh, data, &mut restarts, b"a", b"", 0);
+    let two = add(one, data, &mut restarts, b"b", b"", 1);
+    let three = add(two, data, &mut restarts, b"b", b"", 2);
+    let four = add(three, data, &mut restarts, b"b", b"", 3);
+    let five = add(four, data, &mut restarts, b"c", b"", 4);
+    let built = five.build(data, &restarts);
+    let answer = built.answer;
+    match answer {
+        BuildAnswer::Block(n) => n,
+        BuildAnswer::Refused(_) => 0,
+    }
+}
+
+fn checked(block: &[u8]) {
+    match block_check_v2::check(block) {
+        Checked::Rows(n) => {
+            show::text(b"accepted, rows: ");
+            show::number(n as u64);
+            show::text(b"\n");
+        }
+        Checked::Refused(r) => show::refusal(r),
+    }
+}
+
+// One step, and what it gives.
+fn step(cursor: BlockIteratorV2, block: &[u8]) -> BlockIteratorV2 {
+    let mut key = [0u8; 8];
+    let next = cursor.next(block, &mut key);
+    let answer = next.answer;
+    match answer {
+        NextAnswer::Found(row) => {
+            show::text(b" row ");
+            show::number(row.seq);
+        }
+        NextAnswer::Done => show::text(b" done"),
+        NextAnswer::Refused(r) => show::refusal(r),
+    }
+    next.iterator
+}
+
+fn walk(block: &[u8], order: IterationOrder) {
+    let mut cursor = BlockIteratorV2::new(block, order).iterator;
+    let mut left = 6;
+    while left > 0 {
+        cursor = step(cursor, block);
+        left -= 1;
+    }
+    show::text(b"\n");
+}
+
+fn seek(block: &[u8], order: IterationOrder, target: &[u8]) {
+    let sought = BlockIteratorV2::new(block, order)
+        .iterator
+        .seek(block, target);
+    let answer = sought.answer;
+    match answer {
+        SeekAnswer::Landed(reads) => {
+            show::number(reads as u64);
+            show::text(b" keys read:");
+        }
+        SeekAnswer::Done(reads) => {
+            show::number(reads as u64);
+            show::text(b" keys read, none:");
+        }
+        SeekAnswer::Refused(r) => show::refusal(r),
+    }
+    step(sought.iterator, block);
+    show::text(b"\n");
+}
+
+fn both_ways(block: &[u8], target: &[u8]) {
+    show::text(b"ascending: ");
+    seek(block, IterationOrder::Ascending, target);
+    show::text(b"descending: ");
+    seek(block, IterationOrder::Descending, target);
+}
+
+pub fn seeks() {
+    show::text(b"keys a, b, b, b, c\n");
+    let mut data = [0u8; 96];
+    let n = five_rows(&mut data);
+    if 96 < n {
+        return;
+    }
+    let block = &data[..n];
+    checked(block);
+    show::text(b"forwards:");
+    walk(block, IterationOrder::Ascending);
+    show::text(b"backwards:");
+    walk(block, IterationOrder::Descending);
+    show::text(b"case 8, target b\n");
+    both_ways(block, b"b");
+    show::text(b"case 9, target bb\n");
+    both_ways(block, b"bb");
+    show::text(b"case 10, target d\n");
+    both_ways(block, b"d");
+    show::text(b"case 10, empty target\n");
+    both_ways(block, b"");
+}
