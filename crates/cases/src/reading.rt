@@ -1,30 +1,13 @@
 // Cases 8 to 10, and the walks both ways, on the block of keys a, b, b, b, c with interval 2. A row is known by its sequence number, which is its place.
 use crate::show;
 use crate::writing::add;
+use crate::writing::built;
 use block_check_v2::Checked;
 use block_iterator_v2::BlockIteratorV2;
 use block_iterator_v2::NextAnswer;
 use block_iterator_v2::SeekAnswer;
 use block_v2::BlockBuilderV2;
-use block_v2::BuildAnswer;
 use types::IterationOrder;
-
-// The block's length: it stands at the start of `data`.
-fn five_rows(data: &mut [u8]) -> usize {
-    let mut restarts = [0u16; 4];
-    let fresh = BlockBuilderV2::new_with_restart_interval(4096, 2).builder;
-    let one = add(fresh, data, &mut restarts, b"a", b"", 0);
-    let two = add(one, data, &mut restarts, b"b", b"", 1);
-    let three = add(two, data, &mut restarts, b"b", b"", 2);
-    let four = add(three, data, &mut restarts, b"b", b"", 3);
-    let five = add(four, data, &mut restarts, b"c", b"", 4);
-    let built = five.build(data, &restarts);
-    let answer = built.answer;
-    match answer {
-        BuildAnswer::Block(n) => n,
-        BuildAnswer::Refused(_) => 0,
-    }
-}
 
 fn checked(block: &[u8]) {
     match block_check_v2::check(block) {
@@ -53,13 +36,15 @@ fn step(cursor: BlockIteratorV2, block: &[u8]) -> BlockIteratorV2 {
     next.iterator
 }
 
+// Five rows, and a step past them.
 fn walk(block: &[u8], order: IterationOrder) {
-    let mut cursor = BlockIteratorV2::new(block, order).iterator;
-    let mut left = 6;
-    while left > 0 {
-        cursor = step(cursor, block);
-        left -= 1;
-    }
+    let open = BlockIteratorV2::new(block, order).iterator;
+    let one = step(open, block);
+    let two = step(one, block);
+    let three = step(two, block);
+    let four = step(three, block);
+    let five = step(four, block);
+    step(five, block);
     show::text(b"\n");
 }
 
@@ -90,15 +75,7 @@ fn both_ways(block: &[u8], target: &[u8]) {
     seek(block, IterationOrder::Descending, target);
 }
 
-pub fn seeks() {
-    show::text(b"keys a, b, b, b, c\n");
-    let mut data = [0u8; 96];
-    let n = five_rows(&mut data);
-    if 96 < n {
-        return;
-    }
-    let block = &data[..n];
-    checked(block);
+fn all_seeks(block: &[u8]) {
     show::text(b"forwards:");
     walk(block, IterationOrder::Ascending);
     show::text(b"backwards:");
@@ -111,4 +88,20 @@ pub fn seeks() {
     both_ways(block, b"d");
     show::text(b"case 10, empty target\n");
     both_ways(block, b"");
+}
+
+pub fn seeks() {
+    show::text(b"keys a, b, b, b, c\n");
+    // The block fills the buffer.
+    let mut data = [0u8; 72];
+    let mut restarts = [0u16; 3];
+    let fresh = BlockBuilderV2::new_with_restart_interval(4096, 2).builder;
+    let one = add(fresh, &mut data, &mut restarts, b"a", b"", 0);
+    let two = add(one, &mut data, &mut restarts, b"b", b"", 1);
+    let three = add(two, &mut data, &mut restarts, b"b", b"", 2);
+    let four = add(three, &mut data, &mut restarts, b"b", b"", 3);
+    let five = add(four, &mut data, &mut restarts, b"c", b"", 4);
+    built(five, &mut data, &restarts);
+    checked(&data);
+    all_seeks(&data);
 }

@@ -55,7 +55,7 @@ pub fn add(
     r.builder
 }
 
-fn built(builder: BlockBuilderV2, data: &mut [u8], restarts: &[u16]) {
+pub fn built(builder: BlockBuilderV2, data: &mut [u8], restarts: &[u16]) {
     let b = builder.build(data, restarts);
     let answer = b.answer;
     match answer {
