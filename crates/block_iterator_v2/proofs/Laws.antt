@@ -5,8 +5,7 @@ use mathlib.Core.Bool.{Bool, true, false}
 use mathlib.Core.List.{List}
 use native.Mathlib.Omega.{arith}
 use lib.Dec.{leb, eqb}
-use lib.ListN.{length, take, drop, length-drop}
-use lib.Seq.{length-take-le}
+use lib.ListN.{length, take}
 use borrow.Author.Tests.{lt-ltb, le-ltb}
 use Rattle.layout.specs.Answer.{Res, ok, refuse, bind}
 use Rattle.layout.specs.Limits.{maxKey}
@@ -43,7 +42,7 @@ use Rattle.block_iterator_v2.specs.declared.Ahead.the-variants.{At, End,
 use Rattle.block_iterator_v2.specs.declared.Behind.{Behind}
 use Rattle.block_iterator_v2.specs.declared.Behind.the-variants.{In, Start, Refused as BehindRefused}
 use Rattle.block_iterator_v2.specs.Says.{viewOf, row}
-use Rattle.block_iterator_v2.specs.Parts.{refusalOfEnded, placed, Stands, passed, saysAhead, Fits, Ready, LooksAhead, saysBehind, Before, LooksBehind}
+use Rattle.block_iterator_v2.specs.Parts.{refusalOfEnded, placed, finished, Stands, passed, saysAhead, Fits, Ready, LooksAhead, saysBehind, Before, LooksBehind}
 use Rattle.block_iterator_v2.specs.Promise.{Opens, Steps}
 
 -- ---- opening
@@ -82,16 +81,15 @@ abbrev pub nextIs : BlockIteratorV2 → NextAnswer → Next
 nextIs c a = record { iterator = c; answer = a }
 
 -- a cursor whose region, position, key and mark are set
-abbrev pub set : BlockIteratorV2 → ℕ → ℕ → List ℕ → ℕ → Bool → BlockIteratorV2
-set c region at key len mark = record { order = c .order; region = region; at = at; key = key; «key_len» = len; done = mark }
+abbrev pub movedTo : BlockIteratorV2 → ℕ → ℕ → List ℕ → ℕ → Bool → BlockIteratorV2
+movedTo c region at key len mark = record { order = c .order; region = region; at = at; key = key; «key_len» = len; done = mark }
 
 module _ (want : Res Step) (self : BlockIteratorV2) (out : List ℕ) where
   pub steps-not : {x : Refusal} → want ≡ refuse (number x) → Steps want self out (nextIs self (NextRefused x)) out
   steps-not e = rw e (record { answer = refl; view = refl; whole = refl; lent = refl })
 
-  -- "done" sets only the mark
-  pub steps-done : want ≡ ok (stepIs (marked (viewOf self)) done) → Steps want self out (nextIs (set self (self .region) (self .at) (self .key) (self .«key_len») true) NextDone) out
-  steps-done e = rw e (record { answer = refl; view = refl; whole = tt; lent = refl })
+  pub steps-done : {r : Next} → want ≡ ok (stepIs (marked (viewOf self)) done) → r ≡ finished self → Steps want self out r out
+  steps-done e is = rw (e, is) (record { answer = refl; view = refl; whole = tt; lent = refl })
 
   pub steps-over : want ≡ ok (stepIs (viewOf self) done) → Steps want self out (nextIs self NextDone) out
   steps-over e = rw e (record { answer = refl; view = refl; whole = tt; lent = refl })
@@ -176,11 +174,11 @@ module _ (self : BlockIteratorV2) (b : List ℕ) (t : Trailer) (g : RegionC) (r 
 
     -- a finished region hands over
     pub pass-over : g .reach < r .next
-        → Steps (ok (passed (viewOf self) (dataOf b t) (regionFrom g) (rowFrom r))) self out (nextIs (set self (self .region + 1) (r .next) key′ 0 (self .done)) (Found r)) out′
+        → Steps (ok (passed (viewOf self) (dataOf b t) (regionFrom g) (rowFrom r))) self out (nextIs (movedTo self (self .region + 1) (r .next) key′ 0 (self .done)) (Found r)) out′
     pass-over h = record { answer = refl; view = rw (lt-ltb (g .reach) (r .next) h, s .heads, s .unmarked); whole = tt; lent = lent-is }
 
     pub pass-stay : r .next ≤ g .reach
-        → Steps (ok (passed (viewOf self) (dataOf b t) (regionFrom g) (rowFrom r))) self out (nextIs (set self (self .region) (r .next) key′ (r .shared + r .«suffix_len») (self .done)) (Found r)) out′
+        → Steps (ok (passed (viewOf self) (dataOf b t) (regionFrom g) (rowFrom r))) self out (nextIs (movedTo self (self .region) (r .next) key′ (r .shared + r .«suffix_len») (self .done)) (Found r)) out′
     pass-stay h =
         record {
           answer = refl;
@@ -200,7 +198,7 @@ module _ (self : BlockIteratorV2) (b : List ℕ) (t : Trailer) (n : ℕ) (g : Re
   used = step-back-used (viewOf self) b t (length out) n (regionFrom g) h
 
   pub back-to : {r : Row} → a ≡ EndedRow r
-      → Steps (stepBackIn (viewOf self) b t (length out) n (regionFrom g)) self out (nextIs (set self n (r .start) (self .key) (self .«key_len») (self .done)) (Found r)) out′
+      → Steps (stepBackIn (viewOf self) b t (length out) n (regionFrom g)) self out (nextIs (movedTo self n (r .start) (self .key) (self .«key_len») (self .done)) (Found r)) out′
   back-to {r} e =
       let q = ended-row (subst (λ (x : Ended). EndsAt (dataOf b t) g (self .at) out x out′) e p) in
       let want = used ∙ ap (λ (x : Res Keyed). bind x (gone self n)) (q .1) in

@@ -1,12 +1,12 @@
 -- A seek's promise from what its walk met: one law for each exit of the walks from region to region.
-use Prim.Native.Nat.{ℕ, _<_}
+use Prim.Native.Nat.{ℕ}
 use mathlib.Core.Path.{_≡_, refl, ap, sym, _∙_}
-use mathlib.Core.Bool.{Bool, true, false}
+use mathlib.Core.Bool.{true, false}
 use mathlib.Core.List.{List, []}
 use lib.ListN.{length, take}
 use Rattle.layout.specs.Answer.{Res, ok, refuse, bind}
 use Rattle.layout.specs.Key.{Key}
-use Rattle.layout.specs.Trailer.{Trailer, trailerOf, dataOf, Region, regionOf}
+use Rattle.layout.specs.Trailer.{Trailer, trailerOf, dataOf, regionOf}
 use Rattle.layout.specs.Cursor.{Direction, ascending, Cursor, cursorIs}
 use Rattle.layout.specs.Seek.{walkRegion, Sought as SoughtL, seek}
 use Rattle.types.specs.Number.{number}
@@ -23,7 +23,6 @@ use Rattle.block_iterator_v2.specs.declared.BlockIteratorV2.{BlockIterat
 use Rattle.block_iterator_v2.specs.declared.SeekAnswer.{SeekAnswer}
 use Rattle.block_iterator_v2.specs.declared.SeekAnswer.the-variants.{Landed, Done as SeekDone, Refused as SeekRefused}
 use Rattle.block_iterator_v2.specs.declared.Sought.{Sought}
-use Rattle.block_iterator_v2.specs.Says.{viewOf}
 use Rattle.block_iterator_v2.specs.Parts.{refusalOfWalk, placed, landed, sought}
 use Rattle.block_iterator_v2.specs.Promise.{Seeks}
 use Rattle.block_iterator_v2.proofs.Laws.{carries-key}

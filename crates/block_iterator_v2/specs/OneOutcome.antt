@@ -5,8 +5,8 @@ use mathlib.Core.Path.{_≡_, ap, sym, _∙_}
 use mathlib.Core.List.{List}
 use lib.ListN.{length}
 use Rattle.layout.specs.Answer.{Res, ok, refuse}
-use Rattle.layout.specs.Cursor.{Step, next}
-use Rattle.layout.specs.Seek.{Sought as SoughtL, seek}
+use Rattle.layout.specs.Cursor.{next}
+use Rattle.layout.specs.Seek.{seek}
 use Rattle.types.specs.Says.{saysOrder}
 use Rattle.types.specs.declared.IterationOrder.{IterationOrder}
 use Rattle.block_iterator_v2.specs.declared.BlockIteratorV2.{BlockIteratorV2}
@@ -16,7 +16,7 @@ use Rattle.block_iterator_v2.specs.declared.Next.{Next}
 use Rattle.block_iterator_v2.specs.declared.Sought.{Sought}
 use Rattle.block_iterator_v2.specs.declared.EmptyRead.{EmptyRead}
 use Rattle.block_iterator_v2.specs.Says.{viewOf, viewOf-one, saysOpen-one, saysNext-one, saysSeek-one, saysEmpty-one}
-use Rattle.block_iterator_v2.specs.Promise.{Opens, Whole, Steps, StepsNext, Seeks, SeeksTarget, TellsEmpty}
+use Rattle.block_iterator_v2.specs.Promise.{Opens, Whole, StepsNext, SeeksTarget, TellsEmpty}
 
 pub new-settled : (b : List ℕ) (order : IterationOrder) (r q : Opened) → Opens b order r → Opens b order q → r ≡ q
 new-settled b order r q m n =

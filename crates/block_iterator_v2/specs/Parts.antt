@@ -1,6 +1,6 @@
--- What the private functions answer.
+-- What the private functions answer, and what they ask of a cursor.
 use Prim.Native.Nat.{ℕ, _≤_, _<_}
-use mathlib.Core.Bool.{Bool, false}
+use mathlib.Core.Bool.{Bool, true, false}
 use mathlib.Core.List.{List}
 use mathlib.Core.Path.{_≡_}
 use lib.Dec.{eqb}
@@ -35,6 +35,8 @@ use Rattle.block_regions_v2.specs.declared.LastRead.the-variants.{Ends, Refused
 use Rattle.block_restarts_v2.specs.declared.StartRead.{StartRead}
 use Rattle.block_restarts_v2.specs.declared.StartRead.the-variants.{At as StartAt, Refused as StartRefused}
 use Rattle.block_iterator_v2.specs.declared.BlockIteratorV2.{BlockIteratorV2}
+use Rattle.block_iterator_v2.specs.declared.NextAnswer.the-variants.{Done}
+use Rattle.block_iterator_v2.specs.declared.Next.{Next}
 use Rattle.block_iterator_v2.specs.declared.SeekAnswer.the-variants.{Landed}
 use Rattle.block_iterator_v2.specs.declared.Sought.{Sought as SoughtC}
 use Rattle.block_iterator_v2.specs.declared.Ahead.{Ahead}
@@ -82,6 +84,14 @@ refusalOfStart (StartRefused r) = r
 abbrev pub placed : IterationOrder → ℕ → ℕ → Bool → BlockIteratorV2
 placed order region at mark = record { order = order; region = region; at = at; key = replicate maxKey 0; «key_len» = 0; done = mark }
 
+-- "done" sets only the mark
+abbrev pub finished : BlockIteratorV2 → Next
+finished c =
+    record {
+      iterator = record { order = c .order; region = c .region; at = c .at; key = c .key; «key_len» = c .«key_len»; done = true };
+      answer = Done;
+    }
+
 -- a cursor that a step goes on with, once 14, the first 18 and the mark are tested
 pub record Stands (d : Direction) (c : Cursor) (b : List ℕ) (t : TrailerL) : Type 0 where
   pub read : trailerOf b ≡ ok t
@@ -121,7 +131,7 @@ saysBehind c b t room (In n g) = stepBackIn c b t room n (regionFrom g)
 saysBehind c b t room Start = ok (stepIs (marked c) done)
 saysBehind c b t room (BehindRefused r) = refuse (number r)
 
--- the region has a row before the cursor's position
+-- the region starts before the cursor's position
 abbrev pub Before : Cursor → Behind → Type 0
 Before c (In n g) = g .start < c .at
 Before c Start = Unit {0}

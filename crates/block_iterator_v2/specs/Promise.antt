@@ -6,7 +6,7 @@ use mathlib.Core.List.{List}
 use lib.ListN.{length, replicate}
 use Rattle.layout.specs.Answer.{Res, ok, refuse, bind}
 use Rattle.layout.specs.Limits.{maxKey}
-use Rattle.layout.specs.Cursor.{Cursor, cursorOr, openBlock, Step, next, cursorAfter, keyAfter, isEmpty}
+use Rattle.layout.specs.Cursor.{cursorOr, openBlock, Step, next, cursorAfter, keyAfter, isEmpty}
 use Rattle.layout.specs.Seek.{Sought as SoughtL, seek, soughtAfter}
 use Rattle.types.specs.Says.{saysOrder}
 use Rattle.types.specs.declared.IterationOrder.{IterationOrder}

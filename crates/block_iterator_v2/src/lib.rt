@@ -15,7 +15,7 @@ ghost use Rattle.types.specs.Says.{saysOrder};
 ghost use Rattle.row_codec_v2.specs.Says.{rowFrom};
 ghost use Rattle.block.specs.Says.{trailerFrom, regionFrom};
 ghost use Rattle.block_iterator_v2.specs.Says.{viewOf};
-ghost use Rattle.block_iterator_v2.specs.Parts.{refusalOfTrailer, refusalOfOffsets, refusalOfRegion, refusalOfRow, refusalOfEnded, refusalOfWalk, refusalOfLast, refusalOfStart, placed, landed, sought, SetsOut, Stands, passed, Fits, LooksAhead, LooksBehind};
+ghost use Rattle.block_iterator_v2.specs.Parts.{refusalOfTrailer, refusalOfOffsets, refusalOfRegion, refusalOfRow, refusalOfEnded, refusalOfWalk, refusalOfLast, refusalOfStart, placed, finished, Stands, passed, Fits, LooksAhead, LooksBehind, SetsOut, sought, landed};
 ghost use Rattle.block_iterator_v2.specs.Promise.{Opens, Steps, StepsNext, Seeks, SeeksTarget, TellsEmpty};
 use block::Region;
 use block::RegionRead;
@@ -32,7 +32,6 @@ use row_codec_v2::Row;
 use row_codec_v2::RowRead;
 use types::IterationOrder;
 use types::Refusal;
-use utils::Put;
 
 // A cursor: its order, the region that it stands in and its position there, the first `key_len` bytes of `key` as the key before, and the mark "done".
 pub struct BlockIteratorV2 {
@@ -91,7 +90,7 @@ enum Ahead {
     Refused(Refusal),
 }
 
-// The region in which a row ends where a descending cursor stands, with its number; or the start of the first one.
+// The region, with its number, whose row before the position of a descending cursor comes next; or the start of the first one.
 enum Behind {
     In { number: usize, region: Region },
     Start,
@@ -260,6 +259,17 @@ impl BlockIteratorV2 {
         }
     }
 
+    // A step that says "done" sets only the mark.
+    fn finished(mut self) -> Next
+        ensures { λ r. ⌜ r ≡ finished self ⌝ }
+    {
+        self.done = true;
+        Next {
+            iterator: self,
+            answer: NextAnswer::Done,
+        }
+    }
+
     // All that an ascending step tests once the mark is tested, with nothing written: 15 for the region, 18 for the position, the row, 19.
     fn look_ahead(self, block: &[u8], t: Trailer, room: usize) -> Ahead
         requires { ⌜ Stands ascending (viewOf self) (now block) (trailerFrom t) ⌝ }
@@ -325,14 +335,7 @@ impl BlockIteratorV2 {
         let ahead = self.look_ahead(block, t, out.len());
         match ahead {
             Ahead::At { row, region } => self.pass(block, t, row, region, out),
-            Ahead::End => {
-                let mut over = self;
-                over.done = true;
-                Next {
-                    iterator: over,
-                    answer: NextAnswer::Done,
-                }
-            }
+            Ahead::End => self.finished(),
             Ahead::Refused(refusal) => Next {
                 iterator: self,
                 answer: NextAnswer::Refused(refusal),
@@ -403,14 +406,7 @@ impl BlockIteratorV2 {
         let behind = self.look_behind(block, t);
         match behind {
             Behind::In { number, region } => self.back(block, t, number, region, out),
-            Behind::Start => {
-                let mut over = self;
-                over.done = true;
-                Next {
-                    iterator: over,
-                    answer: NextAnswer::Done,
-                }
-            }
+            Behind::Start => self.finished(),
             Behind::Refused(refusal) => Next {
                 iterator: self,
                 answer: NextAnswer::Refused(refusal),
@@ -454,7 +450,24 @@ impl BlockIteratorV2 {
         }
     }
 
-    // From region to region, to the first row at or above the target. The key of the row before it in its region is carried.
+    // The cursor where a walk up stopped, with the key of the row before in that region.
+    fn landed(self, number: usize, walked: Walked, reads: usize) -> Sought
+        ensures { λ r. ⌜ r ≡ landed self number walked reads ⌝ }
+    {
+        let key = walked.key;
+        let mut found = self;
+        found.region = number;
+        found.at = walked.at;
+        found.key = key;
+        found.key_len = walked.key_len;
+        found.done = false;
+        Sought {
+            iterator: found,
+            answer: SeekAnswer::Landed(reads),
+        }
+    }
+
+    // From region to region, up to the first row at or above the target.
     fn walk_up(self, block: &[u8], t: Trailer, target: &[u8], start: Start) -> Sought
         requires { ⌜ SetsOut ascending (viewOf self) (now block) (trailerFrom t) (start .region) ⌝ }
         ensures { λ r. ⌜ Seeks (bind (walkUp (t .count - start .region) (now (block .entry)) (trailerFrom t) (now (target .entry)) (start .region)) (sought (start .reads))) self r ⌝ }
@@ -490,23 +503,6 @@ impl BlockIteratorV2 {
         }
     }
 
-    // Where a walk up stopped.
-    fn landed(self, number: usize, walked: Walked, reads: usize) -> Sought
-        ensures { λ r. ⌜ r ≡ landed self number walked reads ⌝ }
-    {
-        let key = walked.key;
-        let mut found = self;
-        found.region = number;
-        found.at = walked.at;
-        found.key = key;
-        found.key_len = walked.key_len;
-        found.done = false;
-        Sought {
-            iterator: found,
-            answer: SeekAnswer::Landed(reads),
-        }
-    }
-
     // From region to region, down to the last row at or below the target.
     fn walk_down(self, block: &[u8], t: Trailer, target: &[u8], start: Start) -> Sought
         requires { ⌜ SetsOut descending (viewOf self) (now block) (trailerFrom t) (start .region) ⌝ }
@@ -524,14 +520,14 @@ impl BlockIteratorV2 {
                 };
             };
             let last = block_regions_v2::last_at_or_below(&block[..size], region, target);
-            let LastRead::Ends(at) = last else {
+            let LastRead::Ends(end) = last else {
                 return Sought {
                     iterator: self,
                     answer: SeekAnswer::Refused(last_refusal(last)),
                 };
             };
-            if region.start < at {
-                let found = BlockIteratorV2::placed(order, number, at, false);
+            if region.start < end {
+                let found = BlockIteratorV2::placed(order, number, end, false);
                 return Sought {
                     iterator: found,
                     answer: SeekAnswer::Landed(start.reads),

@@ -19,6 +19,9 @@ pass-requires c κs =
 enum-told : tie.Need-enum-told
 enum-told c = search needs
 
+finished-requires : tie.Need-finished-requires
+finished-requires c κs = search needs
+
 enum-known-ahead-2 : tie.Need-enum-known-ahead-2
 enum-known-ahead-2 c = search needs
 
@@ -29,7 +32,7 @@ returns : tie.Need-returns
 returns c = steps-as _ _ _ (ahead-said _ _ _ _ (c .before .before .before .before .before .before .before .look-ahead .ensures) (c .before .before .before .before .before .ahead .given .1)) (c .before .before .pass .ensures)
 
 returns-2 : tie.Need-returns-2
-returns-2 c = steps-done _ _ _ (ahead-said _ _ _ _ (c .before .before .look-ahead .ensures) (c .enum-told .given .1))
+returns-2 c = steps-done _ _ _ (ahead-said _ _ _ _ (c .before .before .before .look-ahead .ensures) (c .before .enum-told .given .1)) (c .finished .ensures)
 
 returns-3 : tie.Need-returns-3
 returns-3 c = steps-not _ _ _ (ahead-said _ _ _ _ (c .before .before .before .look-ahead .ensures) (c .before .ahead2 .given .1))
@@ -42,6 +45,7 @@ next-ascending-spec =
     enum-known-ahead
     pass-requires
     enum-told
+    finished-requires
     enum-known-ahead-2
     same-length
     returns

@@ -19,6 +19,9 @@ back-requires c κs =
 enum-told : tie.Need-enum-told
 enum-told c = search needs
 
+finished-requires : tie.Need-finished-requires
+finished-requires c κs = search needs
+
 enum-known-behind-2 : tie.Need-enum-known-behind-2
 enum-known-behind-2 c = search needs
 
@@ -29,7 +32,7 @@ returns : tie.Need-returns
 returns c = steps-as _ _ _ (behind-said _ _ _ _ (c .before .before .before .before .before .before .before .look-behind .ensures) (c .before .before .before .before .before .behind .given .1)) (c .before .before .back .ensures)
 
 returns-2 : tie.Need-returns-2
-returns-2 c = steps-done _ _ _ (behind-said _ _ _ _ (c .before .before .look-behind .ensures) (c .enum-told .given .1))
+returns-2 c = steps-done _ _ _ (behind-said _ _ _ _ (c .before .before .before .look-behind .ensures) (c .before .enum-told .given .1)) (c .finished .ensures)
 
 returns-3 : tie.Need-returns-3
 returns-3 c = steps-not _ _ _ (behind-said _ _ _ _ (c .before .before .before .look-behind .ensures) (c .before .behind2 .given .1))
@@ -42,6 +45,7 @@ next-descending-spec =
     enum-known-behind
     back-requires
     enum-told
+    finished-requires
     enum-known-behind-2
     same-length
     returns

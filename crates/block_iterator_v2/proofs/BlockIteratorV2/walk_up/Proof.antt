@@ -1,6 +1,6 @@
 -- `walk_up` keeps the promise of the walk up from region to region: what is left of it, from the region at hand, answers what the whole does.
 -- Each exit is a law over the walk of that region.
-use Prim.Native.Nat.{_-_, _<_}
+use Prim.Native.Nat.{_-_}
 use mathlib.Core.List.{[]}
 use mathlib.Core.Path.{_≡_, refl, sym, _∙_}
 use native.Mathlib.Omega.{arith}
