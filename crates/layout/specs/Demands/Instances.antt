@@ -3,7 +3,7 @@
 use Prim.Native.Nat.{ℕ, zero, suc, _+_, _<_, _≤_}
 use mathlib.Core.Path.{_≡_, refl, ap, sym, _∙_}
 use mathlib.Core.Bool.{Bool, true, false, cond}
-use mathlib.Core.List.{List, [], _∷_, _++_, map}
+use mathlib.Core.List.{List, [], _∷_, _++_, map, append-nil}
 use mathlib.Core.Logic.{⊎-elim}
 use native.Mathlib.Omega.{arith}
 use lib.Count.{leadingZeros}
@@ -21,17 +21,19 @@ use Rattle.layout.specs.Block.{isRestart, shareOf, laidRow, rowsFrom, of
 use Rattle.layout.specs.Trailer.{shortAt, Trailer, dataOf, trailerOf, risingFrom, allOffsets, regionOf}
 use Rattle.layout.specs.Builder.{Builder, fresh, newBuilder, stateTests, fits, wouldFit, add, build}
 use Rattle.layout.specs.Check.{checkRow, checkFrom, check}
-use Rattle.layout.specs.Cursor.{ascending, descending, opened, openBlock, Keyed, next}
+use Rattle.layout.specs.Cursor.{ascending, descending, opened, openBlock, Keyed, next, isEmpty}
+use Rattle.layout.specs.Seek.{seek}
 use Rattle.layout.specs.Reads.{regionRows, regionsRows, allRows}
 use Rattle.layout.specs.Cases.{rowWith}
 use Rattle.layout.specs.Demands.Runs.{Held, held, Call, offer, would-fit, is-empty, finish, run, rowsOf, Ran, Finishes, RoomFor, backwards}
 use Rattle.layout.specs.Demands.RunsProof.{WalksAll}
 use Rattle.layout.specs.Demands.Proof2.{DecodesBack, Rows, Walked, SoughtUp, SoughtDown, Found, rows-room}
 use Rattle.layout.specs.Demands.Proof3.{KeysFit}
-use Rattle.layout.specs.Demands.Demand1.{KeptCursor, carried, stale-bytes-tell-nothing}
-use Rattle.layout.specs.Demands.Demand2.{decode-encode, has-rows, walk-steps, seek-ascending-lands, seek-descending-lands, retry-found, restarts-at-most, finished-accepted}
-use Rattle.layout.specs.Demands.Demand3.{run-finishes, blocks-differ, reads-forwards, reads-backwards, row-begins-no-other}
+use Rattle.layout.specs.Demands.Demand1.{KeptCursor, carried, KeptBuilder, carriedBy, stale-bytes-tell-nothing, stale-bytes-empty, stale-bytes-seek, stale-bytes-fit, stale-bytes-add, stale-bytes-build}
+use Rattle.layout.specs.Demands.Demand2.{decode-encode, check-exact, has-rows, walk-steps, seek-ascending-lands, seek-descending-lands, retry-found, restarts-at-most, finished-accepted}
+use Rattle.layout.specs.Demands.Demand3.{run-finishes, blocks-differ, reads-forwards, reads-backwards, row-begins-no-other, read-begins-no-other}
 use Rattle.layout.specs.Laws.Answer.{ltb-cases, clash}
+use Rattle.layout.specs.Laws.Accept.{Accepts}
 use Rattle.layout.specs.Laws.Made.{Typed}
 use Rattle.layout.specs.Laws.Row.{SameRow}
 use Rattle.layout.specs.Laws.Laid.{contentOf, plainRow}
@@ -125,6 +127,9 @@ pub case-8-accepted : check block8 ≡ ok 5
 unfolding blockBytes blockRows offsets rowsFrom offsetsFrom trailer offsetBytes isRestart shareOf laidRow rowBytes timeBytes big varint varintIn common check checkFrom checkRow trailerOf shortAt unbig allOffsets risingFrom regionOf readRow rowAt headAt lengthsAt varintAt readVarint readVarintIn keyLengthTests bodyAt fixedAt flagsAt timesAt timeAt mayFollow below
 case-8-accepted = refl
 
+pub case-8-exact : Accepts block8 5
+case-8-exact = check-exact block8 5 .0 case-8-accepted
+
 pub case-8-has-rows : (t : Trailer) × (rows : List Keyed) × Rows block8 5 t rows
 case-8-has-rows = has-rows block8 5 case-8-accepted
 
@@ -200,9 +205,41 @@ case-1-begins =
     refl
     refl
 
+-- nor does it as it is read
+abbrev bytesOfA : List ℕ
+bytesOfA = rowBytes 0 (97 ∷ []) (rowA .fields)
+
+pub case-1-decodes : DecodesBack 0 0 (97 ∷ []) (rowA .fields) bytesOfA []
+unfolding encodeRow lengthTests keyLengthTests rowBytes timeBytes big varint varintIn
+case-1-decodes = decode-encode 0 0 (97 ∷ []) (rowA .fields) 13 bytesOfA [] (typed (97 ∷ []) [] 1 (omega arith)) refl
+
+pub case-1-begins-read : (_≡_ {A = List ℕ} [] []) × (case-1-decodes .row ≡ case-1-decodes .row)
+case-1-begins-read =
+    let whole = append-nil bytesOfA in
+    read-begins-no-other 0 bytesOfA bytesOfA [] (case-1-decodes .row) (case-1-decodes .row) (rw whole at (case-1-decodes .reads)) (case-1-decodes .ends) (rw whole at (case-1-decodes .reads)) (case-1-decodes .ends) whole
+
 -- two cursors on case 8's block that carry "a", before other bytes, and two key buffers of eight bytes
 abbrev kept : List ℕ → KeptCursor
 kept after = record { direction = ascending; region = 0; at = 13; keyLen = 1; array = 97 ∷ after; mark = false }
 
 pub case-8-stale : (x y : List ℕ) → next (carried (kept x)) block8 8 ≡ next (carried (kept y)) block8 8
 case-8-stale x y = stale-bytes-tell-nothing (kept x) (kept y) refl block8 (replicate 8 0) (replicate 8 7) refl .0
+
+pub case-8-stale-empty : (x y : List ℕ) → isEmpty (carried (kept x)) block8 ≡ isEmpty (carried (kept y)) block8
+case-8-stale-empty x y = stale-bytes-empty (kept x) (kept y) refl block8
+
+pub case-8-stale-seek : (x y : List ℕ) → seek (kept x .direction) block8 (98 ∷ []) ≡ seek (kept y .direction) block8 (98 ∷ [])
+case-8-stale-seek x y = stale-bytes-seek (kept x) (kept y) refl block8 (98 ∷ [])
+
+-- two builders after case 2's first row, with other bytes behind its key
+abbrev keptBuilder : List ℕ → KeptBuilder
+keptBuilder after = record { size = 4096; interval = 16; used = 13; restarts = 1; rows = 1; lastLen = 1; array = 97 ∷ after }
+
+pub case-2-stale-fit : (x y : List ℕ) → wouldFit (carriedBy (keptBuilder x)) 48 2 (rowAB .key) (rowAB .fields) ≡ wouldFit (carriedBy (keptBuilder y)) 48 2 (rowAB .key) (rowAB .fields)
+case-2-stale-fit x y = stale-bytes-fit (keptBuilder x) (keptBuilder y) refl 48 2 (rowAB .key) (rowAB .fields)
+
+pub case-2-stale-add : (x y : List ℕ) → add (carriedBy (keptBuilder x)) 48 2 (rowAB .key) (rowAB .fields) ≡ add (carriedBy (keptBuilder y)) 48 2 (rowAB .key) (rowAB .fields)
+case-2-stale-add x y = stale-bytes-add (keptBuilder x) (keptBuilder y) refl 48 2 (rowAB .key) (rowAB .fields) .0
+
+pub case-2-stale-build : (x y : List ℕ) → build (carriedBy (keptBuilder x)) 48 2 ≡ build (carriedBy (keptBuilder y)) 48 2
+case-2-stale-build x y = stale-bytes-build (keptBuilder x) (keptBuilder y) refl 48 2
