@@ -252,9 +252,10 @@ impl BlockIteratorV2 {
         if self.done {
             return EmptyRead::Is(true);
         }
+        let at = self.at;
         let order = self.order;
         match order {
-            IterationOrder::Ascending => EmptyRead::Is(t.size <= self.at),
+            IterationOrder::Ascending => EmptyRead::Is(t.size <= at),
             IterationOrder::Descending => EmptyRead::Is(false),
         }
     }

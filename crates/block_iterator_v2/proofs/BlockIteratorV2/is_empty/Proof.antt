@@ -41,7 +41,7 @@ enum-told-3 : tie.Need-enum-told-3
 enum-told-3 c = search needs
 
 returns-3 : tie.Need-returns-3
-returns-3 c = empty-up (c .before .before .before .before .before .before .before .before .before .before .args .self) _ _ (trailer-read (c .before .before .before .before .before)) (c .before .before .before .before .if1 .left) (c .before .before .enum-told2 .given .1)
+returns-3 c = empty-up (c .before .before .before .before .before .before .before .before .before .args .self) _ _ (trailer-read (c .before .before .before .before)) (c .before .before .before .if1 .left) (c .before .enum-told2 .given .1)
 
 returns-4 : tie.Need-returns-4
 returns-4 c = empty-down (c .before .before .before .before .before .before .before .before .args .self) _ _ (trailer-read (c .before .before .before)) (c .before .before .if1 .left) (c .enum-told3 .given .1)
