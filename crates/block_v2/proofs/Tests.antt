@@ -1,7 +1,7 @@
 -- The tests of the builder's code, exit by exit, by what was met on the way: of its state, of a row's fit, of its adding.
 use Prim.Native.Nat.{ℕ, _+_, _*_, _/_, _≤_, _<_}
 use mathlib.Core.Path.{_≡_, refl, ap, sym, _∙_}
-use mathlib.Core.Bool.{Bool, true, false, cond, _&&_}
+use mathlib.Core.Bool.{Bool, true, false, cond, _&&_, _||_}
 use mathlib.Core.Logic.{⊎-elim}
 use native.Mathlib.Omega.{arith}
 use lib.Dec.{ltb, leb, eqb}
@@ -13,7 +13,7 @@ use Rattle.layout.specs.Builder.{Builder, restartsOf, stateTests, atRestart, ne
 use Rattle.layout.specs.Key.{Key}
 use Rattle.layout.specs.Limits.{maxKey, maxBlock, maxInterval, maxOffset, maxRestarts}
 use Rattle.layout.specs.Row.{Fields, valueOf, ifSo, present, rowBytes, keptLength, lengthTests}
-use Rattle.layout.specs.Laws.Answer.{handed, ok-inj, eqb-cases}
+use Rattle.layout.specs.Laws.Answer.{handed, ok-inj, eqb-cases, bool-cases}
 use Rattle.layout.specs.Laws.Block.{shares-is}
 use Rattle.layout.specs.Laws.Builder.{state-good, state-tells, fits-empty, fits-room, fits-not, fit-state, fit-lengths, fit-no, fit-yes, add-no, add-far, add-short, add-places, add-restart, add-plain}
 use Rattle.layout.specs.Laws.Building.{laidRow-bytes, rowBytes-most}
@@ -111,17 +111,21 @@ module _ (b : Builder) (dataLen placesLen : ℕ) (key : Key) (f : Fields) where
             let row : rowBytes shared (drop shared key) f ≡ nextRow b key f = rw share-is (laidRow-bytes (b .last) key (atRestart b) f) in
             omega (arith, bytes-are ∙ ap length row, more ∙ ap (λ (t : Bool). ifSo t 2) (m .mark))
 
-        plan-yes : fits b key f ≡ true → ok (planIs shared (present + n + over) restart) ≡ fitted b dataLen placesLen key f
-        plan-yes e = rw (fit-yes b dataLen placesLen key f (m .state) tested e, grown-is, share-is, m .mark)
+        module _ {room : Bool} (e : room ≡ (eqb (b .rows) 0 || leb (present + n + over) (b .size))) where
+          fits-is : fits b key f ≡ room
+          fits-is =
+              ⊎-elim (λ z. fits-empty b key f (z .1) ∙ sym (rw (z .0) at e))
+              (λ z. let q : room ≡ leb (present + n + over) (b .size) = rw (z .0) at e in
+              ⊎-elim (λ k. fits-room b key f (z .1) (rw (← grown-is) (leb-true (present + n + over) (b .size) k)) ∙ sym (q ∙ k))
+              (λ k. fits-not b key f (z .1) (rw (← grown-is) (leb-false (present + n + over) (b .size) k)) ∙ sym (q ∙ k))
+              (bool-cases (leb (present + n + over) (b .size))))
+              (eqb-cases (b .rows) 0)
 
-        pub plan-empty : b .rows ≡ 0 → ok (planIs shared (present + n + over) restart) ≡ fitted b dataLen placesLen key f
-        plan-empty z = plan-yes (fits-empty b key f z)
+          pub plan-fits : room ≡ true → ok (planIs shared (present + n + over) restart) ≡ fitted b dataLen placesLen key f
+          plan-fits t = rw (fit-yes b dataLen placesLen key f (m .state) tested (fits-is ∙ t), grown-is, share-is, m .mark)
 
-        pub plan-over : (b .rows ≡ 0 → ⊥) → b .size < present + n + over → refuse 4 ≡ fitted b dataLen placesLen key f
-        plan-over z h = handed _ (fit-no b dataLen placesLen key f (m .state) tested (fits-not b key f z (rw (← grown-is) h)))
-
-        pub plan-fits : (b .rows ≡ 0 → ⊥) → present + n + over ≤ b .size → ok (planIs shared (present + n + over) restart) ≡ fitted b dataLen placesLen key f
-        plan-fits z h = plan-yes (fits-room b key f z (rw (← grown-is) h))
+          pub plan-over : room ≡ false → refuse 4 ≡ fitted b dataLen placesLen key f
+          plan-over t = handed _ (fit-no b dataLen placesLen key f (m .state) tested (fits-is ∙ t))
 
 -- ---- a row that is tested: adding
 

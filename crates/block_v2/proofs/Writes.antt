@@ -8,12 +8,13 @@ use native.Mathlib.Omega.{arith}
 use lib.Dec.{ltb, leb}
 use lib.ListN.{length, take, drop, set, length-take, length-drop}
 use lib.Seq.{take-all, length-take-le}
+use borrow.Author.Tests.{eq-eqb, ne-eqb}
 use borrow.Rule.Slice.PartMut.{midOf, putMid, mid-len}
-use Rattle.layout.specs.Answer.{ok, refuse}
+use Rattle.layout.specs.Answer.{Res, ok, refuse, bind}
 use Rattle.layout.specs.Block.{trailer}
 use Rattle.layout.specs.Builder.{Builder, fresh, newBuilder, stateTests, atRestart, nextRow, presentSize, wouldFit, grown, add, build}
 use Rattle.layout.specs.Key.{Key}
-use Rattle.layout.specs.Limits.{maxOffset}
+use Rattle.layout.specs.Limits.{maxKey, maxOffset}
 use Rattle.layout.specs.Place.{splice}
 use Rattle.layout.specs.Row.{Fields, ifSo, rowBytes, valueOf, lengthTests, encodeRow}
 use Rattle.layout.specs.RowRead.{mayShare}
@@ -48,8 +49,8 @@ use Rattle.block_v2.specs.declared.BuildAnswer.the-variants.{Block, Refu
 use Rattle.block_v2.specs.declared.Grown.{Grown}
 use Rattle.block_v2.specs.declared.Grown.the-variants.{Row as GrownRow, Refused as GrownRefused}
 use Rattle.block_v2.specs.Says.{stateOf, viewFrom, viewOf, stateFrom, builderFrom, noKey, badSettings}
-use Rattle.block_v2.specs.Plan.{Plan, planIs, planOf, fitted, accepted, Tested, Fitting, Grew, Grows, Ends, Finishes}
-use Rattle.block_v2.specs.Promise.{Makes, AddsAs, Builds}
+use Rattle.block_v2.specs.Plan.{Plan, planIs, planOf, fitted, accepted, Tested, Fitting, Grew, Ends, Finishes}
+use Rattle.block_v2.specs.Promise.{Makes, AddsAs, entered, AddsInPlaceAs, Builds}
 use Rattle.block_v2.proofs.Tests.{passed-not, passed, accepted-tells}
 
 -- ---- a new builder
@@ -159,15 +160,32 @@ module _ (bytes : List ℕ) (used lastLen shared : ℕ) (key value : List ℕ) (
 -- ---- adding, in place
 
 module _ (s : State) (last bytes places : List ℕ) (key : Key) (f : Fields) where
-  pub grows-not : {x : Refusal} → accepted (viewFrom s last) (length bytes) (length places) key f ≡ refuse (number x)
-      → Grows s last bytes places key f (GrownRefused x) last bytes places
-  grows-not q =
-      rw (passed-not (add (viewFrom s last) (length bytes) (length places) key f) (λ _. planOf (viewFrom s last) key f) q)
-      (record { answer = refl; last-after = refl; bytes-after = refl; places-after = refl })
+  abbrev wanted : Res Builder
+  wanted = bind (entered s last) λ v. add v (length bytes) (length places) key f
 
-  pub grows : {shared : ℕ} {restart : Bool} {r : State} {last′ bytes′ places′ : List ℕ} → Tested (viewFrom s last) bytes places key f shared restart
-      → Grew s last bytes places key f r last′ bytes′ places′ → Grows s last bytes places key f (GrownRow r) last′ bytes′ places′
-  grows t g = rw (t .passed) (record { answer = ap ok (g .state); last-after = g .last-after; bytes-after = g .bytes-after; places-after = g .places-after })
+  abbrev Grows : Grown → List ℕ → List ℕ → List ℕ → Type 0
+  Grows r last′ bytes′ places′ = AddsInPlaceAs wanted s last bytes places key f r last′ bytes′ places′
+
+  grows-not : {x : Refusal} → wanted ≡ refuse (number x) → Grows (GrownRefused x) last bytes places
+  grows-not q = rw q (record { answer = refl; last-after = refl; bytes-after = refl; places-after = refl })
+
+  -- bytes that are not as many as the longest key has
+  pub grows-strange : (length last ≡ maxKey → ⊥) → Grows (GrownRefused BadState) last bytes places
+  grows-strange h = grows-not (rw (ne-eqb (length last) maxKey h))
+
+  module _ (long : length last ≡ maxKey) where
+    pub entered-is : wanted ≡ add (viewFrom s last) (length bytes) (length places) key f
+    entered-is = rw (eq-eqb (length last) maxKey long)
+
+    pub grows-refused : {x : Refusal} → accepted (viewFrom s last) (length bytes) (length places) key f ≡ refuse (number x) → Grows (GrownRefused x) last bytes places
+    grows-refused q =
+        grows-not (entered-is ∙ passed-not (add (viewFrom s last) (length bytes) (length places) key f) (λ _. planOf (viewFrom s last) key f) q)
+
+    pub grows : {shared : ℕ} {restart : Bool} {r : State} {last′ bytes′ places′ : List ℕ} → Tested (viewFrom s last) bytes places key f shared restart
+        → Grew s last bytes places key f r last′ bytes′ places′ → Grows (GrownRow r) last′ bytes′ places′
+    grows t g =
+        rw (entered-is ∙ t .passed)
+        (record { answer = ap ok (g .state); last-after = g .last-after; bytes-after = g .bytes-after; places-after = g .places-after })
 
 -- ---- the public functions, over the builder's state
 
@@ -180,17 +198,20 @@ module _ (self : BlockBuilderV2) {s : State} (is : s ≡ stateOf self) where
     pub fit-refused : {n : ℕ} → fitted (viewFrom s (self .«last_key»)) dataLen placesLen key f ≡ refuse n → refuse n ≡ wouldFit (viewOf self) dataLen placesLen key f
     fit-refused q = sym (passed-not (wouldFit (viewOf self) dataLen placesLen key f) (λ _. planOf (viewOf self) key f) (rw is at q))
 
-  module _ (bytes places : List ℕ) (key : Key) (f : Fields) {r : Grown} {last′ bytes′ places′ : List ℕ}
+  module _ (bytes places : List ℕ) (key : Key) (f : Fields) (long : length (self .«last_key») ≡ 1024) {r : Grown} {last′ bytes′ places′ : List ℕ}
       (g : Grows s (self .«last_key») bytes places key f r last′ bytes′ places′) where
+    added : AddsInPlaceAs (add (viewOf self) (length bytes) (length places) key f) (stateOf self) (self .«last_key») bytes places key f r last′ bytes′ places′
+    added = rw (is, entered-is (stateOf self) (self .«last_key») bytes places key f long) at g
+
     pub adds-not : {x : Refusal} → r ≡ GrownRefused x
         → AddsAs (add (viewOf self) (length bytes) (length places) key f) self bytes places key f (record { builder = builderFrom (stateOf self) last′; answer = AddRefused x }) bytes′ places′
     adds-not q =
-        let h = rw (is, q) at g in
+        let h = rw q at added in
         let e = passed-not (add (viewOf self) (length bytes) (length places) key f) stateFrom (sym (h .answer)) in
         let k = rw e at h in
         rw (e, k .last-after) (record { answer = refl; view = refl; whole = refl; bytes-after = k .bytes-after; places-after = k .places-after })
 
-    pub adds-good : {t : State} → length (self .«last_key») ≡ 1024 → r ≡ GrownRow t
+    pub adds-good : {t : State} → r ≡ GrownRow t
         → AddsAs (add (viewOf self) (length bytes) (length places) key f) self bytes places key f
         (record {
           builder =
@@ -206,8 +227,8 @@ module _ (self : BlockBuilderV2) {s : State} (is : s ≡ stateOf self) where
           answer = GoodAdd;
         })
         bytes′ places′
-    adds-good {t} long q =
-        let h = rw (is, q) at g in
+    adds-good {t} q =
+        let h = rw q at added in
         let p = passed (add (viewOf self) (length bytes) (length places) key f) stateFrom (sym (h .answer)) in
         let a = add-tells (viewOf self) (length bytes) (length places) key f (p .0) (p .1) in
         let e : add (viewOf self) (length bytes) (length places) key f ≡ ok (grown (viewOf self) key f) = p .1 ∙ ap ok (sym (a .is)) in

@@ -7,7 +7,7 @@ use mathlib.Core.List.{List}
 use lib.ListN.{length, drop, set}
 use Rattle.layout.specs.Answer.{Res, ok, refuse, bind, guard}
 use Rattle.layout.specs.Block.{shareOf}
-use Rattle.layout.specs.Builder.{Builder, stateTests, atRestart, nextRow, grownSize, wouldFit, grown, add, dataAfter, placesAfter, build, blockAfter}
+use Rattle.layout.specs.Builder.{Builder, stateTests, atRestart, nextRow, grownSize, wouldFit, grown, add, build, blockAfter}
 use Rattle.layout.specs.Key.{Key}
 use Rattle.layout.specs.Place.{splice}
 use Rattle.layout.specs.Row.{Fields, valueOf, rowBytes, lengthTests}
@@ -18,8 +18,6 @@ use Rattle.block_v2.specs.declared.State.{State}
 use Rattle.block_v2.specs.declared.BuildAnswer.{BuildAnswer}
 use Rattle.block_v2.specs.declared.Planned.{Planned}
 use Rattle.block_v2.specs.declared.Planned.the-variants.{Row as PlannedRow, Refused as PlannedRefused}
-use Rattle.block_v2.specs.declared.Grown.{Grown}
-use Rattle.block_v2.specs.declared.Grown.the-variants.{Row as GrownRow, Refused as GrownRefused}
 use Rattle.block_v2.specs.Says.{stateFrom, viewFrom, saysBuild}
 
 -- ---- tested
@@ -70,32 +68,12 @@ pub record Fitting (bytes : List ℕ) (used lastLen shared : ℕ) (key : Key) (f
   pub tested : lengthTests (shared + length (drop shared key)) (length (valueOf f)) ≡ ok tt
   pub room : used + length (rowBytes shared (drop shared key) f) ≤ length bytes
 
--- the bytes of the last key after an accepted row: its key over their start
-abbrev pub lastAfter : Res Builder → Key → List ℕ → List ℕ
-lastAfter (ok v) key last = splice last 0 key
-lastAfter (refuse n) key last = last
-
 -- an accepted row: the state and the three arrays after it
 pub record Grew (s : State) (last bytes places : List ℕ) (key : Key) (f : Fields) (r : State) (last′ bytes′ places′ : List ℕ) : Type 0 where
   pub state : r ≡ stateFrom (grown (viewFrom s last) key f)
   pub last-after : last′ ≡ splice last 0 key
   pub bytes-after : bytes′ ≡ splice bytes (s .used) (nextRow (viewFrom s last) key f)
   pub places-after : places′ ≡ cond (atRestart (viewFrom s last)) (set places (s .restarts) (s .used)) places
-
-abbrev pub saysGrown : Grown → Res State
-saysGrown (GrownRow s) = ok s
-saysGrown (GrownRefused r) = refuse (number r)
-
--- the same, or a refusal and nothing written
-pub record GrowsAs (want : Res Builder) (b : Builder) (last bytes places : List ℕ) (key : Key) (f : Fields) (r : Grown) (last′ bytes′ places′ : List ℕ) : Type 0 where
-  pub answer : saysGrown r ≡ bind want λ v. ok (stateFrom v)
-  pub last-after : last′ ≡ lastAfter want key last
-  pub bytes-after : bytes′ ≡ dataAfter want b key f bytes
-  pub places-after : places′ ≡ placesAfter want b places
-
-abbrev pub Grows : State → List ℕ → List ℕ → List ℕ → Key → Fields → Grown → List ℕ → List ℕ → List ℕ → Type 0
-Grows s last bytes places key f r last′ bytes′ places′ =
-    GrowsAs (add (viewFrom s last) (length bytes) (length places) key f) (viewFrom s last) last bytes places key f r last′ bytes′ places′
 
 -- ---- built
 

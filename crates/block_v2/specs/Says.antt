@@ -18,6 +18,8 @@ use Rattle.block_v2.specs.declared.Fit.{Fit}
 use Rattle.block_v2.specs.declared.Fit.the-variants.{Yes, Refused as FitRefused}
 use Rattle.block_v2.specs.declared.AddAnswer.{AddAnswer}
 use Rattle.block_v2.specs.declared.AddAnswer.the-variants.{Good as GoodAdd, Refused as AddRefused}
+use Rattle.block_v2.specs.declared.Grown.{Grown}
+use Rattle.block_v2.specs.declared.Grown.the-variants.{Row as GrownRow, Refused as GrownRefused}
 use Rattle.block_v2.specs.declared.BuildAnswer.{BuildAnswer}
 use Rattle.block_v2.specs.declared.BuildAnswer.the-variants.{Block, Refused as BuildRefused}
 
@@ -95,6 +97,10 @@ abbrev pub saysAdd : AddAnswer → Res (Unit {0})
 saysAdd GoodAdd = ok tt
 saysAdd (AddRefused r) = refuse (number r)
 
+abbrev pub saysGrown : Grown → Res State
+saysGrown (GrownRow s) = ok s
+saysGrown (GrownRefused r) = refuse (number r)
+
 abbrev pub saysBuild : BuildAnswer → Res ℕ
 saysBuild (Block n) = ok n
 saysBuild (BuildRefused r) = refuse (number r)
@@ -118,6 +124,12 @@ saysAdd-one GoodAdd GoodAdd e = refl
 saysAdd-one GoodAdd (AddRefused r) e = absurd (apart e)
 saysAdd-one (AddRefused r) GoodAdd e = absurd (apart (sym e))
 saysAdd-one (AddRefused r) (AddRefused q) e = ap AddRefused (refused-one e)
+
+pub saysGrown-one : (a b : Grown) → saysGrown a ≡ saysGrown b → a ≡ b
+saysGrown-one (GrownRow s) (GrownRow t) e = ap GrownRow (ok-inj e)
+saysGrown-one (GrownRow s) (GrownRefused r) e = absurd (apart e)
+saysGrown-one (GrownRefused r) (GrownRow s) e = absurd (apart (sym e))
+saysGrown-one (GrownRefused r) (GrownRefused q) e = ap GrownRefused (refused-one e)
 
 pub saysBuild-one : (a b : BuildAnswer) → saysBuild a ≡ saysBuild b → a ≡ b
 saysBuild-one (Block n) (Block m) e = ap Block (ok-inj e)

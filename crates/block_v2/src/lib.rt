@@ -1,9 +1,10 @@
 // The builder of a V2 block: rows with prefix compression, and restarts. Its state is numbers and the last key; the rows' bytes and the restarts' offsets
 // are in buffers that are lent to each call.
 // Follows slatedb 0.16.0, src/format/block_v2.rs (Apache License 2.0), and is changed: rows go into the free rest of the lent data buffer, the builder comes in and
-// goes out by value, and what the settings, the row, the room or the state itself can break is a refusal. A refused call changes nothing.
+// goes out by value, or as its numbers beside the lent bytes of its last key, and what the settings, the row, the room or the state itself can break is a refusal.
+// A refused call changes nothing.
 ghost use mathlib.Core.Path.{_≡_};
-ghost use mathlib.Core.Bool.{true, false, cond, _&&_};
+ghost use mathlib.Core.Bool.{true, false, cond, _&&_, _||_};
 ghost use Prim.Native.Nat.{_≤_, _<_, _+_, _*_, _^_};
 ghost use lib.Dec.{ltb, leb, eqb};
 ghost use lib.ListN.{length, take, drop, set};
@@ -16,8 +17,8 @@ ghost use Rattle.layout.specs.Laws.RowWrite.{sizeOf};
 ghost use Rattle.layout.specs.Laws.Splice.{Wrote};
 ghost use Rattle.row_codec_v2.specs.Says.{fieldsFrom, saysSized, sizedRefusal};
 ghost use Rattle.block_v2.specs.Says.{stateOf, stateFrom, builderFrom, viewFrom, noKey, badSettings};
-ghost use Rattle.block_v2.specs.Plan.{Judges, fitted, accepted, saysPlanned, plannedRefusal, Tested, Fitting, Grew, Grows, Finishes};
-ghost use Rattle.block_v2.specs.Promise.{Makes, Fits, Adds, Empties, Builds};
+ghost use Rattle.block_v2.specs.Plan.{Judges, fitted, accepted, saysPlanned, plannedRefusal, Tested, Fitting, Grew, Finishes};
+ghost use Rattle.block_v2.specs.Promise.{Makes, Fits, Adds, AddsInPlace, Empties, Builds};
 use row_codec_v2::Encoded;
 use row_codec_v2::RowFields;
 use row_codec_v2::Sized;
@@ -85,13 +86,18 @@ pub struct Built {
 }
 
 // The builder without the bytes of its last key: those stay where they are.
-struct State {
-    block_size: usize,
-    restart_interval: usize,
-    used: usize,
-    restarts: usize,
-    counter: usize,
-    last_key_len: usize,
+pub struct State {
+    pub block_size: usize,
+    pub restart_interval: usize,
+    pub used: usize,
+    pub restarts: usize,
+    pub counter: usize,
+    pub last_key_len: usize,
+}
+
+pub enum Grown {
+    Row(State),
+    Refused(Refusal),
 }
 
 // What the tests of a row found: how much of the last key it shares, how large the block is with it, and whether it is a restart.
@@ -101,11 +107,6 @@ enum Planned {
         size: usize,
         restart: bool,
     },
-    Refused(Refusal),
-}
-
-enum Grown {
-    Row(State),
     Refused(Refusal),
 }
 
@@ -224,6 +225,16 @@ fn restart_overhead(restart: bool) -> usize
     if restart { SIZEOF_U16 } else { 0 }
 }
 
+// An empty block accepts a row that exceeds its size.
+fn has_room(counter: usize, block_size: usize, size: usize) -> bool
+    ensures { λ r. ⌜ r ≡ (eqb counter 0 || leb size «block_size») ⌝ }
+{
+    if counter == 0 {
+        return true;
+    }
+    size <= block_size
+}
+
 // The fit question, with what was found on the way: 18, 1, 2, 3, 4. Nothing is written.
 fn plan_row(
     s: State,
@@ -252,19 +263,14 @@ fn plan_row(
         return no;
     }
     let size = current_size(s.used, s.restarts) + n + restart_overhead(restart);
-    let yes = Planned::Row {
-        shared,
-        size,
-        restart,
-    };
-    // An empty block accepts a row that exceeds its size.
-    if s.counter == 0 {
-        return yes;
+    if has_room(s.counter, s.block_size, size) {
+        return Planned::Row {
+            shared,
+            size,
+            restart,
+        };
     }
-    if s.block_size < size {
-        return no;
-    }
-    yes
+    no
 }
 
 fn restart_too_far(restart: bool, used: usize) -> bool
@@ -365,7 +371,7 @@ fn put_restart(restarts: &mut [u16], restart: bool, count: usize, used: usize) -
 
 // Writes an accepted row: its bytes, a restart's offset, and its key over the last one.
 fn grow(
-    last_key: &mut [u8; 1024],
+    last_key: &mut [u8],
     s: State,
     shared: usize,
     restart: bool,
@@ -400,9 +406,9 @@ fn planned_refusal(planned: Planned) -> Refusal
     }
 }
 
-// Adds a row where the builder's last key lies: all tests, then all writes.
-fn add_in_place(
-    last_key: &mut [u8; 1024],
+// Adds a row to a builder whose last key's bytes are lent: 18 unless they are 1,024; then 18, 1, 2, 3, 4, 5, 6. All tests, then all writes.
+pub fn add_in_place(
+    last_key: &mut [u8],
     s: State,
     data: &mut [u8],
     restarts: &mut [u16],
@@ -410,9 +416,11 @@ fn add_in_place(
     value: &[u8],
     row: RowFields,
 ) -> Grown
-    requires { ⌜ length (now «last_key») ≡ maxKey ⌝ }
-    ensures { λ r. ⌜ Grows s (now («last_key» .entry)) (now («data» .entry)) (now (restarts .entry)) (now (key .entry)) (fieldsFrom row (now (value .entry))) r (now («last_key» .exit)) (now («data» .exit)) (now (restarts .exit)) ⌝ }
+    ensures { λ r. ⌜ AddsInPlace s (now («last_key» .entry)) (now («data» .entry)) (now (restarts .entry)) (now (key .entry)) (now (value .entry)) row r (now («last_key» .exit)) (now («data» .exit)) (now (restarts .exit)) ⌝ }
 {
+    if last_key.len() != types::MAX_KEY {
+        return Grown::Refused(Refusal::BadState);
+    }
     let planned = accept_row(s, last_key, data.len(), restarts.len(), key, value, row);
     let Planned::Row {
         shared,
@@ -433,6 +441,21 @@ fn add_in_place(
         value,
         row,
     ))
+}
+
+// The same with the bytes of a builder's own array, which can be lent only as one.
+fn add_in_array(
+    last_key: &mut [u8; 1024],
+    s: State,
+    data: &mut [u8],
+    restarts: &mut [u16],
+    key: &[u8],
+    value: &[u8],
+    row: RowFields,
+) -> Grown
+    ensures { λ r. ⌜ AddsInPlace s (now («last_key» .entry)) (now («data» .entry)) (now (restarts .entry)) (now (key .entry)) (now (value .entry)) row r (now («last_key» .exit)) (now («data» .exit)) (now (restarts .exit)) ⌝ }
+{
+    add_in_place(last_key, s, data, restarts, key, value, row)
 }
 
 // Puts the trailer after the rows. It tests its own room, which is that of 6.
@@ -555,7 +578,7 @@ impl BlockBuilderV2 {
         ensures { λ r. ⌜ Adds self (now («data» .entry)) (now (restarts .entry)) (now (key .entry)) (now (value .entry)) row r (now («data» .exit)) (now (restarts .exit)) ⌝ }
     {
         let s = state_of(self);
-        let grown = add_in_place(&mut self.last_key, s, data, restarts, key, value, row);
+        let grown = add_in_array(&mut self.last_key, s, data, restarts, key, value, row);
         match grown {
             Grown::Row(t) => {
                 self.used = t.used;

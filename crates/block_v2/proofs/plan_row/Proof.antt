@@ -9,7 +9,7 @@ use Rattle.layout.specs.Laws.Builder.{state-tells}
 use Rattle.types.specs.Answers.{no}
 use Rattle.row_codec_v2.specs.Says.{fieldsFrom, saysSized, sizedRefusal}
 use Rattle.block_v2.specs.Says.{viewFrom}
-use Rattle.block_v2.proofs.Tests.{state-refused, state-taken, Measured, share-fits, plan-state, plan-unsized, plan-past, plan-empty, plan-over, plan-fits, size-small}
+use Rattle.block_v2.proofs.Tests.{state-refused, state-taken, Measured, share-fits, plan-state, plan-unsized, plan-past, plan-fits, plan-over, size-small}
 use Rattle.block_v2.proofs.plan_row.Statement.{statement}
 use Rattle.block_v2.proofs.plan_row.Tie as tie
 
@@ -78,14 +78,14 @@ restart-overhead-requires c κs = search needs
 add-size-2 : tie.Need-add-size-2
 add-size-2 c = omega (arith, c .before .current-size .ensures .1, c .restart-overhead .ensures .1, size-small _ _ _ _ _ (measured (c .before .before .before .before .before .before .before)) (ap saysSized (c .before .before .before .before .before .entry-size .given .1)))
 
+has-room-requires : tie.Need-has-room-requires
+has-room-requires c κs = search needs
+
 returns-4 : tie.Need-returns-4
-returns-4 c = plan-empty _ _ _ _ _ (measured (c .before .before .before .before .before .before .before .before .before)) (ap saysSized (c .before .before .before .before .before .before .before .entry-size .given .1)) (c .before .before .before .current-size .ensures .0) (c .before .before .restart-overhead .ensures .0) (c .if3 .taken)
+returns-4 c = plan-fits _ _ _ _ _ (measured (c .before .before .before .before .before .before .before .before .before)) (ap saysSized (c .before .before .before .before .before .before .before .entry-size .given .1)) (c .before .before .before .current-size .ensures .0) (c .before .before .restart-overhead .ensures .0) (c .before .has-room .ensures) (c .if3 .taken)
 
 returns-5 : tie.Need-returns-5
-returns-5 c = plan-over _ _ _ _ _ (measured (c .before .before .before .before .before .before .before .before .before .before .before)) (ap saysSized (c .before .before .before .before .before .before .before .before .before .entry-size .given .1)) (c .before .before .before .before .before .current-size .ensures .0) (c .before .before .before .before .restart-overhead .ensures .0) (c .before .before .if3 .left) (c .if4 .taken)
-
-returns-6 : tie.Need-returns-6
-returns-6 c = plan-fits _ _ _ _ _ (measured (c .before .before .before .before .before .before .before .before .before .before .before)) (ap saysSized (c .before .before .before .before .before .before .before .before .before .entry-size .given .1)) (c .before .before .before .before .before .current-size .ensures .0) (c .before .before .before .before .restart-overhead .ensures .0) (c .before .before .if3 .left) (c .if4 .left)
+returns-5 c = plan-over _ _ _ _ _ (measured (c .before .before .before .before .before .before .before .before .before)) (ap saysSized (c .before .before .before .before .before .before .before .entry-size .given .1)) (c .before .before .before .current-size .ensures .0) (c .before .before .restart-overhead .ensures .0) (c .before .has-room .ensures) (c .if3 .left)
 
 pub plan-row-spec : {M : Type 1} → statement M
 plan-row-spec =
@@ -105,6 +105,6 @@ plan-row-spec =
     add-size
     restart-overhead-requires
     add-size-2
+    has-room-requires
     returns-4
-    returns-5
-    returns-6)
+    returns-5)

@@ -1,5 +1,5 @@
--- `add` keeps its promise: `add_in_place` works on the last key where it lies. An accepted row's numbers go into the builder given back; a refused one left the key as it was,
--- and so the builder.
+-- `add` keeps its promise: its array has as many bytes as the longest key, and `add_in_place` works on them where they lie. An accepted row's numbers go into the builder given
+-- back; a refused one left the key as it was, and so the builder.
 use mathlib.Core.Path.{_≡_}
 use lib.ListN.{length}
 use borrow.Author.Needs.{needs}
@@ -13,8 +13,8 @@ long c = search needs
 state-of-requires : tie.Need-state-of-requires
 state-of-requires c κs = search needs
 
-add-in-place-requires : tie.Need-add-in-place-requires
-add-in-place-requires c κs = search needs
+add-in-array-requires : tie.Need-add-in-array-requires
+add-in-array-requires c κs = search needs
 
 enum-known-grown : tie.Need-enum-known-grown
 enum-known-grown c = search needs
@@ -29,7 +29,7 @@ same-length-2 : tie.Need-same-length-2
 same-length-2 c = search needs
 
 returns : tie.Need-returns
-returns c = adds-good _ (c .before .before .before .before .before .before .before .before .before .before .before .state-of .ensures) _ _ _ _ (c .before .before .before .before .before .before .before .add-in-place .ensures) (long (c .before .before .before .before .before .before .before .before .before .before .before .before .before .before .before .before)) (c .before .grown .given .1)
+returns c = adds-good _ (c .before .before .before .before .before .before .before .before .before .before .before .state-of .ensures) _ _ _ _ (long (c .before .before .before .before .before .before .before .before .before .before .before .before .before .before .before .before)) (c .before .before .before .before .before .before .before .add-in-array .ensures) (c .before .grown .given .1)
 
 same-length-3 : tie.Need-same-length-3
 same-length-3 c = search needs
@@ -38,14 +38,14 @@ same-length-4 : tie.Need-same-length-4
 same-length-4 c = search needs
 
 returns-2 : tie.Need-returns-2
-returns-2 c = adds-not _ (c .before .before .before .before .before .before .before .before .before .before .before .state-of .ensures) _ _ _ _ (c .before .before .before .before .before .before .before .add-in-place .ensures) (c .before .grown2 .given .1)
+returns-2 c = adds-not _ (c .before .before .before .before .before .before .before .before .before .before .before .state-of .ensures) _ _ _ _ (long (c .before .before .before .before .before .before .before .before .before .before .before .before .before .before .before .before)) (c .before .before .before .before .before .before .before .add-in-array .ensures) (c .before .grown2 .given .1)
 
 pub add-spec : {M : Type 1} → statement M
 add-spec =
     tie.close
     (tie.spec
     state-of-requires
-    add-in-place-requires
+    add-in-array-requires
     enum-known-grown
     enum-known-grown-2
     same-length
