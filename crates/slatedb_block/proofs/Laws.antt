@@ -1,0 +1,246 @@
+-- What the exits of the exports use, over plain variables: words that are read, and what a good, a refused or a done answer sets and leaves.
+use Prim.Native.Nat.{ℕ, _+_}
+use mathlib.Core.Bool.{Bool, true, false, cond, not}
+use mathlib.Core.Path.{_≡_, refl, ap, sym, _∙_}
+use mathlib.Core.List.{List, [], append-nil}
+use lib.Dec.{eqb}
+use lib.ListN.{length, take, drop-of-length-le}
+use native.Mathlib.Omega.{arith}
+use borrow.Author.Tests.{eq-eqb, ne-eqb, eqb-true, not-false}
+use Rattle.layout.specs.Answer.{Res, ok, refuse, bind}
+use Rattle.layout.specs.Builder.{Builder, newBuilder, built, isEmpty as isEmptyBuilder, stateTests, build, blockAfter}
+use Rattle.layout.specs.Cursor.{Direction, ascending, descending, Cursor, cursorOr, openBlock, isEmpty}
+use Rattle.layout.specs.Seek.{Sought, seek, soughtAfter}
+use Rattle.layout.specs.Limits.{maxKey}
+use Rattle.layout.specs.Laws.Answer.{ok-inj, guard-then}
+use Rattle.layout.specs.Place.{splice}
+use Rattle.utils.specs.Promise.{Puts}
+use Rattle.utils.specs.declared.Put.{Put}
+use Rattle.block_regions_v2.proofs.Laws.{copied}
+use Rattle.types.specs.Answers.{apart, yes}
+use Rattle.types.specs.Number.{number}
+use Rattle.types.specs.declared.Refusal.{Refusal}
+use Rattle.types.specs.Says.{saysOrder}
+use Rattle.types.specs.declared.IterationOrder.{IterationOrder}
+use Rattle.block_v2.specs.Promise.{Makes, Builds}
+use Rattle.block_v2.specs.Says.{saysMade, saysBuild, viewOf as viewOfBuilder}
+use Rattle.block_v2.specs.declared.Made.the-variants.{Good as GoodMade, Refused as MadeRefused}
+use Rattle.block_v2.specs.declared.New.{New}
+use Rattle.block_v2.specs.declared.Built.{Built}
+use Rattle.block_v2.specs.declared.BuildAnswer.the-variants.{Block, Refused as BuildRefused}
+use Rattle.block_iterator_v2.specs.Promise.{Opens, TellsEmpty, SeeksTarget}
+use Rattle.block_iterator_v2.specs.Says.{viewOf, saysOpen, saysEmpty, saysSeek, Report, reportIs, reported}
+use Rattle.block_iterator_v2.specs.declared.Opened.{Opened}
+use Rattle.block_iterator_v2.specs.declared.OpenAnswer.the-variants.{Good as GoodOpen, Refused as OpenRefused}
+use Rattle.block_iterator_v2.specs.declared.EmptyRead.{EmptyRead}
+use Rattle.block_iterator_v2.specs.declared.EmptyRead.the-variants.{Is as IsEmpty, Refused as EmptyRefused}
+use Rattle.block_iterator_v2.specs.declared.Sought.{Sought as SoughtC}
+use Rattle.block_iterator_v2.specs.declared.SeekAnswer.the-variants.{Landed, Done as SeekDone, Refused as SeekRefused}
+use Rattle.block_iterator_v2.specs.declared.BlockIteratorV2.{BlockIteratorV2}
+use Rattle.slatedb_block.specs.Words.{badWords, doneCode, codeOf, counted, oneOf, truthIn, truthWord, orderIn, wordAt, cursorFrom, cursorIn, cursorWords, builderFrom, builderWords}
+use Rattle.slatedb_block.specs.Says.{viewIn, saysCursor, LoadsCursor, iteratorFrom, builderFromWords}
+use Rattle.slatedb_block.specs.declared.Place.{Place}
+use Rattle.slatedb_block.specs.declared.CursorRead.{CursorRead}
+use Rattle.slatedb_block.specs.declared.CursorRead.the-variants.{Is as IsCursor}
+use Rattle.slatedb_block.specs.Promise.{Tells, Sets, MakesFlat, EmptiesFlat, BuildsFlat, OpensFlat, TellsFlat, seekCode, SeeksAs, SeeksFlat}
+
+-- ---- words
+
+pub of-0 : {A : Type 0} (a b : A) {w : ℕ} → w ≡ 0 → ok a ≡ oneOf a b w
+of-0 a b e = rw e refl
+
+pub of-1 : {A : Type 0} (a b : A) {w : ℕ} → w ≡ 1 → ok b ≡ oneOf a b w
+of-1 a b e = rw e refl
+
+pub of-none : {A : Type 0} (a b : A) {w : ℕ} → (w ≡ 0 → ⊥) → (w ≡ 1 → ⊥) → refuse badWords ≡ oneOf a b w
+of-none a b {w} h k = rw (ne-eqb w 0 h, ne-eqb w 1 k) refl
+
+pub counted-not : {A : Type 0} (ws : List ℕ) (n : ℕ) (k : Res A) → (length ws ≡ n → ⊥) → counted ws n k ≡ refuse badWords
+counted-not ws n k h = rw (ne-eqb (length ws) n h) refl
+
+pub counted-so : {A : Type 0} (ws : List ℕ) (n : ℕ) (k : Res A) → length ws ≡ n → counted ws n k ≡ k
+counted-so ws n k h = rw (eq-eqb (length ws) n h) refl
+
+pub cursor-short : (ws : List ℕ) → (length ws ≡ 5 → ⊥) → (key : List ℕ) → refuse badWords ≡ cursorIn ws key
+unfolding cursorIn
+cursor-short ws h key = sym (counted-not ws 5 _ h)
+
+pub cursor-no-order : (ws : List ℕ) → length ws ≡ 5 → orderIn (wordAt ws 0) ≡ refuse badWords → (key : List ℕ) → refuse badWords ≡ cursorIn ws key
+unfolding cursorIn
+cursor-no-order ws h o key = sym (counted-so ws 5 _ h ∙ rw o refl)
+
+module _ (ws : List ℕ) (h : length ws ≡ 5) {d : Direction} (o : orderIn (wordAt ws 0) ≡ ok d) where
+  pub cursor-no-mark : truthIn (wordAt ws 4) ≡ refuse badWords → (key : List ℕ) → refuse badWords ≡ cursorIn ws key
+  unfolding cursorIn
+  cursor-no-mark m key = sym (counted-so ws 5 _ h ∙ rw (o, m) refl)
+
+  pub cursor-read : {b : Bool} → truthIn (wordAt ws 4) ≡ ok b → (key : List ℕ) → cursorIn ws key ≡ ok (cursorFrom ws key d b)
+  unfolding cursorIn
+  cursor-read m key = counted-so ws 5 _ h ∙ rw (o, m) refl
+
+pub cursor-loaded : (ws : List ℕ) (p : Place) → length ws ≡ 5 → orderIn (wordAt ws 0) ≡ ok (saysOrder (p .order)) → truthIn (wordAt ws 4) ≡ ok (p .done)
+    → p .region ≡ wordAt ws 1 → p .at ≡ wordAt ws 2 → p .«key_len» ≡ wordAt ws 3 → (key : List ℕ) → saysCursor key (IsCursor p) ≡ cursorIn ws key
+cursor-loaded ws p h o m r a k key = rw (r, a, k) (sym (cursor-read ws h o m key))
+
+-- what is a cursor has its five words
+pub cursor-counts : (ws key : List ℕ) (c : Cursor) → cursorIn ws key ≡ ok c → length ws ≡ 5
+unfolding cursorIn
+cursor-counts ws key c e = guard-then (not (eqb (length ws) 5)) badWords _ c e λ t q. eqb-true (length ws) 5 (not-false (eqb (length ws) 5) t)
+
+-- ---- what is set
+
+-- a copy over all bytes leaves what was copied
+pub copied-whole : (src : List ℕ) {key ys : List ℕ} {p : Put} → length key ≡ maxKey → length src ≡ maxKey → Puts src key 0 p ys → ys ≡ src
+unfolding splice
+copied-whole src {key} h k q =
+    copied (omega (arith, h, k)) q ∙ rw (drop-of-length-le key {i = 0 + length src} (omega (arith, h, k)), append-nil src) refl
+
+pub tells-good : {want : Res ℕ} {n x : ℕ} → want ≡ ok x → Tells want n 0 x
+tells-good e = rw e (record { answer = refl; number = refl })
+
+pub tells-refused : {want : Res ℕ} {n k code : ℕ} → want ≡ refuse k → code ≡ k → Tells want n code n
+tells-refused e q = rw (e, q) (record { answer = refl; number = refl })
+
+pub sets-good : {A : Type 0} {want : Res A} {words : A → List ℕ} {ws ws′ : List ℕ} (a : A) → want ≡ ok a → ws′ ≡ words a → Sets want words ws 0 ws′
+sets-good a e q = rw (e, q) (record { answer = refl; state = refl })
+
+pub sets-refused : {A : Type 0} {want : Res A} {words : A → List ℕ} {ws : List ℕ} {k code : ℕ} → want ≡ refuse k → code ≡ k → Sets want words ws code ws
+sets-refused e q = rw (e, q) (record { answer = refl; state = refl })
+
+-- ---- a record's promise, taken apart: an answer that says only whether, with the value beside it
+
+abbrev only : {A : Type 0} → Res A → Res (Unit {0})
+only want = bind want λ _. ok tt
+
+pub went : {A : Type 0} (want : Res A) (v : A) → only want ≡ ok tt → ((a : A) → want ≡ ok a → v ≡ a) → want ≡ ok v
+went (ok a) v s is = ap ok (sym (is a refl))
+went (refuse n) v s is = absurd (apart (sym s))
+
+pub stayed : {A : Type 0} (want : Res A) (k : ℕ) → only want ≡ refuse k → want ≡ refuse k
+stayed (ok a) k s = absurd (apart s)
+stayed (refuse n) k s = ap refuse (ap codeOf s)
+
+-- ---- building a block
+
+pub makes-short : (ws : List ℕ) (size interval : ℕ) → (length ws ≡ 6 → ⊥) → MakesFlat ws size interval badWords ws
+makes-short ws size interval h = sets-refused (counted-not ws 6 (newBuilder size interval) h) refl
+
+module _ (ws : List ℕ) (size interval : ℕ) (r : New) (h : length ws ≡ 6) (m : Makes size interval r) where
+  pub makes-good : {ws′ : List ℕ} → r .answer ≡ GoodMade → ws′ ≡ builderWords (viewOfBuilder (r .builder)) → MakesFlat ws size interval 0 ws′
+  makes-good e q =
+      let w = went (newBuilder size interval) (viewOfBuilder (r .builder)) (yes saysMade (m .answer) e) (λ a z. m .view ∙ ap built z) in
+      sets-good (viewOfBuilder (r .builder)) (counted-so ws 6 (newBuilder size interval) h ∙ w) q
+
+  pub makes-refused : {x : Refusal} {code : ℕ} → r .answer ≡ MadeRefused x → code ≡ number x → MakesFlat ws size interval code ws
+  makes-refused {x} e q = sets-refused (counted-so ws 6 (newBuilder size interval) h ∙ stayed (newBuilder size interval) (number x) (yes saysMade (m .answer) e)) q
+
+pub empties-short : (ws : List ℕ) (n : ℕ) → (length ws ≡ 6 → ⊥) → EmptiesFlat ws n badWords n
+empties-short ws n h = tells-refused (rw (ne-eqb (length ws) 6 h) refl) refl
+
+pub empties : (ws : List ℕ) (n x : ℕ) (b : Bool) → length ws ≡ 6 → b ≡ isEmptyBuilder (viewOfBuilder (builderFromWords ws)) → x ≡ truthWord b → EmptiesFlat ws n 0 x
+unfolding isEmptyBuilder
+empties ws n x b h e q = rw (q, e) (tells-good (rw (eq-eqb (length ws) 6 h) refl))
+
+pub builds-short : (ws bytes places : List ℕ) (n : ℕ) → (length ws ≡ 6 → ⊥) → BuildsFlat ws bytes places n badWords bytes n
+builds-short ws bytes places n h = rw (ne-eqb (length ws) 6 h) (record { told = record { answer = refl; number = refl }; bytes-after = refl })
+
+-- a builder whose last key's bytes are not lent builds what any other builds
+built-any : (ws : List ℕ) (dataLen placesLen : ℕ) → build (viewOfBuilder (builderFromWords ws)) dataLen placesLen ≡ build (builderFrom ws []) dataLen placesLen
+unfolding build stateTests
+built-any ws dataLen placesLen = refl
+
+module _ (ws bytes places bytes′ : List ℕ) (n : ℕ) (r : Built) (h : length ws ≡ 6) (b : Builds (builderFromWords ws) bytes places r bytes′) where
+  pub builds-block : {k : ℕ} → r .answer ≡ Block k → BuildsFlat ws bytes places n 0 bytes′ k
+  builds-block {k} e =
+      let w = yes saysBuild (b .answer) e in
+      let v = sym (built-any ws (length bytes) (length places)) ∙ w in
+      let after = rw w at (b .bytes-after) in
+      rw (eq-eqb (length ws) 6 h, v) (record { told = record { answer = refl; number = refl }; bytes-after = after })
+
+  pub builds-refused : {x : Refusal} {code : ℕ} → r .answer ≡ BuildRefused x → code ≡ number x → BuildsFlat ws bytes places n code bytes′ n
+  builds-refused {x} e q =
+      let w = yes saysBuild (b .answer) e in
+      let v = sym (built-any ws (length bytes) (length places)) ∙ w in
+      let after = rw w at (b .bytes-after) in
+      rw (eq-eqb (length ws) 6 h, v, q) (record { told = record { answer = refl; number = refl }; bytes-after = after })
+
+-- ---- opening
+
+pub opens-short : (b : List ℕ) (order : ℕ) (ws : List ℕ) → (length ws ≡ 5 → ⊥) → OpensFlat b order ws badWords ws
+opens-short b order ws h = sets-refused (counted-not ws 5 _ h) refl
+
+pub opens-no-order : (b : List ℕ) (order : ℕ) (ws : List ℕ) → length ws ≡ 5 → orderIn order ≡ refuse badWords → OpensFlat b order ws badWords ws
+opens-no-order b order ws h o = sets-refused (counted-so ws 5 _ h ∙ rw o refl) refl
+
+module _ (b : List ℕ) (order : ℕ) (ws : List ℕ) (r : Opened) (o : IterationOrder) (h : length ws ≡ 5) (is : orderIn order ≡ ok (saysOrder o)) (opens : Opens b o r) where
+  pub opens-good : {ws′ : List ℕ} → r .answer ≡ GoodOpen → ws′ ≡ cursorWords (viewOf (r .iterator)) → OpensFlat b order ws 0 ws′
+  opens-good e q =
+      let w = went (openBlock b (saysOrder o)) (viewOf (r .iterator)) (yes saysOpen (opens .answer) e) (λ a z. opens .view ∙ ap (cursorOr (saysOrder o)) z) in
+      sets-good (viewOf (r .iterator)) (counted-so ws 5 _ h ∙ rw is w) q
+
+  pub opens-refused : {x : Refusal} {code : ℕ} → r .answer ≡ OpenRefused x → code ≡ number x → OpensFlat b order ws code ws
+  opens-refused {x} e q = sets-refused (counted-so ws 5 _ h ∙ rw is (stayed (openBlock b (saysOrder o)) (number x) (yes saysOpen (opens .answer) e))) q
+
+-- ---- asking whether a row is left: the key's bytes tell nothing
+
+empty-any : (d : Direction) (region at keyLen : ℕ) (m : Bool) (k l b : List ℕ)
+    → isEmpty (record { direction = d; region = region; at = at; keyLen = keyLen; key = k; mark = m }) b
+    ≡ isEmpty (record { direction = d; region = region; at = at; keyLen = keyLen; key = l; mark = m }) b
+unfolding isEmpty
+empty-any ascending region at keyLen m k l b = refl
+empty-any descending region at keyLen m k l b = refl
+
+pub empty-no-cursor : (b ws : List ℕ) (n : ℕ) → cursorIn ws [] ≡ refuse badWords → TellsFlat b ws n badWords n
+empty-no-cursor b ws n e = tells-refused (rw e refl) refl
+
+module _ (b ws : List ℕ) (n : ℕ) (p : Place) (r : EmptyRead) (is : cursorIn ws [] ≡ ok (viewIn p [])) (t : TellsEmpty (iteratorFrom p) b r) where
+  said : saysEmpty r ≡ isEmpty (viewIn p []) b
+  said = t ∙ empty-any (saysOrder (p .order)) (p .region) (p .at) (p .«key_len») (p .done) (take (p .«key_len») (iteratorFrom p .key)) (take (p .«key_len») []) b
+
+  pub empty-told : {e : Bool} {x : ℕ} → r ≡ IsEmpty e → x ≡ truthWord e → TellsFlat b ws n 0 x
+  empty-told {e} {x} z q = rw q (tells-good (rw (is, yes saysEmpty said z) refl))
+
+  pub empty-refused : {x : Refusal} {code : ℕ} → r ≡ EmptyRefused x → code ≡ number x → TellsFlat b ws n code n
+  empty-refused {x} z q = tells-refused {k = number x} (rw (is, yes saysEmpty said z) refl) q
+
+-- ---- a seek
+
+sought : (want : Res Sought) (self it : BlockIteratorV2) (o : Bool) (ws key ws′ key′ : List ℕ) (n k : ℕ)
+    → bind want reported ≡ ok (reportIs o k) → viewOf it ≡ soughtAfter want (viewOf self) → ws′ ≡ cursorWords (viewOf it) → key′ ≡ it .key
+    → SeeksAs want ws key n (cond o doneCode 0) ws′ key′ k
+sought (ok s) self it o ws key ws′ key′ n k e v w b =
+    let over = ap (λ (x : Report). x .over) (ok-inj e) in
+    let reads = ap (λ (x : Report). x .reads) (ok-inj e) in
+    record {
+      answer = sym (ap (λ x. cond x doneCode 0) over);
+      state = w ∙ ap cursorWords v;
+      key-bytes = rw b (sym (ap (λ (x : Cursor). take (x .keyLen) (it .key)) v) ∙ ap (λ (x : Cursor). x .key) v);
+      number = sym reads;
+    }
+sought (refuse m) self it o ws key ws′ key′ n k e v w b = absurd (apart (sym e))
+
+not-sought : (want : Res Sought) (ws key : List ℕ) (n k code : ℕ) → bind want reported ≡ refuse k → code ≡ k → SeeksAs want ws key n code ws key n
+not-sought (ok s) ws key n k code e q = absurd (apart e)
+not-sought (refuse m) ws key n k code e q = record { answer = q ∙ sym (ap codeOf e); state = refl; key-bytes = refl; number = refl }
+
+pub seeks-short : (b target ws key : List ℕ) (n : ℕ) → (length key ≡ maxKey → ⊥) → SeeksFlat b target ws key n badWords ws key n
+seeks-short b target ws key n h = rw (ne-eqb (length key) maxKey h) (record { answer = refl; state = refl; key-bytes = refl; number = refl })
+
+pub seeks-no-cursor : (b target ws key : List ℕ) (n : ℕ) → length key ≡ maxKey → cursorIn ws key ≡ refuse badWords → SeeksFlat b target ws key n badWords ws key n
+seeks-no-cursor b target ws key n h e = rw (eq-eqb (length key) maxKey h, e) (record { answer = refl; state = refl; key-bytes = refl; number = refl })
+
+module _ (b target ws key : List ℕ) (n : ℕ) (p : Place) (r : SoughtC) (h : length key ≡ maxKey) (is : cursorIn ws key ≡ ok (viewIn p key)) (s : SeeksTarget (iteratorFrom p) b target r) where
+  abbrev wanted : List ℕ → List ℕ → ℕ → ℕ → Type 0
+  wanted ws′ key′ code k = SeeksAs (seek (saysOrder (p .order)) b target) ws key n code ws′ key′ k
+
+  asked : {ws′ key′ : List ℕ} {code k : ℕ} → wanted ws′ key′ code k → SeeksFlat b target ws key n code ws′ key′ k
+  asked w = rw (eq-eqb (length key) maxKey h, is) w
+
+  pub seeks-landed : {k : ℕ} {ws′ key′ : List ℕ} → r .answer ≡ Landed k → ws′ ≡ cursorWords (viewOf (r .iterator)) → key′ ≡ r .iterator .key → SeeksFlat b target ws key n 0 ws′ key′ k
+  seeks-landed {k} {ws′} {key′} e w q = asked (sought (seek (saysOrder (p .order)) b target) (iteratorFrom p) (r .iterator) false ws key ws′ key′ n k (yes saysSeek (s .answer) e) (s .view) w q)
+
+  pub seeks-done : {k : ℕ} {ws′ key′ : List ℕ} → r .answer ≡ SeekDone k → ws′ ≡ cursorWords (viewOf (r .iterator)) → key′ ≡ r .iterator .key → SeeksFlat b target ws key n doneCode ws′ key′ k
+  seeks-done {k} {ws′} {key′} e w q = asked (sought (seek (saysOrder (p .order)) b target) (iteratorFrom p) (r .iterator) true ws key ws′ key′ n k (yes saysSeek (s .answer) e) (s .view) w q)
+
+  pub seeks-refused : {x : Refusal} {code : ℕ} → r .answer ≡ SeekRefused x → code ≡ number x → SeeksFlat b target ws key n code ws key n
+  seeks-refused {x} {code} e q = asked (not-sought (seek (saysOrder (p .order)) b target) ws key n (number x) code (yes saysSeek (s .answer) e) q)

@@ -1,0 +1,69 @@
+-- What each function promises: the code that it answers, and what each lent word and byte is after it, as equations to the definitions of `layout`.
+use Prim.Native.Nat.{ℕ}
+use mathlib.Core.Bool.{Bool, cond}
+use mathlib.Core.Path.{_≡_}
+use mathlib.Core.List.{List, []}
+use lib.ListN.{length, take}
+use Rattle.layout.specs.Answer.{Res, ok, refuse, bind}
+use Rattle.layout.specs.Limits.{maxKey}
+use Rattle.layout.specs.Builder.{Builder, newBuilder, isEmpty as isEmptyBuilder, build, blockAfter}
+use Rattle.layout.specs.Check.{check}
+use Rattle.layout.specs.Cursor.{Cursor, openBlock, isEmpty}
+use Rattle.layout.specs.Seek.{Sought, seek}
+use Rattle.slatedb_block.specs.Words.{doneCode, codeOf, setBy, counted, truthWord, orderIn, cursorIn, cursorWords, builderFrom, builderIn, builderWords}
+
+-- a number that is wanted in a lent word
+pub record Tells (want : Res ℕ) (n code n′ : ℕ) : Type 0 where
+  pub answer : code ≡ codeOf want
+  pub number : n′ ≡ setBy want (λ x. x) n
+
+-- words that are wanted
+pub record Sets {A : Type 0} (want : Res A) (words : A → List ℕ) (ws : List ℕ) (code : ℕ) (ws′ : List ℕ) : Type 0 where
+  pub answer : code ≡ codeOf want
+  pub state : ws′ ≡ setBy want words ws
+
+-- ---- building a block
+
+abbrev pub MakesFlat : List ℕ → ℕ → ℕ → ℕ → List ℕ → Type 0
+MakesFlat ws size interval code ws′ = Sets (counted ws 6 (newBuilder size interval)) builderWords ws code ws′
+
+-- the bytes of the last key tell nothing: none are lent
+abbrev pub EmptiesFlat : List ℕ → ℕ → ℕ → ℕ → Type 0
+EmptiesFlat ws n code n′ = Tells (bind (builderIn ws []) λ v. ok (truthWord (isEmptyBuilder v))) n code n′
+
+pub record BuildsAs (want : Res ℕ) (v : Builder) (bytes places : List ℕ) (n code : ℕ) (bytes′ : List ℕ) (n′ : ℕ) : Type 0 where
+  pub told : Tells want n code n′
+  pub bytes-after : bytes′ ≡ blockAfter want v bytes places
+
+abbrev pub BuildsFlat : List ℕ → List ℕ → List ℕ → ℕ → ℕ → List ℕ → ℕ → Type 0
+BuildsFlat ws bytes places n code bytes′ n′ = BuildsAs (bind (builderIn ws []) λ v. build v (length bytes) (length places)) (builderFrom ws []) bytes places n code bytes′ n′
+
+-- ---- reading a block
+
+abbrev pub ChecksFlat : List ℕ → ℕ → ℕ → ℕ → Type 0
+ChecksFlat b n code n′ = Tells (check b) n code n′
+
+abbrev pub OpensFlat : List ℕ → ℕ → List ℕ → ℕ → List ℕ → Type 0
+OpensFlat b order ws code ws′ = Sets (counted ws 5 (bind (orderIn order) λ d. openBlock b d)) cursorWords ws code ws′
+
+abbrev pub TellsFlat : List ℕ → List ℕ → ℕ → ℕ → ℕ → Type 0
+TellsFlat b ws n code n′ = Tells (bind (cursorIn ws []) λ c. bind (isEmpty c b) λ e. ok (truthWord e)) n code n′
+
+-- the key's bytes beside the cursor that a call leaves: those of its key; a refusal leaves them all
+abbrev pub KeyLeft : {A : Type 0} → Res A → (A → Cursor) → List ℕ → List ℕ → Type 0
+KeyLeft (ok a) left key key′ = take (left a .keyLen) key′ ≡ left a .key
+KeyLeft (refuse n) left key key′ = key′ ≡ key
+
+-- "done" has a code of its own
+abbrev pub seekCode : Res Sought → ℕ
+seekCode (ok s) = cond (s .cursor .mark) doneCode 0
+seekCode (refuse n) = n
+
+pub record SeeksAs (want : Res Sought) (ws key : List ℕ) (n code : ℕ) (ws′ key′ : List ℕ) (n′ : ℕ) : Type 0 where
+  pub answer : code ≡ seekCode want
+  pub state : ws′ ≡ setBy want (λ s. cursorWords (s .cursor)) ws
+  pub key-bytes : KeyLeft want (λ s. s .cursor) key key′
+  pub number : n′ ≡ setBy want (λ s. s .reads) n
+
+abbrev pub SeeksFlat : List ℕ → List ℕ → List ℕ → List ℕ → ℕ → ℕ → List ℕ → List ℕ → ℕ → Type 0
+SeeksFlat b target ws key n code ws′ key′ n′ = SeeksAs (counted key maxKey (bind (cursorIn ws key) λ c. seek (c .direction) b target)) ws key n code ws′ key′ n′

@@ -1,0 +1,187 @@
+/* Blocks of slatedb's format V2: rows written and read, blocks built, checked, walked and sought in.
+ *
+ * The functions are those of the static library slatedb_block. They are proved for all arguments that these declarations
+ * allow: pointers to as many elements as the length beside them says, none of them lent twice in one call. Nothing here
+ * allocates, keeps a pointer or has a state of its own.
+ *
+ * Every function answers a code: 0 for good, the number of a refusal, 255 for "done". A call that answers a number from 1
+ * to 254 has changed no memory that was lent to it.
+ */
+#ifndef SLATEDB_BLOCK_H
+#define SLATEDB_BLOCK_H
+
+#include <stddef.h>
+#include <stdint.h>
+
+#ifdef __cplusplus
+extern "C" {
+#endif
+
+#define SLATEDB_GOOD 0
+#define SLATEDB_EMPTY_KEY 1            /* the key is empty */
+#define SLATEDB_KEY_TOO_LONG 2         /* the key has over 1,024 bytes */
+#define SLATEDB_VALUE_TOO_LONG 3       /* the value, or its length, is over 65,535 */
+#define SLATEDB_ROW_DOES_NOT_FIT 4     /* the row doesn't fit into the block */
+#define SLATEDB_RESTART_TOO_FAR 5      /* a restart would lie past 65,535 */
+#define SLATEDB_BUFFER_TOO_SMALL 6     /* a lent buffer can't hold what is to be written */
+#define SLATEDB_EMPTY_BLOCK 7          /* a block is built with no row */
+#define SLATEDB_BAD_SETTINGS 8         /* the block size or the interval is outside its limits */
+#define SLATEDB_INPUT_ENDS 9           /* the input ends inside a row */
+#define SLATEDB_VARINT_TOO_LARGE 10    /* the fifth byte of a varint is above 15 */
+#define SLATEDB_UNKNOWN_FLAGS 11       /* the flags byte is 16 or more */
+#define SLATEDB_TOMBSTONE_WITH_MERGE 12 /* the flags set tombstone and merge together */
+#define SLATEDB_BAD_SHARE 13           /* the share is longer than the key before, or not 0 at a restart */
+#define SLATEDB_BAD_TRAILER 14         /* under 2 bytes, a count of 0, or a trailer longer than the block */
+#define SLATEDB_BAD_OFFSET 15          /* the first restart is not 0, the offsets don't rise, or one is not below the data's length */
+#define SLATEDB_ROW_PAST_REGION 16     /* a row inside the data runs past the next restart */
+#define SLATEDB_KEY_FALLS 17           /* a key is smaller than the one before */
+#define SLATEDB_BAD_STATE 18           /* the cursor's or the builder's state can't belong to these buffers */
+#define SLATEDB_KEY_BUFFER_TOO_SHORT 19 /* the lent key buffer is shorter than the key */
+#define SLATEDB_BAD_WORDS 254          /* lent words or key bytes are not as many as they must be, or a word has no meaning: tested first */
+#define SLATEDB_DONE 255               /* no row is left */
+
+/* How many words or bytes each lent array has. One of another length is refused with 254, and so is a word that stands for
+ * one of several cases and is none of them. */
+#define SLATEDB_CURSOR_WORDS 5
+#define SLATEDB_BUILDER_WORDS 6
+#define SLATEDB_KEY_BYTES 1024
+#define SLATEDB_FIELDS_WORDS 6
+#define SLATEDB_ROW_WORDS 13
+#define SLATEDB_SUM_WORDS 2
+
+#define SLATEDB_ASCENDING 0
+#define SLATEDB_DESCENDING 1
+
+#define SLATEDB_VALUE 0
+#define SLATEDB_TOMBSTONE 1
+#define SLATEDB_MERGE 2
+
+/* A cursor's words. The first key_len of its SLATEDB_KEY_BYTES key bytes, which the caller keeps beside them, are the key before; those after it tell nothing. */
+typedef struct {
+    uint64_t order;    /* SLATEDB_ASCENDING or SLATEDB_DESCENDING */
+    uint64_t region;   /* the restart region that the cursor stands in */
+    uint64_t at;       /* and its position there */
+    uint64_t key_len;
+    uint64_t done;     /* 1 once no row is left */
+} slatedb_cursor;
+
+/* A builder's words; the first last_key_len of its SLATEDB_KEY_BYTES key bytes are the last key. */
+typedef struct {
+    uint64_t block_size;
+    uint64_t restart_interval;
+    uint64_t used;         /* bytes of the data buffer in use */
+    uint64_t restarts;     /* places of the restart buffer in use */
+    uint64_t counter;      /* rows */
+    uint64_t last_key_len;
+} slatedb_builder;
+
+/* What is offered with a key and a value. A time that is absent has no meaning, whatever its word is. */
+typedef struct {
+    uint64_t kind;         /* SLATEDB_VALUE, SLATEDB_TOMBSTONE (its value is ignored) or SLATEDB_MERGE */
+    uint64_t seq;
+    uint64_t has_expire;   /* 0 or 1 */
+    int64_t expire;
+    uint64_t has_create;   /* 0 or 1 */
+    int64_t create;
+} slatedb_fields;
+
+/* A row that was read: its places in the input, and its fields. */
+typedef struct {
+    uint64_t start;        /* where the row starts */
+    uint64_t next;         /* and where it ends */
+    uint64_t shared;       /* how many bytes of the key before begin its key */
+    uint64_t suffix_at;    /* where the others stand */
+    uint64_t suffix_len;
+    uint64_t kind;
+    uint64_t value_at;     /* 0 for a tombstone, and so is the length */
+    uint64_t value_len;
+    uint64_t seq;
+    uint64_t has_expire;   /* 0 or 1; a time that is absent is 0 */
+    int64_t expire;
+    uint64_t has_create;
+    int64_t create;
+} slatedb_row;
+
+typedef struct {
+    uint64_t rows;
+    uint64_t sum;          /* of each row's seq, key length, value length and last key byte, modulo 2^64 */
+} slatedb_sum;
+
+/* These words are lent as arrays; a struct above is such an array. */
+#define SLATEDB_WORDS(p) ((uint64_t *)(p)), (sizeof *(p) / sizeof(uint64_t))
+
+/* ---- one row */
+
+/* Writes a row after a key of previous_len bytes, of which it shares the first `shared`: 254, 13, 1, 2, 3, 6. *count: its bytes. */
+uint8_t slatedb_encode(uint8_t *output, size_t output_len, size_t previous_len, size_t shared,
+                       const uint8_t *key_suffix, size_t key_suffix_len, const uint8_t *value, size_t value_len,
+                       const uint64_t *fields, size_t fields_len, uint64_t *count);
+
+/* Reads the row that starts the input, after a key of previous_len bytes: 254, 9, 10, 13, 1, 2, 3, 11, 12. */
+uint8_t slatedb_decode(const uint8_t *input, size_t input_len, size_t previous_len, uint64_t *row, size_t row_len);
+
+/* ---- building a block: rows go into `data`, the restarts' offsets into `restarts` */
+
+/* A new builder: 254, 8. Its key bytes need no setting. */
+uint8_t slatedb_builder_new(uint64_t *builder, size_t builder_len, size_t block_size, size_t restart_interval);
+
+/* Whether the row would fit: 254, 18, 1, 2, 3, and 4 for "no". */
+uint8_t slatedb_builder_would_fit(const uint64_t *builder, size_t builder_len, const uint8_t *last_key, size_t last_key_len,
+                                  size_t data_len, size_t restarts_len,
+                                  const uint8_t *key, size_t key_len, const uint8_t *value, size_t value_len,
+                                  const uint64_t *fields, size_t fields_len);
+
+/* Adds a row: 254, 18, 1, 2, 3, 4, 5, 6. */
+uint8_t slatedb_builder_add(uint64_t *builder, size_t builder_len, uint8_t *last_key, size_t last_key_len,
+                            uint8_t *data, size_t data_len, uint16_t *restarts, size_t restarts_len,
+                            const uint8_t *key, size_t key_len, const uint8_t *value, size_t value_len,
+                            const uint64_t *fields, size_t fields_len);
+
+/* The same through the method that takes the builder by value, for comparing. */
+uint8_t slatedb_builder_add_by_value(uint64_t *builder, size_t builder_len, uint8_t *last_key, size_t last_key_len,
+                                     uint8_t *data, size_t data_len, uint16_t *restarts, size_t restarts_len,
+                                     const uint8_t *key, size_t key_len, const uint8_t *value, size_t value_len,
+                                     const uint64_t *fields, size_t fields_len);
+
+/* Whether there is no row: 254. *empty: 0 or 1. */
+uint8_t slatedb_builder_is_empty(const uint64_t *builder, size_t builder_len, uint64_t *empty);
+
+/* Puts the trailer after the rows: 254, 18, 7, 6. The block is the first *count bytes of data. */
+uint8_t slatedb_builder_build(const uint64_t *builder, size_t builder_len, uint8_t *data, size_t data_len,
+                              const uint16_t *restarts, size_t restarts_len, uint64_t *count);
+
+/* ---- reading a block */
+
+/* Checks a whole block: 14, 15, then row by row 9 to 13, 1, 2, 3, 16, 17. *count: its rows. */
+uint8_t slatedb_check(const uint8_t *block, size_t block_len, uint64_t *count);
+
+/* A cursor before the first row, or after the last one: 254, 14, 15. Its key bytes need no setting. */
+uint8_t slatedb_open(const uint8_t *block, size_t block_len, uint64_t order, uint64_t *cursor, size_t cursor_len);
+
+/* One step: 254, 14, 18, then done, 15, 18, the row's, 19. Good gives the row, and its key, of shared + suffix_len
+ * bytes, to the start of `out`. */
+uint8_t slatedb_next(const uint8_t *block, size_t block_len, uint64_t *cursor, size_t cursor_len,
+                     uint8_t *key, size_t key_len, uint8_t *out, size_t out_len, uint64_t *row, size_t row_len);
+
+/* The same through the method that takes the cursor by value, for comparing. */
+uint8_t slatedb_next_by_value(const uint8_t *block, size_t block_len, uint64_t *cursor, size_t cursor_len,
+                              uint8_t *key, size_t key_len, uint8_t *out, size_t out_len, uint64_t *row, size_t row_len);
+
+/* Moves the cursor to the target, in its own order: 254, 14, and what the search and the walk meet. Good: the next step
+ * gives the first row at or above the target, or descending the last at or below it; done: there is none. *reads: how many
+ * restart keys the search read, set for both. */
+uint8_t slatedb_seek(const uint8_t *block, size_t block_len, const uint8_t *target, size_t target_len,
+                     uint64_t *cursor, size_t cursor_len, uint8_t *key, size_t key_len, uint64_t *reads);
+
+/* Whether no row is left: 254, 14. *empty: 0 or 1. */
+uint8_t slatedb_is_empty(const uint8_t *block, size_t block_len, const uint64_t *cursor, size_t cursor_len, uint64_t *empty);
+
+/* Opens the block and steps at most `limit` times: 254, 14, 15, and a step's. Good: `limit` rows were met; done: fewer. */
+uint8_t slatedb_walk_by_value(const uint8_t *block, size_t block_len, uint64_t order, size_t limit, uint64_t *sum, size_t sum_len);
+uint8_t slatedb_walk_in_place(const uint8_t *block, size_t block_len, uint64_t order, size_t limit, uint64_t *sum, size_t sum_len);
+
+#ifdef __cplusplus
+}
+#endif
+
+#endif
