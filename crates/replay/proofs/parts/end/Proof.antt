@@ -1,0 +1,46 @@
+-- The loop ends: less of it is left each time.
+use Prim.Native.Nat.{_-_}
+use borrow.Author.Needs.{needs}
+use Rattle.replay.proofs.parts.end.Statement.{statement}
+use Rattle.replay.proofs.parts.end.Tie as tie
+
+abbrev Inv-loop : tie.InvT-loop
+Inv-loop text mark from to i₀ i = Unit {0}
+
+abbrev μ-loop : tie.MeasureT-loop
+μ-loop text mark from to i₀ i = to - i
+
+loop-holds : tie.Need-loop-holds Inv-loop μ-loop
+loop-holds c = search needs
+
+byte-requires : tie.Need-byte-requires Inv-loop μ-loop
+byte-requires c κs = search needs
+
+returns : tie.Need-returns Inv-loop μ-loop
+returns c = search needs
+
+add-i : tie.Need-add-i Inv-loop μ-loop
+add-i c = search needs
+
+loop-less : tie.Need-loop-less Inv-loop μ-loop
+loop-less c = search needs
+
+loop-again : tie.Need-loop-again Inv-loop μ-loop
+loop-again c = search needs
+
+returns-2 : tie.Need-returns-2 Inv-loop μ-loop
+returns-2 c = search needs
+
+pub end-spec : {M : Type 1} → statement M
+end-spec =
+    tie.close
+    (tie.spec
+    Inv-loop
+    μ-loop
+    loop-holds
+    byte-requires
+    returns
+    add-i
+    loop-less
+    loop-again
+    returns-2)

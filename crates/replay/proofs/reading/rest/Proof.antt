@@ -1,0 +1,54 @@
+-- The loop ends: less of it is left each time.
+use Prim.Native.Nat.{_-_}
+use borrow.Author.Needs.{needs}
+use Rattle.replay.proofs.reading.rest.Statement.{statement}
+use Rattle.replay.proofs.reading.rest.Tie as tie
+
+abbrev Inv-loop : tie.InvT-loop
+Inv-loop block at₀ t5 counter₀ end at counter = Unit {0}
+
+abbrev μ-loop : tie.MeasureT-loop
+μ-loop block at₀ t5 counter₀ end at counter = end - counter
+
+loop-holds : tie.Need-loop-holds Inv-loop μ-loop
+loop-holds c = search needs
+
+step-requires : tie.Need-step-requires Inv-loop μ-loop
+step-requires c κs = search needs
+
+returns : tie.Need-returns Inv-loop μ-loop
+returns c = search needs
+
+slice-aggregate-text : tie.Need-slice-aggregate-text Inv-loop μ-loop
+slice-aggregate-text c = search needs
+
+text-requires : tie.Need-text-requires Inv-loop μ-loop
+text-requires c κs = search needs
+
+add-counter : tie.Need-add-counter Inv-loop μ-loop
+add-counter c = search needs
+
+loop-less : tie.Need-loop-less Inv-loop μ-loop
+loop-less c = search needs
+
+loop-again : tie.Need-loop-again Inv-loop μ-loop
+loop-again c = search needs
+
+returns-2 : tie.Need-returns-2 Inv-loop μ-loop
+returns-2 c = search needs
+
+pub rest-spec : {M : Type 1} → statement M
+rest-spec =
+    tie.close
+    (tie.spec
+    Inv-loop
+    μ-loop
+    loop-holds
+    step-requires
+    returns
+    slice-aggregate-text
+    text-requires
+    add-counter
+    loop-less
+    loop-again
+    returns-2)
