@@ -1,7 +1,7 @@
 -- Each way through opening, a step and `is_empty`, by what was met on it: one law for each exit of the code. And the loop of the step back, which reads a
 -- region from its start to the row that ends at the cursor's position.
 use Prim.Native.Nat.{ℕ, zero, suc, _+_, _-_, _<_, _≤_}
-use mathlib.Core.Path.{_≡_, refl, ap, sym, _∙_}
+use mathlib.Core.Path.{_≡_, refl, ap, sym, _∙_, subst}
 use mathlib.Core.Bool.{Bool, true, false, cond}
 use mathlib.Core.List.{List, [], _∷_, _++_}
 use mathlib.Core.Logic.{_⊎_, ⊎-elim}
@@ -218,11 +218,12 @@ unfolding rowEndingAt
 ended zero d g stop at before k e = absurd (let z : _≡_ {A = ℕ} 0 1 = cc in omega arith)
 ended (suc left) d g stop at before k e =
     bind-then (readRow d at (g .end) (length before) (eqb at (g .start))) _ k e λ r p q.
+    let w = readRow-ends d at (g .end) (length before) (eqb at (g .start)) r p in
+    let long : r .start + 12 ≤ r .next = omega (arith, w .starts, w .least) in
     ⊎-elim
     (λ t. ended left d g stop (r .next) (keyOf d before r) k (t .1))
     (λ t.
     guard-then (ltb stop (r .next)) 18 _ k (t .1) λ u v.
-    let w = readRow-ends d at (g .end) (length before) (eqb at (g .start)) r p in
     let n : r .next ≡ stop = le-antisymm (ltb-false stop (r .next) u) (ltb-false (r .next) stop (t .0)) in
     let is : keyed r (keyOf d before r) ≡ k = ok-inj v in
     rw (← is)
@@ -230,7 +231,7 @@ ended (suc left) d g stop at before k e =
       fits = w .fits;
       whole = keyOf-length d at (g .end) before (eqb at (g .start)) r p;
       ends = n;
-      before = omega (arith, w .starts, w .least);
+      before = subst (λ (m : ℕ). r .start + 12 ≤ m) n long;
       suffix = w .suffix;
     }))
     (cond-ok (ltb (r .next) stop) _ _ k q)
