@@ -53,12 +53,9 @@ pub guard-then : {A C : Type 0} (t : Bool) (n : ℕ) (x : Res A) (a : A) → gua
 guard-then true n x a e k = absurd (let z : _≡_ {A = ℕ} 0 1 = cc in omega arith)
 guard-then false n x a e k = k refl e
 
--- an answer handed on, and one that goes on
+-- an answer handed on
 pub handed : {A B : Type 0} {x : Res A} {n : ℕ} (f : A → Res B) → x ≡ refuse n → refuse n ≡ bind x f
 handed f e = rw e
-
-pub went : {A B : Type 0} {x : Res A} {a : A} (f : A → Res B) → x ≡ ok a → f a ≡ bind x f
-went f e = rw e
 
 -- a test has one value
 pub clash : {b : Bool} → b ≡ true → b ≡ false → ⊥

@@ -196,11 +196,7 @@ same-is a b e =
 pub same-refl : (a : Key) → same a a ≡ true
 same-refl a = rw (le-below a a (at-most-refl a))
 
--- a comparison's three answers
-pub compare-below : (a b : Key) → below a b ≡ true → compare a b ≡ less
-unfolding compare
-compare-below a b e = rw e
-
+-- a comparison's answer `equal` is the test
 pub compare-same : (a b : Key) → compare a b ≡ equal → same a b ≡ true
 unfolding compare
 compare-same a b e = go (below a b) (below b a) e

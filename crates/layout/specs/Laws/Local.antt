@@ -1,20 +1,20 @@
 -- A row that is read depends on no byte at or past its end: the data is p and then s, the row ends inside p, and s may be any other bytes.
-use Prim.Native.Nat.{ℕ, zero, suc, _+_, _-_, _<_, _≤_}
-use mathlib.Core.Path.{_≡_, refl, ap, sym, _∙_}
-use mathlib.Core.Bool.{Bool, true, false, cond}
+use Prim.Native.Nat.{ℕ, zero, suc, _+_, _-_, _≤_}
+use mathlib.Core.Path.{_≡_, ap}
+use mathlib.Core.Bool.{Bool, true, false}
 use mathlib.Core.List.{List, [], _∷_, _++_}
-use mathlib.Core.Logic.{_⊎_, ⊎-elim}
+use mathlib.Core.Logic.{⊎-elim}
 use native.Mathlib.Omega.{arith}
-use lib.Dec.{ltb, eqb}
-use lib.ListN.{length, take, drop, getD, length-append, length-drop, List·getD-append}
+use lib.Dec.{ltb}
+use lib.ListN.{length, drop, length-append, length-drop, List·getD-append}
 use lib.Seq.{take-append-le, drop-append-le}
-use borrow.Author.Tests.{le-ltb, ltb-false}
-use Rattle.layout.specs.Answer.{Res, ok, refuse, bind, guard}
-use Rattle.layout.specs.Limits.{maxKey, maxValue}
+use borrow.Author.Tests.{le-ltb}
+use Rattle.layout.specs.Answer.{ok, bind}
+use Rattle.layout.specs.Limits.{maxValue}
 use Rattle.layout.specs.Varint.{readVarint, readVarintIn, Num, num}
 use Rattle.layout.specs.Place.{NumAt, varintAt, fixedAt, SignedAt, signedAt}
 use Rattle.layout.specs.Row.{keyLengthTests}
-use Rattle.layout.specs.RowRead.{Lengths, valueAt, seqAt, lengthsAt, mayShare, headAt, Flags, flagsAt, Body, bodyAt, TimeAt, timeAt, Times, timesAt, RowRead, rowAt, readRow, KeyRead, readKey}
+use Rattle.layout.specs.RowRead.{Lengths, seqAt, lengthsAt, mayShare, headAt, Flags, Body, bodyAt, TimeAt, timeAt, Times, timesAt, RowRead, rowAt, readRow}
 use Rattle.layout.specs.Laws.Answer.{bind-then, guard-then, ok-inj, cond-ok}
 use Rattle.layout.specs.Laws.Varint.{readVarintIn-len}
 use Rattle.layout.specs.Laws.Place.{varintAt-ends, fixedAt-ends}
@@ -142,14 +142,3 @@ module _ (p s s′ : List ℕ) where
       guard-then (ltb end (g .next)) 16 _ r e₂ λ t e₃.
       let q = ap (λ (x : RowRead). x .next) (ok-inj e₃) in
       rw (rowAt-local at n restart g e₁ (omega arith)) e₂
-
-  pub readKey-local : (at end n : ℕ) (restart : Bool) (r : KeyRead) → readKey (p ++ s) at end n restart ≡ ok r → r .suffixAt + r .suffixLen ≤ length p
-      → readKey (p ++ s′) at end n restart ≡ ok r
-  unfolding readKey
-  readKey-local at end n restart r e h =
-      bind-then (headAt (p ++ s) at n restart) _ r e λ l e₁ e₂.
-      guard-then (ltb (length (p ++ s)) (valueAt l)) 9 _ r e₂ λ t₁ e₃.
-      guard-then (ltb end (valueAt l)) 16 _ r e₃ λ t₂ e₄.
-      let q = ap (λ (x : KeyRead). x .suffixAt) (ok-inj e₄) in
-      let q₂ = ap (λ (x : KeyRead). x .suffixLen) (ok-inj e₄) in
-      rw (headAt-local at n restart l e₁ (omega arith), le-ltb (length (p ++ s′)) (valueAt l) (rw (length-append p s′) (omega arith)), t₂) e₄

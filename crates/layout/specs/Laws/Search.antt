@@ -1,21 +1,15 @@
--- The search over restart keys. More steps than the span's length change nothing; three equations that a recursive function uses; where it closes
--- and how many keys it reads, on any block; and over keys in order, that it closes at the first at or above the target.
-use Prim.Native.Nat.{ℕ, zero, suc, _+_, _-_, _*_, _/_, _^_, _<_, _≤_, zero-le, suc-le-suc}
-use mathlib.Core.Path.{_≡_, refl, ap, sym, _∙_}
+-- The search over restart keys. More steps than the span's length change nothing; three equations that a recursive function uses; and where it closes
+-- and how many keys it reads, on any block.
+use Prim.Native.Nat.{ℕ, zero, suc, _-_, _^_, _<_, _≤_, zero-le}
+use mathlib.Core.Path.{_≡_, refl, ap, _∙_}
 use mathlib.Core.Bool.{Bool, true, false, cond}
-use mathlib.Core.List.{List, [], _∷_, _++_}
-use mathlib.Core.Logic.{_⊎_, ⊎-elim, inl, inr}
+use mathlib.Core.Logic.{⊎-elim}
 use native.Mathlib.Omega.{arith}
 use native.Mathlib.Nat.{pow-succ', sub-eq-zero-of-le}
-use lib.Dec.{ltb}
-use lib.ListN.{length, getD}
 use borrow.Author.Tests.{lt-ltb, le-ltb}
 use Rattle.layout.specs.Answer.{Res, ok, refuse, bind}
-use Rattle.layout.specs.Key.{Key, below, firstAtOrAbove}
 use Rattle.layout.specs.Seek.{Found, foundIs, tick, middle, searchIn, search}
-use Rattle.layout.specs.Laws.Answer.{bind-ok, ok-inj, ltb-cases, clash}
-use Rattle.layout.specs.Laws.Key.{below-trans}
-use Rattle.layout.specs.Laws.First.{Sorted, first-le, first-before, first-here}
+use Rattle.layout.specs.Laws.Answer.{bind-ok, ltb-cases}
 
 pub middle-low : (low high : ℕ) → low < high → low ≤ middle low high
 unfolding middle
@@ -155,27 +149,6 @@ search-answers (suc f) isBelow less low high g =
     inside : (b : Bool) (i : ℕ) → middle low high < high → i < cond b high (middle low high) → i < high
     inside true i w h = h
     inside false i w h = omega arith
-
--- ---- over keys in order
-
-abbrev pub keyBelow : Key → List Key → ℕ → Res Bool
-keyBelow target ks i = ok (below (getD ks i []) target)
-
--- on keys that never fall the search closes at the first at or above the target
-pub search-first : (target : Key) (ks : List Key) (r : Found) → Sorted ks → search (keyBelow target ks) 0 (length ks) ≡ ok r → r .place ≡ firstAtOrAbove target ks
-search-first target ks r s e =
-    let c = search-closed (keyBelow target ks) 0 (length ks) r zero-le e in
-    ⊎-elim
-    (λ w. absurd (clash (first-before target ks (r .place) (w .1)) (ok-inj (c .here (omega (arith, first-le target ks))))))
-    (λ w. ⊎-elim (λ v. absurd (late c (v .1))) (λ v. omega arith) (ltb-cases (firstAtOrAbove target ks) (r .place)))
-    (ltb-cases (r .place) (firstAtOrAbove target ks))
-  where
-    late : Closed (keyBelow target ks) 0 (length ks) r → firstAtOrAbove target ks < r .place → ⊥
-    late c w =
-        let i : ℕ = r .place - 1 in
-        let b = ok-inj (c .before i (omega arith) zero-le) in
-        clash (below-trans (getD ks (firstAtOrAbove target ks) []) (getD ks i []) target (s (firstAtOrAbove target ks) i (omega arith) (omega (arith, c .to))) b)
-        (first-here target ks (omega (arith, c .to)))
 
 -- as many keys are read as the span's length has significant bits, at most
 pub search-reads : (isBelow : ℕ → Res Bool) (n : ℕ) (r : Found) (k : ℕ) → n < 2 ^ k → search isBelow 0 n ≡ ok r → r .reads ≤ k

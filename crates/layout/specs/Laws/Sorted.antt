@@ -29,12 +29,6 @@ module _ (p : Key → Bool) where
   leading-all [] ys a = sym (zero-add (leading p (keysOf ys)))
   leading-all (x ∷ xs) ys a = rw (a .0, leading-all xs ys (a .1)) (sym (suc-add (length xs) (leading p (keysOf ys))))
 
-  -- a row that fails ends the count
-  pub leading-ends : (xs : List Keyed) (k : Keyed) (ys : List Keyed) → AllPass p xs → p (k .key) ≡ false → leading p (keysOf (xs ++ (k ∷ ys))) ≡ length xs
-  unfolding leading
-  leading-ends [] k ys a e = rw e
-  leading-ends (x ∷ xs) k ys a e = rw (a .0) (ap suc (leading-ends xs k ys (a .1) e))
-
   pub leading-most : (ks : List Keyed) → leading p (keysOf ks) ≤ length ks
   unfolding leading
   leading-most [] = zero-le

@@ -82,14 +82,7 @@ write-rest xs a w part h e =
     ∙ splice-lent xs a (length xs - a) 0 w (simp (length-take, length-drop, zero-add) (omega arith))
     ∙ ap (λ (n : ℕ). splice xs n w) (add-zero a)
 
--- ys is xs with w written at a. The next write, at the start of the rest that is lent from n on, is appended to w
-pub write-next : (xs ys : List ℕ) (a n : ℕ) (w w′ part : List ℕ) → ys ≡ splice xs a w → n ≡ a + length w → n + length w′ ≤ length xs
-    → part ≡ splice (midOf n (length ys - n) ys) 0 w′ → putMid n (length ys - n) ys part ≡ splice xs a (w ++ w′)
-write-next xs ys a n w w′ part so at h e =
-    let long : length ys ≡ length xs = ap length so ∙ length-splice xs a w (omega arith) in
-    write-rest ys n w′ part (omega arith) e ∙ (λ k. splice (so k) (at k) w′) ∙ splice-splice xs a w (omega arith) w′
-
--- the same where the next write says of the whole what it did
+-- ys is xs with w written at a. The next write, at n, is appended to w
 pub then-write : (xs ys zs : List ℕ) (a n : ℕ) (w w′ : List ℕ) → ys ≡ splice xs a w → n ≡ a + length w → n + length w′ ≤ length xs
     → zs ≡ splice ys n w′ → zs ≡ splice xs a (w ++ w′)
 then-write xs ys zs a n w w′ so at h e = e ∙ (λ k. splice (so k) (at k) w′) ∙ splice-splice xs a w (omega arith) w′

@@ -91,14 +91,10 @@ module _ {d : List ℕ} {at acc w i : ℕ} (r : Reading d at acc w i) where
   pub reading-light : w ≤ 268435456
   reading-light = rw (r .weight) (pow-le-pow-right {n = 128} (omega arith) {i = i} {j = 4} (r .few))
 
-  -- no sum or product of the loop wraps
-  pub reading-fits : (b : ℕ) → b < 256 → acc + w * b < 2 ^ 40
-  reading-fits b h = omega (arith, mul-le-mul reading-light (le-of-lt h), r .small, reading-light)
-
   pub reading-low : i < 4 → w ≤ 2097152
   reading-low h = rw (r .weight) (pow-le-pow-right {n = 128} (omega arith) {i = i} {j = 3} (omega arith))
 
-  -- neither does any in 32 bits
+  -- no sum or product of the loop wraps 32 bits
   pub reading-fits32 : (b : ℕ) → i < 4 → b < 256 → acc + w * b < 2 ^ 32
   reading-fits32 b k h = omega (arith, mul-le-mul (reading-low k) (le-of-lt h), r .small, reading-low k)
 
