@@ -11,7 +11,7 @@ use Rattle.utils.specs.declared.ShortRead.{ShortRead}
 use Rattle.utils.specs.declared.WordRead.{WordRead}
 use Rattle.utils.specs.declared.SignedRead.{SignedRead}
 use Rattle.utils.specs.declared.Ordering.{Ordering}
-use Rattle.utils.specs.Promise.{VarintLength, Puts, ReadsVarint, ReadsShort, ReadsWord, ReadsSigned, Compares, Shares}
+use Rattle.utils.specs.Promise.{VarintLength, Puts, ToBits, ReadsVarint, ReadsShort, ReadsWord, FromBits, ReadsSigned, Compares, Shares}
 use Rattle.utils.specs.Says.{saysPut-one, saysVarint-one, saysShort-one, saysWord-one, saysSigned-one, saysOrdering-one}
 
 pub varint-len-settled : (v m n : ℕ) → VarintLength v m → VarintLength v n → m ≡ n
@@ -37,6 +37,14 @@ module _ (buf : List ℕ) (at : ℕ) (r q : Put) (ys zs : List ℕ) where
 
   pub copy-in-settled : (src : List ℕ) → Puts src buf at r ys → Puts src buf at q zs → (r ≡ q) × (ys ≡ zs)
   copy-in-settled src = puts-settled src buf at r q ys zs
+
+-- ---- signed numbers
+
+pub to-bits-settled : (z : ℤ) (m n : ℕ) → ToBits z m → ToBits z n → m ≡ n
+to-bits-settled z m n p q = p ∙ sym q
+
+pub from-bits-settled : (b : ℕ) (y z : ℤ) → FromBits b y → FromBits b z → y ≡ z
+from-bits-settled b y z p q = p ∙ sym q
 
 -- ---- readers
 

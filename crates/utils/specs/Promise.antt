@@ -2,7 +2,9 @@
 use Prim.Native.Nat.{ℕ}
 use mathlib.Core.Path.{_≡_}
 use mathlib.Core.List.{List}
+use lib.IntN.{ℤ}
 use lib.ListN.{length}
+use Rattle.layout.specs.Fixed.{bits, unbits}
 use Rattle.layout.specs.Key.{compare, common}
 use Rattle.layout.specs.Place.{varintAt, fixedAt, putAt, afterPut}
 use Rattle.layout.specs.Varint.{varint, varintLength}
@@ -25,6 +27,10 @@ pub record Puts (w buf : List ℕ) (at : ℕ) (r : Put) (buf′ : List ℕ) : Ty
   pub answer : saysPut r ≡ putAt (length buf) at w
   pub bytes : buf′ ≡ afterPut buf at w
 
+-- the 64 bits of a signed number in two's complement
+abbrev pub ToBits : ℤ → ℕ → Type 0
+ToBits z r = r ≡ bits z
+
 abbrev pub ReadsVarint : List ℕ → ℕ → VarintRead → Type 0
 ReadsVarint s at r = saysVarint r ≡ varintAt s at
 
@@ -33,6 +39,10 @@ ReadsShort s at r = saysShort r ≡ fixedAt 2 s at
 
 abbrev pub ReadsWord : List ℕ → ℕ → WordRead → Type 0
 ReadsWord s at r = saysWord r ≡ fixedAt 8 s at
+
+-- the signed number that has these bits
+abbrev pub FromBits : ℕ → ℤ → Type 0
+FromBits n r = r ≡ unbits n
 
 abbrev pub ReadsSigned : List ℕ → ℕ → SignedRead → Type 0
 ReadsSigned s at r = saysSigned r ≡ signedAt s at

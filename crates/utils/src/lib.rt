@@ -6,9 +6,9 @@ ghost use mathlib.Core.List.{[], _∷_};
 ghost use Prim.Native.Nat.{_≤_, _<_, _+_, _-_};
 ghost use lib.ListN.{length};
 ghost use Rattle.layout.specs.Varint.{varint};
-ghost use Rattle.layout.specs.Fixed.{big, bits, unbits};
+ghost use Rattle.layout.specs.Fixed.{big, bits};
 ghost use Rattle.layout.specs.Laws.Place.{fourAt};
-ghost use Rattle.utils.specs.Promise.{VarintLength, Puts, ReadsVarint, ReadsShort, ReadsWord, ReadsSigned, Compares, Shares};
+ghost use Rattle.utils.specs.Promise.{VarintLength, Puts, ToBits, ReadsVarint, ReadsShort, ReadsWord, FromBits, ReadsSigned, Compares, Shares};
 use types::Refusal;
 
 // The place after what was written.
@@ -132,8 +132,8 @@ pub fn put_u64(buf: &mut [u8], at: usize, v: u64) -> Put
 }
 
 // The 64 bits of `z` in two's complement, as an unsigned number. A negative number is not cast: its complement is.
-fn to_bits(z: i64) -> u64
-    ensures { λ r. ⌜ r ≡ bits z ⌝ }
+pub fn to_bits(z: i64) -> u64
+    ensures { λ r. ⌜ ToBits z r ⌝ }
 {
     if z >= 0 {
         z as u64
@@ -285,8 +285,8 @@ pub fn get_u64(s: &[u8], at: usize) -> WordRead
 }
 
 // The signed number whose 64 bits are `n`.
-fn from_bits(n: u64) -> i64
-    ensures { λ r. ⌜ r ≡ unbits n ⌝ }
+pub fn from_bits(n: u64) -> i64
+    ensures { λ r. ⌜ FromBits n r ⌝ }
 {
     if n < 9223372036854775808 {
         n as i64
