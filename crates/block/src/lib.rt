@@ -2,7 +2,7 @@
 // Follows slatedb 0.16.0, src/format/block.rs, and `restart_region_end` of src/block_iterator_v2.rs (Apache License 2.0), and is
 // changed: offsets are read where they stand, each when it is used, and what a block's bytes or a lent buffer can break is a refusal.
 ghost use mathlib.Core.Path.{_≡_};
-ghost use Prim.Native.Nat.{_≤_, _<_, _+_, _*_, _%_, min};
+ghost use Prim.Native.Nat.{_≤_, _<_, _+_, _*_, _%_};
 ghost use lib.ListN.{length};
 ghost use Rattle.layout.specs.Trailer.{shortAt, firstOf, regionOf, allOffsets};
 ghost use Rattle.block.specs.Handed.{belongs};
@@ -184,12 +184,6 @@ pub fn all_offsets(block: &[u8], t: Trailer) -> Tested
     offsets_rise(block, t)
 }
 
-fn least(a: usize, b: usize) -> usize
-    ensures { λ r. ⌜ r ≡ min a b ⌝ }
-{
-    if a < b { a } else { b }
-}
-
 // Two bytes hold the low 16 bits of a count.
 fn low_16(n: usize) -> u16
     ensures { λ r. ⌜ r ≡ n % 65536 ⌝ }
@@ -202,7 +196,7 @@ fn low_16(n: usize) -> u16
 pub fn put_trailer(buf: &mut [u8], at: usize, offsets: &[u16], count: usize) -> Put
     ensures { λ r. ⌜ PutsTrailer (now (offsets .entry)) count (now (buf .entry)) at r (now (buf .exit)) ⌝ }
 {
-    let n = least(count, offsets.len());
+    let n = utils::least(count, offsets.len());
     if buf.len() < at {
         return Put::Refused(Refusal::BufferTooSmall);
     }

@@ -5,7 +5,6 @@
 ghost use mathlib.Core.Path.{_≡_};
 ghost use Prim.Native.Nat.{_<_};
 ghost use Rattle.layout.specs.Answer.{ok};
-ghost use Rattle.layout.specs.Key.{below};
 ghost use Rattle.layout.specs.Trailer.{trailerOf};
 ghost use Rattle.block.specs.Says.{trailerFrom};
 ghost use Rattle.block_check_v2.specs.Says.{refusalOfTrailer, refusalOfRegion, refusalOfRow};
@@ -17,7 +16,6 @@ use block::Trailer;
 use block::TrailerRead;
 use row_codec_v2::RowRead;
 use types::Refusal;
-use utils::Ordering;
 
 // How many rows the block has, or why it is refused.
 pub enum Checked {
@@ -37,17 +35,6 @@ struct Passed {
 enum Walked {
     Over(Passed),
     Refused(Refusal),
-}
-
-fn is_below(a: &[u8], b: &[u8]) -> bool
-    ensures { λ r. ⌜ r ≡ below (now (a .entry)) (now (b .entry)) ⌝ }
-{
-    let order = utils::compare(a, b);
-    match order {
-        Ordering::Less => true,
-        Ordering::Equal => false,
-        Ordering::Greater => false,
-    }
 }
 
 // Walks the rows of one region, whose bounds are read once. `key` carries the key of the row before, also over a restart.
@@ -76,7 +63,7 @@ fn check_region(block: &[u8], t: Trailer, key: &mut [u8], p: Passed) -> Walked
         let to = from + row.suffix_len;
         // 17: the shared bytes tell nothing, so the suffix is compared with what the carried key has after them, before it is
         // put over it.
-        if is_below(&data[from..to], &key[shared..key_len]) {
+        if utils::is_below(&data[from..to], &key[shared..key_len]) {
             return Walked::Refused(Refusal::KeyFalls);
         }
         utils::copy_in(key, shared, &data[from..to]);

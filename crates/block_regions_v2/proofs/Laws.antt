@@ -1,6 +1,6 @@
--- What the proofs of more than one function cite: a comparison that was matched, a copy that had room, and the turn of each loop for the array that a put left.
+-- What the proofs of more than one function cite: a copy that had room, and the turn of each loop for the array that a put left.
 use Prim.Native.Nat.{ℕ, _+_, _-_, _≤_, _<_}
-use mathlib.Core.Path.{_≡_, refl, ap, sym, _∙_, subst}
+use mathlib.Core.Path.{_≡_, refl, sym, subst}
 use mathlib.Core.Bool.{Bool, true, false, cond, not}
 use mathlib.Core.List.{List, _++_}
 use native.Mathlib.Omega.{arith}
@@ -17,17 +17,11 @@ use Rattle.layout.specs.Laws.Cursor.{Backing, backing-straddles, backing-found,
 use Rattle.layout.specs.Laws.Compare.{isLess, compare-less-below}
 use Rattle.layout.specs.Laws.Seek.{Walking, walking-more, Lasting, lasting-more}
 use Rattle.layout.specs.Laws.Tells.{readRow-ends}
-use Rattle.utils.specs.Promise.{Puts, Compares}
-use Rattle.utils.specs.Says.{saysOrdering}
-use Rattle.utils.specs.declared.Ordering.{Ordering}
+use Rattle.utils.specs.Promise.{Puts}
 use Rattle.utils.specs.declared.Put.{Put}
 use Rattle.utils.proofs.Laws.{puts-at, puts-fits}
 use Rattle.block_regions_v2.specs.Regions.{given, endingAt}
 use Rattle.block_regions_v2.specs.Laws.{ending-given}
-
--- the comparison's answer is the case v
-pub compared : (a b : Key) {o v : Ordering} → Compares a b o → o ≡ v → compare a b ≡ saysOrdering v
-compared a b e t = sym e ∙ ap saysOrdering t
 
 -- a copy that had room was made
 pub copied : {w buf ys : List ℕ} {at : ℕ} {p : Put} → at + length w ≤ length buf → Puts w buf at p ys → ys ≡ splice buf at w

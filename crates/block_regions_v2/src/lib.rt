@@ -5,7 +5,7 @@
 ghost use mathlib.Core.Path.{_≡_};
 ghost use mathlib.Core.Bool.{cond};
 ghost use mathlib.Core.List.{_++_};
-ghost use Prim.Native.Nat.{_≤_, _<_, _+_, min};
+ghost use Prim.Native.Nat.{_≤_, _<_, _+_};
 ghost use lib.ListN.{length, take};
 ghost use Rattle.layout.specs.Key.{below};
 ghost use Rattle.layout.specs.Place.{splice};
@@ -53,23 +53,6 @@ fn row_refusal(a: RowRead) -> Refusal
     match a {
         RowRead::Refused(refusal) => refusal,
         RowRead::Read(_) => Refusal::InputEnds,
-    }
-}
-
-fn least(a: usize, b: usize) -> usize
-    ensures { λ r. ⌜ r ≡ min a b ⌝ }
-{
-    if a < b { a } else { b }
-}
-
-fn is_below(a: &[u8], b: &[u8]) -> bool
-    ensures { λ r. ⌜ r ≡ below (now (a .entry)) (now (b .entry)) ⌝ }
-{
-    let order = utils::compare(a, b);
-    match order {
-        Ordering::Less => true,
-        Ordering::Equal => false,
-        Ordering::Greater => false,
     }
 }
 
@@ -126,11 +109,11 @@ fn row_below(key: &[u8], shared: usize, suffix: &[u8], target: &[u8]) -> bool
     requires { ⌜ shared ≤ length (now key) ⌝ }
     ensures { λ r. ⌜ r ≡ below (take shared (now (key .entry)) ++ now (suffix .entry)) (now (target .entry)) ⌝ }
 {
-    let n = least(shared, target.len());
+    let n = utils::least(shared, target.len());
     let order = utils::compare(&key[..shared], &target[..n]);
     match order {
         Ordering::Less => true,
-        Ordering::Equal => is_below(suffix, &target[n..]),
+        Ordering::Equal => utils::is_below(suffix, &target[n..]),
         Ordering::Greater => false,
     }
 }

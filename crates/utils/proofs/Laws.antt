@@ -1,16 +1,18 @@
--- A writer's promise from what it did, for the writers; and what it did from its promise, for those who call them.
+-- A writer's promise from what it did, for the writers; and what it did from its promise, for those who call them. And a comparison that was matched.
 use Prim.Native.Nat.{ℕ, _+_, _≤_, _<_}
-use mathlib.Core.Path.{_≡_, refl, sym, _∙_}
+use mathlib.Core.Path.{_≡_, refl, ap, sym, _∙_}
 use mathlib.Core.List.{List}
 use lib.ListN.{length}
+use Rattle.layout.specs.Key.{Key, compare}
 use Rattle.layout.specs.Laws.Splice.{Wrote, put-short, put-wrote, wrote-put, put-taken}
 use Rattle.types.specs.Number.{number}
 use Rattle.types.specs.declared.Refusal.{Refusal}
 use Rattle.types.specs.declared.Refusal.the-variants.{BufferTooSmall}
+use Rattle.utils.specs.declared.Ordering.{Ordering}
 use Rattle.utils.specs.declared.Put.{Put}
 use Rattle.utils.specs.declared.Put.the-variants.{At, Refused}
-use Rattle.utils.specs.Promise.{Puts}
-use Rattle.utils.specs.Says.{saysPut-one}
+use Rattle.utils.specs.Promise.{Puts, Compares}
+use Rattle.utils.specs.Says.{saysOrdering, saysPut-one}
 
 -- too little room was refused
 pub puts-short : (w buf : List ℕ) (at : ℕ) → length buf < at + length w → Puts w buf at (Refused BufferTooSmall) buf
@@ -44,3 +46,7 @@ module _ {w buf ys : List ℕ} {at : ℕ} where
   puts-fits {r} h p =
       let q = put-wrote buf at w (record { is = refl; next = refl; room = h }) in
       saysPut-one r (At (at + length w)) (p .answer ∙ sym (q .0))
+
+-- the comparison's answer is the case v
+pub compared : (a b : Key) {o v : Ordering} → Compares a b o → o ≡ v → compare a b ≡ saysOrdering v
+compared a b e t = sym e ∙ ap saysOrdering t

@@ -1,6 +1,7 @@
 -- Each promise admits one outcome: two results, with the buffers that they leave, that both keep it are equal.
 use Prim.Native.Nat.{ℕ}
 use mathlib.Core.Path.{_≡_, sym, _∙_}
+use mathlib.Core.Bool.{Bool}
 use mathlib.Core.List.{List}
 use lib.IntN.{ℤ}
 use Rattle.layout.specs.Fixed.{big, bits}
@@ -11,7 +12,7 @@ use Rattle.utils.specs.declared.ShortRead.{ShortRead}
 use Rattle.utils.specs.declared.WordRead.{WordRead}
 use Rattle.utils.specs.declared.SignedRead.{SignedRead}
 use Rattle.utils.specs.declared.Ordering.{Ordering}
-use Rattle.utils.specs.Promise.{VarintLength, Puts, ToBits, ReadsVarint, ReadsShort, ReadsWord, FromBits, ReadsSigned, Compares, Shares}
+use Rattle.utils.specs.Promise.{VarintLength, Puts, ToBits, ReadsVarint, ReadsShort, ReadsWord, FromBits, ReadsSigned, Compares, TellsBelow, Shares, TakesLeast}
 use Rattle.utils.specs.Says.{saysPut-one, saysVarint-one, saysShort-one, saysWord-one, saysSigned-one, saysOrdering-one}
 
 pub varint-len-settled : (v m n : ℕ) → VarintLength v m → VarintLength v n → m ≡ n
@@ -67,5 +68,13 @@ module _ (a b : List ℕ) where
   pub compare-settled : (r q : Ordering) → Compares a b r → Compares a b q → r ≡ q
   compare-settled r q m n = saysOrdering-one r q (m ∙ sym n)
 
+  pub is-below-settled : (r q : Bool) → TellsBelow a b r → TellsBelow a b q → r ≡ q
+  is-below-settled r q m n = m ∙ sym n
+
   pub common-prefix-settled : (r q : ℕ) → Shares a b r → Shares a b q → r ≡ q
   common-prefix-settled r q m n = m ∙ sym n
+
+-- ---- places
+
+pub least-settled : (a b m n : ℕ) → TakesLeast a b m → TakesLeast a b n → m ≡ n
+least-settled a b m n p q = p ∙ sym q

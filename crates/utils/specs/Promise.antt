@@ -1,11 +1,12 @@
 -- What each public function promises: equations to the definitions of `layout`, that settle each number answered and each byte lent.
-use Prim.Native.Nat.{ℕ}
+use Prim.Native.Nat.{ℕ, min}
 use mathlib.Core.Path.{_≡_}
+use mathlib.Core.Bool.{Bool}
 use mathlib.Core.List.{List}
 use lib.IntN.{ℤ}
 use lib.ListN.{length}
 use Rattle.layout.specs.Fixed.{bits, unbits}
-use Rattle.layout.specs.Key.{compare, common}
+use Rattle.layout.specs.Key.{below, compare, common}
 use Rattle.layout.specs.Place.{varintAt, fixedAt, putAt, afterPut}
 use Rattle.layout.specs.Varint.{varint, varintLength}
 use Rattle.utils.specs.declared.Put.{Put}
@@ -50,5 +51,11 @@ ReadsSigned s at r = saysSigned r ≡ signedAt s at
 abbrev pub Compares : List ℕ → List ℕ → Ordering → Type 0
 Compares a b r = saysOrdering r ≡ compare a b
 
+abbrev pub TellsBelow : List ℕ → List ℕ → Bool → Type 0
+TellsBelow a b r = r ≡ below a b
+
 abbrev pub Shares : List ℕ → List ℕ → ℕ → Type 0
 Shares a b r = r ≡ common a b
+
+abbrev pub TakesLeast : ℕ → ℕ → ℕ → Type 0
+TakesLeast a b r = r ≡ min a b

@@ -8,7 +8,7 @@ ghost use lib.ListN.{length};
 ghost use Rattle.layout.specs.Varint.{varint};
 ghost use Rattle.layout.specs.Fixed.{big, bits};
 ghost use Rattle.layout.specs.Laws.Place.{fourAt};
-ghost use Rattle.utils.specs.Promise.{VarintLength, Puts, ToBits, ReadsVarint, ReadsShort, ReadsWord, FromBits, ReadsSigned, Compares, Shares};
+ghost use Rattle.utils.specs.Promise.{VarintLength, Puts, ToBits, ReadsVarint, ReadsShort, ReadsWord, FromBits, ReadsSigned, Compares, TellsBelow, Shares, TakesLeast};
 use types::Refusal;
 
 // The place after what was written.
@@ -333,6 +333,18 @@ pub fn compare(a: &[u8], b: &[u8]) -> Ordering
     }
 }
 
+// Whether `a` is less than `b`.
+pub fn is_below(a: &[u8], b: &[u8]) -> bool
+    ensures { λ r. ⌜ TellsBelow (now (a .entry)) (now (b .entry)) r ⌝ }
+{
+    let order = compare(a, b);
+    match order {
+        Ordering::Less => true,
+        Ordering::Equal => false,
+        Ordering::Greater => false,
+    }
+}
+
 // How many bytes `a` and `b` begin with in common.
 pub fn common_prefix(a: &[u8], b: &[u8]) -> usize
     ensures { λ r. ⌜ Shares (now (a .entry)) (now (b .entry)) r ⌝ }
@@ -348,4 +360,10 @@ pub fn common_prefix(a: &[u8], b: &[u8]) -> usize
         n += 1;
     }
     n
+}
+
+pub fn least(a: usize, b: usize) -> usize
+    ensures { λ r. ⌜ TakesLeast a b r ⌝ }
+{
+    if a < b { a } else { b }
 }

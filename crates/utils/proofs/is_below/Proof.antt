@@ -1,11 +1,11 @@
 -- `is_below` says whether the comparison answers `less`.
 -- Each arm knows the answer that was given.
 use mathlib.Core.Path.{sym, ap, _∙_}
-use Rattle.layout.specs.Laws.Compare.{isLess, compare-less-below}
-use Rattle.block_regions_v2.proofs.Laws.{compared}
 use borrow.Author.Needs.{needs}
-use Rattle.block_regions_v2.proofs.is_below.Statement.{statement}
-use Rattle.block_regions_v2.proofs.is_below.Tie as tie
+use Rattle.layout.specs.Laws.Compare.{isLess, compare-less-below}
+use Rattle.utils.proofs.Laws.{compared}
+use Rattle.utils.proofs.is_below.Statement.{statement}
+use Rattle.utils.proofs.is_below.Tie as tie
 
 compare-requires : tie.Need-compare-requires
 compare-requires c κs = search needs
