@@ -4,20 +4,27 @@ use mathlib.Core.Path.{_≡_, sym, _∙_}
 use mathlib.Core.List.{List}
 use lib.ListN.{take}
 use Rattle.layout.specs.Block.{trailer}
+use Rattle.types.specs.declared.Refusal.{Refusal}
 use Rattle.utils.specs.OneOutcome.{puts-settled}
 use Rattle.utils.specs.declared.Put.{Put}
 use Rattle.block.specs.declared.Trailer.{Trailer}
 use Rattle.block.specs.declared.TrailerRead.{TrailerRead}
 use Rattle.block.specs.declared.RegionRead.{RegionRead}
 use Rattle.block.specs.declared.Tested.{Tested}
-use Rattle.block.specs.Promise.{ReadsTrailer, ReadsRegion, TestsOffsets, PutsTrailer}
+use Rattle.block.specs.Promise.{ReadsTrailer, TrailerRefusal, ReadsRegion, RegionRefusal, TestsOffsets, PutsTrailer}
 use Rattle.block.specs.Says.{saysTrailer-one, saysRegion-one, saysTested-one}
 
 pub trailer-of-settled : (b : List ℕ) (r q : TrailerRead) → ReadsTrailer b r → ReadsTrailer b q → r ≡ q
 trailer-of-settled b r q m n = saysTrailer-one r q (m ∙ sym n)
 
+pub trailer-refusal-settled : (a : TrailerRead) (r q : Refusal) → TrailerRefusal a r → TrailerRefusal a q → r ≡ q
+trailer-refusal-settled a r q m n = m ∙ sym n
+
 pub region-of-settled : (b : List ℕ) (t : Trailer) (i : ℕ) (r q : RegionRead) → ReadsRegion b t i r → ReadsRegion b t i q → r ≡ q
 region-of-settled b t i r q m n = saysRegion-one r q (m ∙ sym n)
+
+pub region-refusal-settled : (a : RegionRead) (r q : Refusal) → RegionRefusal a r → RegionRefusal a q → r ≡ q
+region-refusal-settled a r q m n = m ∙ sym n
 
 pub all-offsets-settled : (b : List ℕ) (t : Trailer) (r q : Tested) → TestsOffsets b t r → TestsOffsets b t q → r ≡ q
 all-offsets-settled b t r q m n = saysTested-one r q (m ∙ sym n)

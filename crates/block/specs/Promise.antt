@@ -5,6 +5,7 @@ use mathlib.Core.List.{List}
 use lib.ListN.{take}
 use Rattle.layout.specs.Block.{trailer}
 use Rattle.layout.specs.Trailer.{trailerOf}
+use Rattle.types.specs.declared.Refusal.{Refusal}
 use Rattle.utils.specs.Promise.{Puts}
 use Rattle.utils.specs.declared.Put.{Put}
 use Rattle.block.specs.declared.Trailer.{Trailer}
@@ -12,13 +13,19 @@ use Rattle.block.specs.declared.TrailerRead.{TrailerRead}
 use Rattle.block.specs.declared.RegionRead.{RegionRead}
 use Rattle.block.specs.declared.Tested.{Tested}
 use Rattle.block.specs.Handed.{regionAt, offsetsAt}
-use Rattle.block.specs.Says.{trailerFrom, saysTrailer, saysRegion, saysTested}
+use Rattle.block.specs.Says.{trailerFrom, saysTrailer, saysRegion, saysTested, refusalOfTrailer, refusalOfRegion}
 
 abbrev pub ReadsTrailer : List ℕ → TrailerRead → Type 0
 ReadsTrailer b a = saysTrailer a ≡ trailerOf b
 
+abbrev pub TrailerRefusal : TrailerRead → Refusal → Type 0
+TrailerRefusal a r = r ≡ refusalOfTrailer a
+
 abbrev pub ReadsRegion : List ℕ → Trailer → ℕ → RegionRead → Type 0
 ReadsRegion b t r a = saysRegion a ≡ regionAt b (trailerFrom t) r
+
+abbrev pub RegionRefusal : RegionRead → Refusal → Type 0
+RegionRefusal a r = r ≡ refusalOfRegion a
 
 abbrev pub TestsOffsets : List ℕ → Trailer → Tested → Type 0
 TestsOffsets b t a = saysTested a ≡ offsetsAt b (trailerFrom t)

@@ -5,6 +5,8 @@ use Rattle.layout.specs.Trailer.{Trailer as TrailerL, trailerIs, Region as Regi
 use Rattle.layout.specs.Laws.Answer.{ok-inj}
 use Rattle.types.specs.Answers.{apart, refused-one}
 use Rattle.types.specs.Number.{number}
+use Rattle.types.specs.declared.Refusal.{Refusal}
+use Rattle.types.specs.declared.Refusal.the-variants.{BadTrailer}
 use Rattle.block.specs.declared.Trailer.{Trailer}
 use Rattle.block.specs.declared.TrailerRead.{TrailerRead}
 use Rattle.block.specs.declared.TrailerRead.the-variants.{Good as GoodTrailer, Refused as TrailerRefused}
@@ -31,6 +33,16 @@ saysRegion (RegionRefused r) = refuse (number r)
 abbrev pub saysTested : Tested → Res (Unit {0})
 saysTested GoodOffsets = ok tt
 saysTested (OffsetsRefused r) = refuse (number r)
+
+-- ---- the refusal that is taken out of an answer; the other case is never asked
+
+abbrev pub refusalOfTrailer : TrailerRead → Refusal
+refusalOfTrailer (GoodTrailer t) = BadTrailer
+refusalOfTrailer (TrailerRefused r) = r
+
+abbrev pub refusalOfRegion : RegionRead → Refusal
+refusalOfRegion (GoodRegion g) = BadTrailer
+refusalOfRegion (RegionRefused r) = r
 
 -- ---- one to one
 

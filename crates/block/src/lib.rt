@@ -7,7 +7,7 @@ ghost use lib.ListN.{length};
 ghost use Rattle.layout.specs.Trailer.{shortAt, firstOf, regionOf, allOffsets};
 ghost use Rattle.block.specs.Handed.{belongs};
 ghost use Rattle.block.specs.Says.{trailerFrom, saysRegion, saysTested};
-ghost use Rattle.block.specs.Promise.{ReadsTrailer, ReadsRegion, TestsOffsets, PutsTrailer};
+ghost use Rattle.block.specs.Promise.{ReadsTrailer, TrailerRefusal, ReadsRegion, RegionRefusal, TestsOffsets, PutsTrailer};
 use types::Refusal;
 use utils::Put;
 use utils::ShortRead;
@@ -216,4 +216,24 @@ pub fn put_trailer(buf: &mut [u8], at: usize, offsets: &[u16], count: usize) -> 
         i += 1;
     }
     utils::put_u16(buf, next, low_16(n))
+}
+
+// A read that is refused ends its caller's call with its refusal, which a `let .. else` can't bind: these take it out of the
+// answer. Their other case is not met there.
+pub fn trailer_refusal(a: TrailerRead) -> Refusal
+    ensures { λ r. ⌜ TrailerRefusal a r ⌝ }
+{
+    match a {
+        TrailerRead::Refused(refusal) => refusal,
+        TrailerRead::Good(_) => Refusal::BadTrailer,
+    }
+}
+
+pub fn region_refusal(a: RegionRead) -> Refusal
+    ensures { λ r. ⌜ RegionRefusal a r ⌝ }
+{
+    match a {
+        RegionRead::Refused(refusal) => refusal,
+        RegionRead::Good(_) => Refusal::BadTrailer,
+    }
 }

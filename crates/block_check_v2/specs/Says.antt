@@ -6,11 +6,7 @@ use Rattle.layout.specs.Laws.Answer.{ok-inj}
 use Rattle.types.specs.Answers.{apart, refused-one}
 use Rattle.types.specs.Number.{number}
 use Rattle.types.specs.declared.Refusal.{Refusal}
-use Rattle.types.specs.declared.Refusal.the-variants.{BadTrailer, InputEnds}
-use Rattle.block.specs.declared.RegionRead.{RegionRead}
-use Rattle.block.specs.declared.RegionRead.the-variants.{Good as GoodRegion, Refused as RegionRefused}
-use Rattle.block.specs.declared.TrailerRead.{TrailerRead}
-use Rattle.block.specs.declared.TrailerRead.the-variants.{Good as GoodTrailer, Refused as TrailerRefused}
+use Rattle.types.specs.declared.Refusal.the-variants.{InputEnds}
 use Rattle.row_codec_v2.specs.declared.RowRead.{RowRead}
 use Rattle.row_codec_v2.specs.declared.RowRead.the-variants.{Read as ReadRow, Refused as RowRefused}
 use Rattle.block_check_v2.specs.declared.Checked.{Checked}
@@ -21,14 +17,6 @@ saysChecked (Rows n) = ok n
 saysChecked (CheckRefused r) = refuse (number r)
 
 -- ---- the refusal that is taken out of an answer; the other case is never asked
-
-abbrev pub refusalOfTrailer : TrailerRead → Refusal
-refusalOfTrailer (GoodTrailer t) = BadTrailer
-refusalOfTrailer (TrailerRefused r) = r
-
-abbrev pub refusalOfRegion : RegionRead → Refusal
-refusalOfRegion (GoodRegion g) = BadTrailer
-refusalOfRegion (RegionRefused r) = r
 
 abbrev pub refusalOfRow : RowRead → Refusal
 refusalOfRow (ReadRow r) = InputEnds

@@ -7,7 +7,7 @@ ghost use Prim.Native.Nat.{_<_};
 ghost use Rattle.layout.specs.Answer.{ok};
 ghost use Rattle.layout.specs.Trailer.{trailerOf};
 ghost use Rattle.block.specs.Says.{trailerFrom};
-ghost use Rattle.block_check_v2.specs.Says.{refusalOfTrailer, refusalOfRegion, refusalOfRow};
+ghost use Rattle.block_check_v2.specs.Says.{refusalOfRow};
 ghost use Rattle.block_check_v2.specs.Walk.{Stands, Leaves};
 ghost use Rattle.block_check_v2.specs.Promise.{Checks};
 use block::RegionRead;
@@ -46,7 +46,7 @@ fn check_region(block: &[u8], t: Trailer, key: &mut [u8], p: Passed) -> Walked
 {
     let bounds = block::region_of(block, t, p.region);
     let RegionRead::Good(g) = bounds else {
-        return Walked::Refused(region_refusal(bounds));
+        return Walked::Refused(block::region_refusal(bounds));
     };
     let size = t.size;
     let data = &block[..size];
@@ -85,7 +85,7 @@ pub fn check(block: &[u8]) -> Checked
 {
     let trailer = block::trailer_of(block);
     let TrailerRead::Good(t) = trailer else {
-        return Checked::Refused(trailer_refusal(trailer));
+        return Checked::Refused(block::trailer_refusal(trailer));
     };
     let tested = block::all_offsets(block, t);
     if let Tested::Refused(refusal) = tested {
@@ -115,24 +115,6 @@ pub fn check(block: &[u8]) -> Checked
 
 // A read that is refused ends the call with its refusal, which a `let .. else` can't bind: these take it out of the answer.
 // Their other case is not met there.
-fn trailer_refusal(a: TrailerRead) -> Refusal
-    ensures { λ r. ⌜ r ≡ refusalOfTrailer a ⌝ }
-{
-    match a {
-        TrailerRead::Refused(refusal) => refusal,
-        TrailerRead::Good(_) => Refusal::BadTrailer,
-    }
-}
-
-fn region_refusal(a: RegionRead) -> Refusal
-    ensures { λ r. ⌜ r ≡ refusalOfRegion a ⌝ }
-{
-    match a {
-        RegionRead::Refused(refusal) => refusal,
-        RegionRead::Good(_) => Refusal::BadTrailer,
-    }
-}
-
 fn row_refusal(a: RowRead) -> Refusal
     ensures { λ r. ⌜ r ≡ refusalOfRow a ⌝ }
 {

@@ -12,18 +12,12 @@ use Rattle.types.specs.declared.Refusal.{Refusal}
 use Rattle.types.specs.declared.Refusal.the-variants.{BadTrailer}
 use Rattle.row_codec_v2.specs.declared.KeyRead.{KeyRead}
 use Rattle.row_codec_v2.specs.declared.KeyRead.the-variants.{Read as ReadKey, Refused as KeyRefused}
-use Rattle.block.specs.declared.RegionRead.{RegionRead}
-use Rattle.block.specs.declared.RegionRead.the-variants.{Good as GoodRegion, Refused as RegionRefused}
 use Rattle.block_restarts_v2.specs.declared.Start.{Start}
 use Rattle.block_restarts_v2.specs.declared.Search.{Search}
 use Rattle.block_restarts_v2.specs.declared.Search.the-variants.{Found, Refused as SearchRefused}
 use Rattle.block_restarts_v2.specs.declared.Compared.{Compared}
 use Rattle.block_restarts_v2.specs.declared.Compared.the-variants.{Is, Refused as ComparedRefused}
 use Rattle.block_restarts_v2.specs.Handed.{startIs}
-
-abbrev pub refusalOfRegion : RegionRead → Refusal
-refusalOfRegion (GoodRegion g) = BadTrailer
-refusalOfRegion (RegionRefused r) = r
 
 abbrev pub refusalOfKey : KeyRead → Refusal
 refusalOfKey (ReadKey k) = BadTrailer

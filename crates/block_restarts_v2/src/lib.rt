@@ -9,7 +9,7 @@ ghost use Rattle.layout.specs.Laws.Seek.{searchFrom};
 ghost use Rattle.utils.specs.Says.{saysOrdering};
 ghost use Rattle.block.specs.Says.{trailerFrom};
 ghost use Rattle.block_restarts_v2.specs.Handed.{searchAt};
-ghost use Rattle.block_restarts_v2.specs.Reading.{refusalOfRegion, refusalOfKey, saysCompared, refusalOfCompared, saysSearch, refusalOfSearch, restartCompared, runFrom};
+ghost use Rattle.block_restarts_v2.specs.Reading.{refusalOfKey, saysCompared, refusalOfCompared, saysSearch, refusalOfSearch, restartCompared, runFrom};
 ghost use Rattle.block_restarts_v2.specs.Says.{saysStart};
 ghost use Rattle.block_restarts_v2.specs.Promise.{StartsUp, StartsDown};
 use block::RegionRead;
@@ -38,15 +38,6 @@ enum Search {
 enum Compared {
     Is(Ordering),
     Refused(Refusal),
-}
-
-fn region_refusal(a: RegionRead) -> Refusal
-    ensures { λ r. ⌜ r ≡ refusalOfRegion a ⌝ }
-{
-    match a {
-        RegionRead::Refused(refusal) => refusal,
-        RegionRead::Good(_) => Refusal::BadTrailer,
-    }
 }
 
 fn key_refusal(a: KeyRead) -> Refusal
@@ -109,7 +100,7 @@ fn compare_first_key_at_restart(
 {
     let g = block::region_of(block, t, restart_idx);
     let RegionRead::Good(region) = g else {
-        return Compared::Refused(region_refusal(g));
+        return Compared::Refused(block::region_refusal(g));
     };
     let size = t.size;
     let rows = &block[..size];

@@ -9,8 +9,7 @@ use Rattle.layout.specs.Trailer.{trailerOf, allOffsets}
 use Rattle.layout.specs.Laws.Check.{check-trailer, check-offsets, check-rows}
 use Rattle.types.specs.Answers.{yes, no}
 use Rattle.block.specs.Laws.{offsets-used}
-use Rattle.block.specs.Says.{trailerFrom, saysTrailer, saysTested}
-use Rattle.block_check_v2.specs.Says.{refusalOfTrailer}
+use Rattle.block.specs.Says.{trailerFrom, saysTrailer, saysTested, refusalOfTrailer}
 use Rattle.block_check_v2.specs.Laws.{leaves-as, stands-first, stands-over}
 use Rattle.block_check_v2.specs.Walk.{Stands}
 use Rattle.block_check_v2.proofs.check.Statement.{statement}

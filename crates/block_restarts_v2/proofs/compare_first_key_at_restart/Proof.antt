@@ -10,9 +10,9 @@ use Rattle.layout.specs.Trailer.{dataOf, regionOf}
 use Rattle.layout.specs.Laws.Restart.{readKey-ends}
 use Rattle.types.specs.Answers.{yes, no}
 use Rattle.row_codec_v2.specs.Says.{keyFrom, saysKey}
-use Rattle.block.specs.Says.{trailerFrom, regionFrom, saysRegion}
+use Rattle.block.specs.Says.{trailerFrom, regionFrom, saysRegion, refusalOfRegion}
 use Rattle.block_restarts_v2.specs.Laws.{region-in, key-lies, compared-region, compared-no, compared-is}
-use Rattle.block_restarts_v2.specs.Reading.{refusalOfRegion, refusalOfKey}
+use Rattle.block_restarts_v2.specs.Reading.{refusalOfKey}
 use borrow.Author.Needs.{needs}
 use Rattle.block_restarts_v2.proofs.compare_first_key_at_restart.Statement.{statement}
 use Rattle.block_restarts_v2.proofs.compare_first_key_at_restart.Tie as tie

@@ -2,9 +2,9 @@
 -- In the arm that binds it the answer is known to be that refusal, and the definition computes at it.
 use mathlib.Core.Path.{sym, ap}
 use borrow.Author.Needs.{needs}
-use Rattle.block_check_v2.specs.Says.{refusalOfRegion}
-use Rattle.block_check_v2.proofs.region_refusal.Statement.{statement}
-use Rattle.block_check_v2.proofs.region_refusal.Tie as tie
+use Rattle.block.specs.Says.{refusalOfRegion}
+use Rattle.block.proofs.region_refusal.Statement.{statement}
+use Rattle.block.proofs.region_refusal.Tie as tie
 
 enum-known-a : tie.Need-enum-known-a
 enum-known-a c = search needs
