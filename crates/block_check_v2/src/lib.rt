@@ -7,7 +7,6 @@ ghost use Prim.Native.Nat.{_<_};
 ghost use Rattle.layout.specs.Answer.{ok};
 ghost use Rattle.layout.specs.Trailer.{trailerOf};
 ghost use Rattle.block.specs.Says.{trailerFrom};
-ghost use Rattle.block_check_v2.specs.Says.{refusalOfRow};
 ghost use Rattle.block_check_v2.specs.Walk.{Stands, Leaves};
 ghost use Rattle.block_check_v2.specs.Promise.{Checks};
 use block::RegionRead;
@@ -56,7 +55,7 @@ fn check_region(block: &[u8], t: Trailer, key: &mut [u8], p: Passed) -> Walked
     while at < g.end {
         let read = row_codec_v2::decode_at(data, at, g.end, key_len, at == g.start);
         let RowRead::Read(row) = read else {
-            return Walked::Refused(row_refusal(read));
+            return Walked::Refused(row_codec_v2::row_refusal(read));
         };
         let shared = row.shared;
         let from = row.suffix_at;
@@ -111,15 +110,4 @@ pub fn check(block: &[u8]) -> Checked
         }
     }
     Checked::Rows(p.rows)
-}
-
-// A read that is refused ends the call with its refusal, which a `let .. else` can't bind: these take it out of the answer.
-// Their other case is not met there.
-fn row_refusal(a: RowRead) -> Refusal
-    ensures { λ r. ⌜ r ≡ refusalOfRow a ⌝ }
-{
-    match a {
-        RowRead::Refused(refusal) => refusal,
-        RowRead::Read(_) => Refusal::InputEnds,
-    }
 }

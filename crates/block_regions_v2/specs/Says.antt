@@ -10,11 +10,10 @@ use Rattle.layout.specs.Laws.Answer.{ok-inj}
 use Rattle.types.specs.Answers.{apart, refused-one}
 use Rattle.types.specs.Number.{number}
 use Rattle.types.specs.declared.Refusal.{Refusal}
-use Rattle.types.specs.declared.Refusal.the-variants.{InputEnds}
 use Rattle.row_codec_v2.specs.Says.{rowFrom, saysRow-one}
 use Rattle.row_codec_v2.specs.declared.Row.{Row}
 use Rattle.row_codec_v2.specs.declared.RowRead.{RowRead}
-use Rattle.row_codec_v2.specs.declared.RowRead.the-variants.{Read as ReadRow, Refused as RowRefused}
+use Rattle.row_codec_v2.specs.declared.RowRead.the-variants.{Read as ReadRow}
 use Rattle.block_regions_v2.specs.declared.Ended.{Ended}
 use Rattle.block_regions_v2.specs.declared.Ended.the-variants.{Row as EndedRow, Refused as EndedRefused}
 use Rattle.block_regions_v2.specs.declared.WalkAnswer.{WalkAnswer}
@@ -45,11 +44,6 @@ noWalk r = record { at = 0; key = replicate maxKey 0; «key_len» = 0; answer = 
 abbrev pub saysLast : LastRead → Res ℕ
 saysLast (Ends n) = ok n
 saysLast (LastRefused r) = refuse (number r)
-
--- the refusal that is taken out of a row's answer; the other case is never asked
-abbrev pub refusalOfRow : RowRead → Refusal
-refusalOfRow (ReadRow r) = InputEnds
-refusalOfRow (RowRefused r) = r
 
 -- ---- one to one
 

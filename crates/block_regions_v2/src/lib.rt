@@ -14,7 +14,7 @@ ghost use Rattle.layout.specs.Laws.Compare.{isLess};
 ghost use Rattle.utils.specs.Says.{saysOrdering};
 ghost use Rattle.row_codec_v2.specs.Says.{rowFrom};
 ghost use Rattle.block_regions_v2.specs.Regions.{given};
-ghost use Rattle.block_regions_v2.specs.Says.{refusalOfRow, noWalk};
+ghost use Rattle.block_regions_v2.specs.Says.{noWalk};
 ghost use Rattle.block_regions_v2.specs.Promise.{Gives, EndsAt, Walks, EndsLast};
 use block::Region;
 use row_codec_v2::Row;
@@ -44,16 +44,6 @@ pub struct Walked {
 pub enum LastRead {
     Ends(usize),
     Refused(Refusal),
-}
-
-// The refusal of an answer that is one.
-fn row_refusal(a: RowRead) -> Refusal
-    ensures { λ r. ⌜ r ≡ refusalOfRow a ⌝ }
-{
-    match a {
-        RowRead::Refused(refusal) => refusal,
-        RowRead::Read(_) => Refusal::InputEnds,
-    }
 }
 
 // Puts the row's suffix over the key of the row before: the array then carries the row's key, of as many bytes as is answered.
@@ -94,7 +84,7 @@ pub fn row_ending_at(data: &[u8], region: Region, stop: usize, out: &mut [u8]) -
     loop {
         let a = row_codec_v2::decode_at(data, at, region.end, len, at == region.start);
         let RowRead::Read(row) = a else {
-            return Ended::Refused(row_refusal(a));
+            return Ended::Refused(row_codec_v2::row_refusal(a));
         };
         len = put_suffix(&mut key, data, row);
         if stop <= row.next {
@@ -142,7 +132,7 @@ pub fn walk_region(data: &[u8], region: Region, target: &[u8]) -> Walked
     while at < region.end {
         let a = row_codec_v2::decode_at(data, at, region.end, len, at == region.start);
         let RowRead::Read(row) = a else {
-            return no_walk(row_refusal(a));
+            return no_walk(row_codec_v2::row_refusal(a));
         };
         let from = row.suffix_at;
         let suffix_end = from + row.suffix_len;
@@ -191,7 +181,7 @@ pub fn last_at_or_below(data: &[u8], region: Region, target: &[u8]) -> LastRead
     while at < region.end {
         let a = row_codec_v2::decode_at(data, at, region.end, len, at == region.start);
         let RowRead::Read(row) = a else {
-            return LastRead::Refused(row_refusal(a));
+            return LastRead::Refused(row_codec_v2::row_refusal(a));
         };
         len = put_suffix(&mut key, data, row);
         at = row.next;

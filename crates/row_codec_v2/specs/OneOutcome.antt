@@ -3,12 +3,13 @@ use Prim.Native.Nat.{ℕ}
 use mathlib.Core.Path.{_≡_, sym, _∙_}
 use mathlib.Core.List.{List}
 use Rattle.types.specs.declared.Kind.{Kind}
+use Rattle.types.specs.declared.Refusal.{Refusal}
 use Rattle.types.specs.declared.Time.{Time}
 use Rattle.row_codec_v2.specs.declared.RowFields.{RowFields}
 use Rattle.row_codec_v2.specs.declared.Sized.{Sized}
 use Rattle.row_codec_v2.specs.declared.Encoded.{Encoded}
 use Rattle.row_codec_v2.specs.declared.Restored.{Restored}
-use Rattle.row_codec_v2.specs.Promise.{Flagged, Sizes, Encodes, Restores, Decodes, DecodesAt, DecodesKey}
+use Rattle.row_codec_v2.specs.Promise.{Flagged, Sizes, SizeRefusal, Encodes, Restores, Decodes, DecodesAt, RowRefusal, DecodesKey}
 use Rattle.row_codec_v2.specs.Says.{saysSized-one, saysEncoded-one, saysRestored-one, saysRow-one, saysKey-one}
 use mathlib.Core.Bool.{Bool}
 use Rattle.row_codec_v2.specs.declared.RowRead.{RowRead}
@@ -21,6 +22,9 @@ pub encoded-size-settled : (shared suffixLen : ℕ) (kind : Kind) (valueLen : �
     → Sizes shared suffixLen kind valueLen expire create r → Sizes shared suffixLen kind valueLen expire create q → r ≡ q
 encoded-size-settled shared suffixLen kind valueLen expire create r q a b = saysSized-one r q (a ∙ sym b)
 
+pub size-refusal-settled : (a : Sized) (r q : Refusal) → SizeRefusal a r → SizeRefusal a q → r ≡ q
+size-refusal-settled a r q m n = m ∙ sym n
+
 pub encode-settled : (prevLen shared : ℕ) (suffix value : List ℕ) (row : RowFields) (out : List ℕ) (r q : Encoded) (ys zs : List ℕ)
     → Encodes prevLen shared suffix value row out r ys → Encodes prevLen shared suffix value row out q zs → (r ≡ q) × (ys ≡ zs)
 encode-settled prevLen shared suffix value row out r q ys zs a b = (saysEncoded-one r q (a .answer ∙ sym (b .answer)), a .bytes ∙ sym (b .bytes))
@@ -31,6 +35,9 @@ restore-full-key-settled prev shared suffix out r q ys zs a b = (saysRestored-on
 
 pub decode-settled : (s : List ℕ) (prevLen : ℕ) (r q : RowRead) → Decodes s prevLen r → Decodes s prevLen q → r ≡ q
 decode-settled s prevLen r q a b = saysRow-one r q (a ∙ sym b)
+
+pub row-refusal-settled : (a : RowRead) (r q : Refusal) → RowRefusal a r → RowRefusal a q → r ≡ q
+row-refusal-settled a r q m n = m ∙ sym n
 
 module _ (s : List ℕ) (at end prevLen : ℕ) (restart : Bool) where
   pub decode-at-settled : (r q : RowRead) → DecodesAt s at end prevLen restart r → DecodesAt s at end prevLen restart q → r ≡ q

@@ -9,7 +9,7 @@ use Rattle.types.specs.Answers.{apart, refused-one}
 use Rattle.types.specs.Number.{number}
 use Rattle.types.specs.Says.{saysKind, saysTime, saysHeld, saysHeld-one, saysTime-one}
 use Rattle.types.specs.declared.Refusal.{Refusal}
-use Rattle.types.specs.declared.Refusal.the-variants.{EmptyKey}
+use Rattle.types.specs.declared.Refusal.the-variants.{EmptyKey, InputEnds}
 use Rattle.utils.specs.declared.Put.{Put}
 use Rattle.utils.specs.declared.Put.the-variants.{At as PutAt, Refused as PutRefused}
 use Rattle.row_codec_v2.specs.declared.RowFields.{RowFields}
@@ -50,6 +50,10 @@ saysRestored (RestoredRefused r) = refuse (number r)
 abbrev pub sizedRefusal : Sized → Refusal
 sizedRefusal (SizedBytes n) = EmptyKey
 sizedRefusal (SizedRefused r) = r
+
+abbrev pub refusalOfRow : RowRead → Refusal
+refusalOfRow (ReadRow r) = InputEnds
+refusalOfRow (RowRefused r) = r
 
 abbrev pub placeAfter : Put → ℕ
 placeAfter (PutAt n) = n

@@ -9,9 +9,9 @@ ghost use Rattle.layout.specs.Row.{keptLength, kindBits, ifSo, present, timeByt
 ghost use Rattle.layout.specs.Varint.{varintLength};
 ghost use Rattle.layout.specs.Laws.Splice.{Wrote};
 ghost use Rattle.types.specs.Says.{saysKind, saysTime, saysHeld};
-ghost use Rattle.row_codec_v2.specs.Says.{fieldsFrom, saysSized, sizedRefusal, placeAfter, rowFrom};
+ghost use Rattle.row_codec_v2.specs.Says.{fieldsFrom, saysSized, placeAfter, rowFrom};
 ghost use Rattle.row_codec_v2.specs.Parts.{lengthBytes, bodyBytes, markBytes, keyLength};
-ghost use Rattle.row_codec_v2.specs.Promise.{Flagged, Sizes, Encodes, Restores, Decodes, DecodesAt, DecodesKey};
+ghost use Rattle.row_codec_v2.specs.Promise.{Flagged, Sizes, SizeRefusal, Encodes, Restores, Decodes, DecodesAt, DecodesKey, RowRefusal};
 ghost use Rattle.layout.specs.Limits.{maxKey};
 ghost use Rattle.layout.specs.RowRead.{lengthsAt, mayShare, headAt, flagsAt, bodyAt, timeAt, timesAt, rowIs};
 ghost use Rattle.row_codec_v2.specs.Reading.{saysLengths, lengthsFrom, saysHead, flagsFrom, saysFlags, flagsGood, heldFrom, bodyFrom, saysBody, saysTimeAt, timesFrom, saysTimes, refusalOfVarint, refusalOfWord, refusalOfSigned, refusalOfLengths, refusalOfHead, refusalOfFlags, refusalOfBody, refusalOfTime, refusalOfTimes};
@@ -78,8 +78,8 @@ pub enum Sized {
 }
 
 // The refusal of an answer that is one.
-fn size_refusal(size: Sized) -> Refusal
-    ensures { λ r. ⌜ r ≡ sizedRefusal size ⌝ }
+pub fn size_refusal(size: Sized) -> Refusal
+    ensures { λ r. ⌜ SizeRefusal size r ⌝ }
 {
     match size {
         Sized::Refused(refusal) => refusal,
@@ -680,6 +680,15 @@ fn row_of(at: usize, head: Head, body: Body, times: Times) -> Row
 
 // A read that is refused ends the call with its refusal, which a `let .. else` can't bind: these take it out of the answer.
 // Their other case is not met there.
+pub fn row_refusal(a: RowRead) -> Refusal
+    ensures { λ r. ⌜ RowRefusal a r ⌝ }
+{
+    match a {
+        RowRead::Refused(refusal) => refusal,
+        RowRead::Read(_) => Refusal::InputEnds,
+    }
+}
+
 fn varint_refusal(a: VarintRead) -> Refusal
     ensures { λ r. ⌜ r ≡ refusalOfVarint a ⌝ }
 {

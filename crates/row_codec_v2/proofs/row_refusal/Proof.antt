@@ -1,10 +1,10 @@
 -- `row_refusal` takes the refusal out of an answer.
 -- In the arm that binds it the answer is known to be that refusal, and the definition computes at it.
 use mathlib.Core.Path.{sym, ap}
-use Rattle.block_regions_v2.specs.Says.{refusalOfRow}
 use borrow.Author.Needs.{needs}
-use Rattle.block_regions_v2.proofs.row_refusal.Statement.{statement}
-use Rattle.block_regions_v2.proofs.row_refusal.Tie as tie
+use Rattle.row_codec_v2.specs.Says.{refusalOfRow}
+use Rattle.row_codec_v2.proofs.row_refusal.Statement.{statement}
+use Rattle.row_codec_v2.proofs.row_refusal.Tie as tie
 
 enum-known-a : tie.Need-enum-known-a
 enum-known-a c = search needs
