@@ -1,12 +1,11 @@
--- What the proofs of more than one function cite: a copy that had room, and the turn of each loop for the array that a put left.
+-- What the proofs of more than one function cite: a row's test, and the turn of each loop for the array that a put left. Of a copy the laws of `utils` are handed on.
 use Prim.Native.Nat.{ℕ, _+_, _-_, _≤_, _<_}
-use mathlib.Core.Path.{_≡_, refl, sym, subst}
+use mathlib.Core.Path.{_≡_, refl, sym}
 use mathlib.Core.Bool.{Bool, true, false, cond, not}
 use mathlib.Core.List.{List, _++_}
 use native.Mathlib.Omega.{arith}
 use lib.Dec.{eqb}
-use lib.ListN.{length, take, drop, length-drop}
-use lib.Seq.{length-take-le}
+use lib.ListN.{length, take, drop}
 use Rattle.layout.specs.Answer.{ok}
 use Rattle.layout.specs.Key.{Key, below, compare}
 use Rattle.layout.specs.Place.{splice}
@@ -17,23 +16,9 @@ use Rattle.layout.specs.Laws.Cursor.{Backing, backing-straddles, backing-found,
 use Rattle.layout.specs.Laws.Compare.{isLess, compare-less-below}
 use Rattle.layout.specs.Laws.Seek.{Walking, walking-more, Lasting, lasting-more}
 use Rattle.layout.specs.Laws.Tells.{readRow-ends}
-use Rattle.utils.specs.Promise.{Puts}
-use Rattle.utils.specs.declared.Put.{Put}
-use Rattle.utils.proofs.Laws.{puts-at, puts-fits}
+pub use Rattle.utils.proofs.Laws.{copied, copied-part}
 use Rattle.block_regions_v2.specs.Regions.{given, endingAt}
 use Rattle.block_regions_v2.specs.Laws.{ending-given}
-
--- a copy that had room was made
-pub copied : {w buf ys : List ℕ} {at : ℕ} {p : Put} → at + length w ≤ length buf → Puts w buf at p ys → ys ≡ splice buf at w
-copied {w} {buf} {ys} {at} h q = puts-at (subst (λ (r : Put). Puts w buf at r ys) (puts-fits h q) q) .is
-
--- so was that of a part of the data
-pub copied-part : (d : List ℕ) (from n : ℕ) {buf ys : List ℕ} {at : ℕ} {p : Put} → at + n ≤ length buf → from + n ≤ length d → Puts (take (from + n - from) (drop from d)) buf at p ys
-    → ys ≡ splice buf at (take n (drop from d))
-copied-part d from n {buf} {ys} {at} {p} h k q =
-    let is : from + n - from ≡ n = omega arith in
-    let long : length (take n (drop from d)) ≡ n = length-take-le n (drop from d) (rw (length-drop from d) (omega arith)) in
-    copied (rw long h) (subst (λ (m : ℕ). Puts (take m (drop from d)) buf at p ys) is q)
 
 -- what a row's test told, of its suffix where it stands in the data
 pub row-tested : (d key target : List ℕ) (shared from n : ℕ) {b : Bool} → b ≡ below (take shared key ++ take (from + n - from) (drop from d)) target

@@ -1,9 +1,12 @@
 -- A writer's promise from what it did, for the writers; and what it did from its promise, for those who call them. And a comparison that was matched.
-use Prim.Native.Nat.{ℕ, _+_, _≤_, _<_}
-use mathlib.Core.Path.{_≡_, refl, ap, sym, _∙_}
+use Prim.Native.Nat.{ℕ, _+_, _-_, _≤_, _<_}
+use mathlib.Core.Path.{_≡_, refl, ap, sym, _∙_, subst}
 use mathlib.Core.List.{List}
-use lib.ListN.{length}
+use native.Mathlib.Omega.{arith}
+use lib.ListN.{length, take, drop, length-drop}
+use lib.Seq.{length-take-le}
 use Rattle.layout.specs.Key.{Key, compare}
+use Rattle.layout.specs.Place.{splice}
 use Rattle.layout.specs.Laws.Splice.{Wrote, put-short, put-wrote, wrote-put, put-taken}
 use Rattle.types.specs.Number.{number}
 use Rattle.types.specs.declared.Refusal.{Refusal}
@@ -46,6 +49,18 @@ module _ {w buf ys : List ℕ} {at : ℕ} where
   puts-fits {r} h p =
       let q = put-wrote buf at w (record { is = refl; next = refl; room = h }) in
       saysPut-one r (At (at + length w)) (p .answer ∙ sym (q .0))
+
+-- a copy that had room was made
+pub copied : {w buf ys : List ℕ} {at : ℕ} {p : Put} → at + length w ≤ length buf → Puts w buf at p ys → ys ≡ splice buf at w
+copied {w} {buf} {ys} {at} h q = puts-at (subst (λ (r : Put). Puts w buf at r ys) (puts-fits h q) q) .is
+
+-- so was that of a part of another slice
+pub copied-part : (d : List ℕ) (from n : ℕ) {buf ys : List ℕ} {at : ℕ} {p : Put} → at + n ≤ length buf → from + n ≤ length d → Puts (take (from + n - from) (drop from d)) buf at p ys
+    → ys ≡ splice buf at (take n (drop from d))
+copied-part d from n {buf} {ys} {at} {p} h k q =
+    let is : from + n - from ≡ n = omega arith in
+    let long : length (take n (drop from d)) ≡ n = length-take-le n (drop from d) (rw (length-drop from d) (omega arith)) in
+    copied (rw long h) (subst (λ (m : ℕ). Puts (take m (drop from d)) buf at p ys) is q)
 
 -- the comparison's answer is the case v
 pub compared : (a b : Key) {o v : Ordering} → Compares a b o → o ≡ v → compare a b ≡ saysOrdering v

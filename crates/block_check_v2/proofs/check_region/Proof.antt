@@ -1,8 +1,8 @@
 -- `check_region` leaves the walk before the next region, or the check's refusal.
 -- The loop's invariant: the rest of the check, from the row at `at` on, answers what the whole does. The loop does not hold the trailer, so it is said of
 -- every trailer that the block has. Each exit is a law of the walk, over the region and the row that were read on the way to it.
-use Prim.Native.Nat.{ℕ, _+_, _-_, _^_, _≤_, _<_}
-use mathlib.Core.Path.{_≡_, refl, sym, subst, _∙_}
+use Prim.Native.Nat.{ℕ, _-_, _^_, _≤_, _<_}
+use mathlib.Core.Path.{_≡_, refl, sym, _∙_}
 use mathlib.Core.List.{List}
 use native.Mathlib.Omega.{arith}
 use lib.Dec.{eqb}
@@ -10,15 +10,12 @@ use lib.ListN.{length, length-take}
 use lib.Seq.{length-take-le}
 use borrow.Author.Needs.{needs}
 use Rattle.layout.specs.Answer.{ok}
-use Rattle.layout.specs.Place.{splice}
 use Rattle.layout.specs.RowRead.{readRow, RowRead as RowReadL}
 use Rattle.layout.specs.Trailer.{Trailer, trailerOf, dataOf, regionOf}
 use Rattle.layout.specs.Laws.Tells.{RowEnds, readRow-ends, row-shares}
 use Rattle.layout.specs.Laws.Trailer.{trailerOf-tells}
 use Rattle.types.specs.Answers.{yes, no}
-use Rattle.utils.proofs.Laws.{puts-at, puts-fits}
-use Rattle.utils.specs.declared.Put.{Put}
-use Rattle.utils.specs.Promise.{Puts}
+use Rattle.utils.proofs.Laws.{copied}
 use Rattle.block.specs.declared.Region.{Region}
 use Rattle.block.specs.Laws.{region-used}
 use Rattle.block.specs.Says.{trailerFrom, regionFrom, saysRegion, refusalOfRegion}
@@ -26,10 +23,6 @@ use Rattle.row_codec_v2.specs.Says.{rowFrom, saysRow, refusalOfRow}
 use Rattle.block_check_v2.specs.Laws.{Walks, stands-no, stands-inside, stands-walks, walks-over, walks-no, walks-room, walks-falls, walks-more, the-trailer}
 use Rattle.block_check_v2.proofs.check_region.Statement.{statement}
 use Rattle.block_check_v2.proofs.check_region.Tie as tie
-
--- where there is room, the copy is made
-copied : {w key key′ : List ℕ} {at : ℕ} {r : Put} → at + length w ≤ length key → Puts w key at r key′ → key′ ≡ splice key at w
-copied {w} {key} {key′} {at} h p = puts-at (subst (λ (x : Put). Puts w key at x key′) (puts-fits h p) p) .is
 
 abbrev Inv-loop : tie.InvT-loop
 Inv-loop block key₀ p g size «data» at₀ key-len₀ rows₀ key at key-len rows = (t : Trailer) → trailerOf block ≡ ok t → Walks block t (p .region) (regionFrom g) at rows key key-len
