@@ -1,0 +1,300 @@
+//! Calls of the C interface, and what the model says that each must answer: the code, and all lent memory after it.
+use model::builder::Builder;
+use model::cursor::{Cursor, Order};
+use model::row::{self, Fields, Kind, Row};
+use model::{check::check, Key, Refusal, KEY_LIMIT};
+
+pub const GOOD: u8 = 0;
+pub const BAD_WORDS: u8 = 254;
+pub const DONE: u8 = 255;
+
+const CURSOR_WORDS: usize = 5;
+const BUILDER_WORDS: usize = 6;
+const FIELDS_WORDS: usize = 6;
+const ROW_WORDS: usize = 13;
+const SUM_WORDS: usize = 2;
+
+/// As in guest/guest.c.
+#[derive(Clone, Copy, Debug, PartialEq, Eq, PartialOrd, Ord)]
+#[repr(u8)]
+pub enum Function {
+    Encode = 0,
+    Decode,
+    BuilderNew,
+    WouldFit,
+    Add,
+    AddByValue,
+    BuilderIsEmpty,
+    Build,
+    Check,
+    Open,
+    Next,
+    NextByValue,
+    Seek,
+    IsEmpty,
+    WalkByValue,
+    WalkInPlace,
+}
+
+#[derive(Clone, Debug)]
+pub enum Arg {
+    Number(u64),
+    Read(Vec<u8>),
+    Written(Vec<u8>),
+}
+
+#[derive(Clone, Debug)]
+pub struct Call {
+    pub function: Function,
+    pub args: Vec<Arg>,
+}
+
+/// `key` names the array of a carried key and how many of its bytes are settled: those past its length are the listed exception.
+#[derive(Clone, Debug)]
+pub struct Expected {
+    pub code: u8,
+    pub memory: Vec<Vec<u8>>,
+    pub key: Option<(usize, usize)>,
+}
+
+pub fn bytes_of(words: &[u64]) -> Vec<u8> {
+    words.iter().flat_map(|word| word.to_le_bytes()).collect()
+}
+
+pub fn words_of(bytes: &[u8]) -> Vec<u64> {
+    bytes.chunks_exact(8).map(|word| u64::from_le_bytes(word.try_into().expect("eight"))).collect()
+}
+
+pub fn bytes_of_halves(halves: &[u16]) -> Vec<u8> {
+    halves.iter().flat_map(|half| half.to_le_bytes()).collect()
+}
+
+fn halves_of(bytes: &[u8]) -> Vec<u16> {
+    bytes.chunks_exact(2).map(|half| u16::from_le_bytes(half.try_into().expect("two"))).collect()
+}
+
+// ---- states as words
+
+pub fn cursor_words(cursor: &Cursor) -> [u64; CURSOR_WORDS] {
+    let order = (cursor.order == Order::Descending) as u64;
+    [order, cursor.region as u64, cursor.at as u64, cursor.key.len as u64, cursor.done as u64]
+}
+
+pub fn builder_words(b: &Builder) -> [u64; BUILDER_WORDS] {
+    [b.block_size, b.interval, b.used, b.restarts, b.rows, b.last_key.len].map(|number| number as u64)
+}
+
+pub fn fields_words(fields: &Fields) -> [u64; FIELDS_WORDS] {
+    let (expire, create) = (fields.expire, fields.create);
+    [fields.kind as u64, fields.seq, expire.is_some() as u64, expire.unwrap_or(0) as u64, create.is_some() as u64, create.unwrap_or(0) as u64]
+}
+
+fn row_words(row: &Row) -> Vec<u64> {
+    let places = [row.start, row.next, row.shared, row.suffix_at, row.suffix_len].map(|place| place as u64);
+    let fields = fields_words(&row.fields);
+    [&places[..], &fields[..1], &[row.value_at as u64, row.value_len as u64], &fields[1..]].concat()
+}
+
+fn order_of(word: u64) -> Option<Order> {
+    [Order::Ascending, Order::Descending].get(usize::try_from(word).ok()?).copied()
+}
+
+fn flag_of(word: u64) -> Option<bool> {
+    (word <= 1).then_some(word == 1)
+}
+
+fn key_of(len: u64, bytes: &[u8]) -> Option<Key> {
+    Some(Key { len: len as usize, bytes: bytes.try_into().ok()? })
+}
+
+fn cursor_of(words: &[u64], key: &[u8]) -> Option<Cursor> {
+    let &[order, region, at, key_len, done] = words else { return None };
+    Some(Cursor { order: order_of(order)?, region: region as usize, at: at as usize, key: key_of(key_len, key)?, done: flag_of(done)? })
+}
+
+fn builder_of(words: &[u64], key: &[u8]) -> Option<Builder> {
+    let &[block_size, interval, used, restarts, rows, key_len] = words else { return None };
+    let [block_size, interval, used, restarts, rows] = [block_size, interval, used, restarts, rows].map(|word| word as usize);
+    Some(Builder { block_size, interval, used, restarts, rows, last_key: key_of(key_len, key)? })
+}
+
+fn fields_of(words: &[u64]) -> Option<Fields> {
+    let &[kind, seq, has_expire, expire, has_create, create] = words else { return None };
+    let kind = *[Kind::Value, Kind::Tombstone, Kind::Merge].get(usize::try_from(kind).ok()?)?;
+    let (expire, create) = (flag_of(has_expire)?.then_some(expire as i64), flag_of(has_create)?.then_some(create as i64));
+    Some(Fields { kind, seq, expire, create })
+}
+
+// ---- calls
+
+impl Call {
+    fn number(&self, i: usize) -> u64 {
+        let Arg::Number(number) = self.args[i] else { panic!("argument {i} is an array") };
+        number
+    }
+
+    fn bytes(&self, i: usize) -> &[u8] {
+        match &self.args[i] {
+            Arg::Read(bytes) | Arg::Written(bytes) => bytes,
+            Arg::Number(_) => panic!("argument {i} is a number"),
+        }
+    }
+
+    fn words(&self, i: usize) -> Vec<u64> {
+        words_of(self.bytes(i))
+    }
+
+    /// The lent arrays that may be written, as they came.
+    fn memory(&self) -> Vec<Vec<u8>> {
+        self.args.iter().filter_map(|arg| if let Arg::Written(bytes) = arg { Some(bytes.clone()) } else { None }).collect()
+    }
+
+    pub fn size(&self) -> usize {
+        self.args.iter().map(|arg| if let Arg::Read(b) | Arg::Written(b) = arg { b.len() } else { 8 }).sum()
+    }
+
+    /// What the model says. A call that is refused leaves all memory as it came.
+    pub fn expected(&self) -> Expected {
+        let mut memory = self.memory();
+        let answer = match self.function {
+            Function::Encode => encode(self, &mut memory),
+            Function::Decode => decode(self, &mut memory),
+            Function::BuilderNew => builder_new(self, &mut memory),
+            Function::WouldFit => would_fit(self),
+            Function::Add | Function::AddByValue => add(self, &mut memory),
+            Function::BuilderIsEmpty => builder_is_empty(self, &mut memory),
+            Function::Build => build(self, &mut memory),
+            Function::Check => check_block(self, &mut memory),
+            Function::Open => open(self, &mut memory),
+            Function::Next | Function::NextByValue => next(self, &mut memory),
+            Function::Seek => seek(self, &mut memory),
+            Function::IsEmpty => is_empty(self, &mut memory),
+            Function::WalkByValue | Function::WalkInPlace => walk(self, &mut memory),
+        };
+        match answer {
+            Ok((code, key)) => Expected { code, memory, key },
+            Err(code) => Expected { code, memory: self.memory(), key: None },
+        }
+    }
+}
+
+/// Good or done, and the carried key's array with how much of it is settled.
+type Answer = Result<(u8, Option<(usize, usize)>), Refusal>;
+const PLAIN: Answer = Ok((GOOD, None));
+
+fn encode(call: &Call, memory: &mut [Vec<u8>]) -> Answer {
+    let fields = fields_of(&call.words(5)).ok_or(BAD_WORDS)?;
+    let (previous_len, shared) = (call.number(1) as usize, call.number(2) as usize);
+    let count = row::encode(&mut memory[0], previous_len, shared, call.bytes(3), call.bytes(4), &fields)?;
+    memory[1] = bytes_of(&[count as u64]);
+    PLAIN
+}
+
+fn decode(call: &Call, memory: &mut [Vec<u8>]) -> Answer {
+    exactly(&call.words(2), ROW_WORDS)?;
+    let row = row::decode(call.bytes(0), call.number(1) as usize)?;
+    memory[0] = bytes_of(&row_words(&row));
+    PLAIN
+}
+
+fn exactly(words: &[u64], count: usize) -> Result<(), Refusal> {
+    if words.len() == count { Ok(()) } else { Err(BAD_WORDS) }
+}
+
+fn builder_new(call: &Call, memory: &mut [Vec<u8>]) -> Answer {
+    exactly(&call.words(0), BUILDER_WORDS)?;
+    let builder = Builder::with_interval(call.number(1) as usize, call.number(2) as usize)?;
+    memory[0] = bytes_of(&builder_words(&builder));
+    PLAIN
+}
+
+fn would_fit(call: &Call) -> Answer {
+    let builder = builder_of(&call.words(0), call.bytes(1)).ok_or(BAD_WORDS)?;
+    let fields = fields_of(&call.words(6)).ok_or(BAD_WORDS)?;
+    let (data_len, restarts_len) = (call.number(2) as usize, call.number(3) as usize);
+    builder.would_fit(data_len, restarts_len, call.bytes(4), call.bytes(5), &fields)?;
+    PLAIN
+}
+
+fn add(call: &Call, memory: &mut [Vec<u8>]) -> Answer {
+    let mut builder = builder_of(&call.words(0), call.bytes(1)).ok_or(BAD_WORDS)?;
+    let fields = fields_of(&call.words(6)).ok_or(BAD_WORDS)?;
+    let mut restarts = halves_of(call.bytes(3));
+    builder.add(&mut memory[2], &mut restarts, call.bytes(4), call.bytes(5), &fields)?;
+    memory[0] = bytes_of(&builder_words(&builder));
+    memory[1] = builder.last_key.bytes.to_vec();
+    memory[3] = bytes_of_halves(&restarts);
+    Ok((GOOD, Some((1, builder.last_key.len))))
+}
+
+fn builder_is_empty(call: &Call, memory: &mut [Vec<u8>]) -> Answer {
+    let builder = builder_of(&call.words(0), &[0; KEY_LIMIT]).ok_or(BAD_WORDS)?;
+    memory[0] = bytes_of(&[builder.is_empty() as u64]);
+    PLAIN
+}
+
+fn build(call: &Call, memory: &mut [Vec<u8>]) -> Answer {
+    let builder = builder_of(&call.words(0), &[0; KEY_LIMIT]).ok_or(BAD_WORDS)?;
+    let count = builder.build(&mut memory[0], &halves_of(call.bytes(2)))?;
+    memory[1] = bytes_of(&[count as u64]);
+    PLAIN
+}
+
+fn check_block(call: &Call, memory: &mut [Vec<u8>]) -> Answer {
+    memory[0] = bytes_of(&[check(call.bytes(0))? as u64]);
+    PLAIN
+}
+
+fn open(call: &Call, memory: &mut [Vec<u8>]) -> Answer {
+    exactly(&call.words(2), CURSOR_WORDS)?;
+    let order = order_of(call.number(1)).ok_or(BAD_WORDS)?;
+    let cursor = Cursor::open(call.bytes(0), order)?;
+    memory[0] = bytes_of(&cursor_words(&cursor));
+    PLAIN
+}
+
+fn next(call: &Call, memory: &mut [Vec<u8>]) -> Answer {
+    exactly(&call.words(4), ROW_WORDS)?;
+    let mut cursor = cursor_of(&call.words(1), call.bytes(2)).ok_or(BAD_WORDS)?;
+    let row = cursor.next(call.bytes(0), &mut memory[2])?;
+    memory[0] = bytes_of(&cursor_words(&cursor));
+    // "a step that says done sets only the mark"
+    let Some(row) = row else { return Ok((DONE, None)) };
+    memory[1] = cursor.key.bytes.to_vec();
+    memory[3] = bytes_of(&row_words(&row));
+    Ok((GOOD, Some((1, cursor.key.len))))
+}
+
+fn seek(call: &Call, memory: &mut [Vec<u8>]) -> Answer {
+    let mut cursor = cursor_of(&call.words(2), call.bytes(3)).ok_or(BAD_WORDS)?;
+    let sought = cursor.seek(call.bytes(0), call.bytes(1))?;
+    memory[0] = bytes_of(&cursor_words(&cursor));
+    memory[1] = cursor.key.bytes.to_vec();
+    memory[2] = bytes_of(&[sought.reads as u64]);
+    Ok((if sought.found { GOOD } else { DONE }, Some((1, cursor.key.len))))
+}
+
+fn is_empty(call: &Call, memory: &mut [Vec<u8>]) -> Answer {
+    let cursor = cursor_of(&call.words(1), &[0; KEY_LIMIT]).ok_or(BAD_WORDS)?;
+    memory[0] = bytes_of(&[cursor.is_empty(call.bytes(0))? as u64]);
+    PLAIN
+}
+
+fn walk(call: &Call, memory: &mut [Vec<u8>]) -> Answer {
+    exactly(&call.words(3), SUM_WORDS)?;
+    let block = call.bytes(0);
+    let mut cursor = Cursor::open(block, order_of(call.number(1)).ok_or(BAD_WORDS)?)?;
+    let (mut rows, mut sum, mut key) = (0, 0u64, [0; KEY_LIMIT]);
+    let mut code = GOOD;
+    while rows < call.number(2) {
+        let Some(row) = cursor.next(block, &mut key)? else {
+            code = DONE;
+            break;
+        };
+        let key_len = row.shared + row.suffix_len;
+        rows += 1;
+        sum = sum.wrapping_add(row.fields.seq).wrapping_add((key_len + row.value_len) as u64).wrapping_add(key[key_len - 1] as u64);
+    }
+    memory[0] = bytes_of(&[rows, sum]);
+    Ok((code, None))
+}

@@ -1,0 +1,253 @@
+//! Where the answers part from the Rust's. Each kind of difference is a predicate on the input alone, with the number that 01
+//! gives and what the Rust does. The predicates look at the bytes in their own way, not through the model. Any difference that
+//! is not in these tables fails the run.
+use model::row::Place;
+use model::{Refusal, BLOCK_SIZE_LIMIT, INTERVAL_LIMIT, KEY_LIMIT, RESTART_LIMIT, VALUE_LIMIT};
+use slate_oracle::direct::{Row, Stop};
+
+#[derive(Clone, Copy, Debug, PartialEq, Eq)]
+pub enum Rust {
+    Panics,
+    /// `InvalidRowFlags`: it refuses too, only without a number, so this is no difference
+    Errors,
+    /// it takes the input, reads on, or stops at something later
+    Varies,
+}
+
+impl Rust {
+    pub fn may<T>(self, answer: &Result<T, Stop>) -> bool {
+        match self {
+            Rust::Panics => matches!(answer, Err(Stop::Panic)),
+            Rust::Errors => matches!(answer, Err(Stop::InvalidRowFlags)),
+            Rust::Varies => true,
+        }
+    }
+}
+
+#[derive(Clone, Copy, Debug)]
+pub struct Known {
+    pub name: &'static str,
+    pub here: Refusal,
+    pub rust: Rust,
+}
+
+pub struct Difference<Input> {
+    known: Known,
+    holds: fn(&Input) -> bool,
+}
+
+const fn entry<Input>(name: &'static str, here: Refusal, rust: Rust, holds: fn(&Input) -> bool) -> Difference<Input> {
+    Difference { known: Known { name, here, rust }, holds }
+}
+
+/// The first entry that holds: the tables stand in 01's order.
+pub fn first<Input>(table: &[Difference<Input>], input: &Input) -> Option<Known> {
+    table.iter().find(|difference| (difference.holds)(input)).map(|difference| difference.known)
+}
+
+// ---- varints and rows
+
+#[derive(Clone, Copy, PartialEq, Eq)]
+enum Spelled {
+    Ends,
+    FifthAbove15,
+    Number { number: usize, end: usize },
+}
+
+fn spelled(data: &[u8], at: usize) -> Spelled {
+    let rest = &data[at..];
+    let going_on = rest.iter().take(4).take_while(|byte| **byte >= 128).count();
+    match rest.get(going_on) {
+        None => Spelled::Ends,
+        Some(&byte) if going_on == 4 && byte > 15 => Spelled::FifthAbove15,
+        Some(_) => {
+            let number = rest[..=going_on].iter().rev().fold(0, |number, byte| number * 128 + (byte % 128) as usize);
+            Spelled::Number { number, end: at + going_on + 1 }
+        }
+    }
+}
+
+/// The three varints of a row, and where they end; or the first that is none.
+struct Head {
+    shared: usize,
+    suffix: usize,
+    value: usize,
+    end: usize,
+}
+
+fn head(place: &Place) -> Result<Head, Spelled> {
+    let mut end = place.at;
+    let mut numbers = [0; 3];
+    for number in &mut numbers {
+        match spelled(place.data, end) {
+            Spelled::Number { number: n, end: e } => (*number, end) = (n, e),
+            other => return Err(other),
+        }
+    }
+    Ok(Head { shared: numbers[0], suffix: numbers[1], value: numbers[2], end })
+}
+
+fn has(place: &Place, test: fn(&Place, Head) -> bool) -> bool {
+    head(place).is_ok_and(|head| test(place, head))
+}
+
+fn flags(place: &Place) -> Option<u8> {
+    let head = head(place).ok()?;
+    place.data.get(head.end + head.suffix + head.value + 8).copied()
+}
+
+/// Where the row ends, by its own account.
+fn row_end(place: &Place) -> Option<usize> {
+    let (head, flags) = (head(place).ok()?, flags(place)?);
+    Some(head.end + head.suffix + head.value + 9 + 8 * (flags & 2 != 0) as usize + 8 * (flags & 4 != 0) as usize)
+}
+
+pub static VARINT: [Difference<Vec<u8>>; 2] = [
+    entry("a varint that the input ends in: the Rust panics, 01 refuses 9", 9, Rust::Panics, |input| spelled(input, 0) == Spelled::Ends),
+    entry("a varint's fifth byte above 15: the Rust cuts it or reads on, 01 refuses 10", 10, Rust::Varies, |input| spelled(input, 0) == Spelled::FifthAbove15),
+];
+
+/// What both reads of a row begin with, as 01 orders the tests.
+fn head_table<'a>() -> [Difference<Place<'a>>; 6] {
+    [
+        entry("a row that ends in a varint: the Rust panics, 01 refuses 9", 9, Rust::Panics, |p| head(p).is_err_and(|s| s == Spelled::Ends)),
+        entry("a row with a fifth varint byte above 15: the Rust reads on, 01 refuses 10", 10, Rust::Varies, |p| head(p).is_err_and(|s| s == Spelled::FifthAbove15)),
+        entry("a share that is not 0 at a restart: the Rust takes it ascending, else panics, 01 refuses 13", 13, Rust::Varies, |p| p.restart && has(p, |_, h| h.shared != 0)),
+        entry("a share longer than the key before: the Rust panics, or decoding one row takes it, 01 refuses 13", 13, Rust::Varies, |p| has(p, |p, h| h.shared > p.previous_len)),
+        entry("a row with an empty key: the Rust reads it, 01 refuses 1", 1, Rust::Varies, |p| has(p, |_, h| h.shared + h.suffix == 0)),
+        entry("a row with a key over 1,024: the Rust reads it, 01 refuses 2", 2, Rust::Varies, |p| has(p, |_, h| h.shared + h.suffix > KEY_LIMIT)),
+    ]
+}
+
+fn row_table<'a>() -> [Difference<Place<'a>>; 6] {
+    [
+        entry("a row with a value length over 65,535: the Rust reads it, 01 refuses 3", 3, Rust::Varies, |p| has(p, |_, h| h.value > VALUE_LIMIT)),
+        entry("a row whose bytes are missing: the Rust panics, 01 refuses 9", 9, Rust::Panics, |p| flags(p).is_none()),
+        entry("unknown flags: both refuse, 01 with 11", 11, Rust::Errors, |p| flags(p).is_some_and(|flags| flags >= 16)),
+        entry("tombstone with merge: both refuse, 01 with 12", 12, Rust::Errors, |p| flags(p).is_some_and(|flags| flags & 9 == 9)),
+        entry("a row whose times are missing: the Rust panics, 01 refuses 9", 9, Rust::Panics, |p| row_end(p).is_some_and(|end| end > p.data.len())),
+        entry("a row that runs past the next restart: the Rust reads it, 01 refuses 16", 16, Rust::Varies, |p| row_end(p).is_some_and(|end| end > p.region_end)),
+    ]
+}
+
+fn key_table<'a>() -> [Difference<Place<'a>>; 2] {
+    [
+        entry("a key whose bytes are missing: the Rust panics, 01 refuses 9", 9, Rust::Panics, |p| has(p, |p, h| h.end + h.suffix > p.data.len())),
+        entry("a key that runs past the next restart: the Rust reads it, 01 refuses 16", 16, Rust::Varies, |p| has(p, |p, h| h.end + h.suffix > p.region_end)),
+    ]
+}
+
+/// What 01 finds wrong with the row at this place.
+pub fn row_fault(place: &Place) -> Option<Known> {
+    first(&head_table(), place).or_else(|| first(&row_table(), place))
+}
+
+/// What 01 finds wrong with its key, read alone.
+pub fn key_fault(place: &Place) -> Option<Known> {
+    first(&head_table(), place).or_else(|| first(&key_table(), place))
+}
+
+/// The key and the end of a row without fault.
+pub fn key_and_end(place: &Place, previous: &[u8]) -> (Vec<u8>, usize) {
+    let (Ok(head), Some(end)) = (head(place), row_end(place)) else { panic!("a row without fault") };
+    ([&previous[..head.shared], &place.data[head.end..head.end + head.suffix]].concat(), end)
+}
+
+// ---- writing
+
+pub struct Encode {
+    pub previous_len: usize,
+    pub shared: usize,
+    pub row: Row,
+    pub output_len: usize,
+}
+
+fn key_len(e: &Encode) -> usize {
+    e.shared + e.row.key.len()
+}
+
+fn value_over(row: &Row) -> bool {
+    row.kind != 1 && row.value.len() > VALUE_LIMIT
+}
+
+pub static ENCODE: [Difference<Encode>; 5] = [
+    entry("encoding a share longer than the key before: the Rust knows no key before, 01 refuses 13", 13, Rust::Varies, |e| e.shared > e.previous_len),
+    entry("encoding an empty key: the Rust writes it, 01 refuses 1", 1, Rust::Varies, |e| key_len(e) == 0),
+    entry("encoding a key over 1,024: the Rust writes it, 01 refuses 2", 2, Rust::Varies, |e| key_len(e) > KEY_LIMIT),
+    entry("encoding a value over 65,535: the Rust writes it, 01 refuses 3", 3, Rust::Varies, |e| value_over(&e.row)),
+    // the lent length is the input that counts here, and the Rust's own bytes say how many are needed
+    entry("a lent buffer too short for a row: the Rust's grows, 01 refuses 6", 6, Rust::Varies, |e| {
+        slate_oracle::direct::encode(e.shared as u32, &e.row).is_ok_and(|(bytes, _)| bytes.len() > e.output_len)
+    }),
+];
+
+pub struct Settings {
+    pub block_size: usize,
+    pub interval: usize,
+}
+
+pub static SETTINGS: [Difference<Settings>; 3] = [
+    entry("a block size over 131,072: the Rust takes it, 01 refuses 8", 8, Rust::Varies, |s| s.block_size > BLOCK_SIZE_LIMIT),
+    entry("interval 0: the Rust takes it as one restart, 01 refuses 8", 8, Rust::Varies, |s| s.interval == 0),
+    entry("an interval over 1,024: the Rust takes it, 01 refuses 8", 8, Rust::Varies, |s| s.interval > INTERVAL_LIMIT),
+];
+
+/// A row offered to a builder, with what the builder has taken so far; `grown` is what the block would need with the row.
+pub struct Offer {
+    pub row: Row,
+    pub restart: bool,
+    pub used: usize,
+    pub restarts: usize,
+    pub grown: usize,
+    pub data_len: usize,
+    pub restarts_len: usize,
+}
+
+const OFFER_KEY_OVER: Difference<Offer> = entry("a key over 1,024 offered: the Rust takes it, 01 refuses 2", 2, Rust::Varies, |o| o.row.key.len() > KEY_LIMIT);
+const OFFER_VALUE_OVER: Difference<Offer> = entry("a value over 65,535 offered: the Rust takes it, 01 refuses 3", 3, Rust::Varies, |o| value_over(&o.row));
+
+pub static ADD: [Difference<Offer>; 5] = [
+    OFFER_KEY_OVER,
+    OFFER_VALUE_OVER,
+    entry("a restart past 65,535: the Rust panics, 01 refuses 5", 5, Rust::Panics, |o| o.restart && o.used > RESTART_LIMIT),
+    entry("a lent data buffer too short for rows and trailer: the Rust's grows, 01 refuses 6", 6, Rust::Varies, |o| o.grown > o.data_len),
+    entry("a lent restart buffer with no place left: the Rust's grows, 01 refuses 6", 6, Rust::Varies, |o| o.restart && o.restarts == o.restarts_len),
+];
+
+pub static FIT: [Difference<Offer>; 3] = [
+    entry("an empty key in the fit question: the Rust says whether it fits, 01 refuses 1", 1, Rust::Varies, |o| o.row.key.is_empty()),
+    OFFER_KEY_OVER,
+    OFFER_VALUE_OVER,
+];
+
+// ---- a block's trailer
+
+fn two(bytes: &[u8]) -> usize {
+    bytes[0] as usize * 256 + bytes[1] as usize
+}
+
+fn count(block: &[u8]) -> usize {
+    two(&block[block.len() - 2..])
+}
+
+/// The offsets, and the data's length, of a block with a good trailer.
+pub fn offsets(block: &[u8]) -> (Vec<usize>, usize) {
+    let data_len = block.len() - 2 - 2 * count(block);
+    (block[data_len..block.len() - 2].chunks(2).map(two).collect(), data_len)
+}
+
+pub static TRAILER: [Difference<Vec<u8>>; 6] = [
+    entry("a block under 2 bytes: the Rust panics, 01 refuses 14", 14, Rust::Panics, |b| b.len() < 2),
+    entry("a trailer longer than the block: the Rust panics, 01 refuses 14", 14, Rust::Panics, |b| 2 * count(b) + 2 > b.len()),
+    entry("a restart count of 0: the Rust reads rows ascending, none descending, 01 refuses 14", 14, Rust::Varies, |b| count(b) == 0),
+    entry("a first restart that is not 0: the Rust reads on, 01 refuses 15", 15, Rust::Varies, |b| offsets(b).0[0] != 0),
+    entry("offsets that don't rise: the Rust reads on, 01 refuses 15", 15, Rust::Varies, |b| offsets(b).0.windows(2).any(|pair| pair[0] >= pair[1])),
+    entry("an offset not below the data length: the Rust reads on or panics, 01 refuses 15", 15, Rust::Varies, |b| {
+        let (offsets, data_len) = offsets(b);
+        offsets.iter().any(|offset| *offset >= data_len)
+    }),
+];
+
+/// Not in a table, since what 01 gives here is no number: see `reading`.
+pub const OPENING: &str = "a first restart whose key can't be read: opening it the Rust panics, 01 opens it";
+pub const FALLS: &str = "a descending seek where keys fall: the Rust takes the row before the first greater one, 01 the last at or below";

@@ -1,0 +1,187 @@
+//! States and words that no call gave: the library and the model only.
+use crate::building::{self, scramble};
+use crate::calls::{bytes_of, bytes_of_halves, words_of, Arg, Function};
+use crate::inputs::{any_key, below, good_row, one_in, pick, short_key};
+use crate::reading::{Arrays, Op};
+use crate::{rows, Run};
+use model::{KEY_LIMIT, MOST_RESTARTS};
+use slate_oracle::direct::Row;
+
+/// A number at an edge of 0..=most, one off, or any.
+fn around(run: &mut Run, most: u64) -> u64 {
+    let any = run.rng.next();
+    let inside = any % most.saturating_add(1).max(1);
+    pick(&mut run.rng, &[0, 1, most, most.wrapping_add(1), most.wrapping_sub(1), inside, inside, inside, any])
+}
+
+fn key_bytes(run: &mut Run, len: u64) -> Vec<u8> {
+    let mut key = short_key(&mut run.rng).into_iter().cycle().take(KEY_LIMIT).collect::<Vec<u8>>();
+    scramble(run, &mut key, len);
+    key
+}
+
+/// A length that is seldom another than it must be.
+fn length(run: &mut Run, right: usize) -> usize {
+    if one_in(&mut run.rng, 12) { pick(&mut run.rng, &[0, right - 1, right + 1, 2 * right]) } else { right }
+}
+
+fn resized(run: &mut Run, bytes: &[u8], right: usize, unit: usize) -> Vec<u8> {
+    let len = length(run, right) * unit;
+    bytes.iter().copied().cycle().take(len).collect()
+}
+
+// ---- cursors
+
+/// Cursors of any words on this block, whose rows start at these places.
+pub fn cursors(run: &mut Run, block: &[u8], starts: &[usize], targets: &[Vec<u8>], times: usize) {
+    for _ in 0..times {
+        let mut cursor = cursor(run, block, starts);
+        let op = pick(&mut run.rng, &[Op::Next, Op::Next, Op::Next, Op::IsEmpty, Op::Seek(pick_target(targets))]);
+        let out_len = pick(&mut run.rng, &[0, 1, 2, 5, KEY_LIMIT]);
+        if one_in(&mut run.rng, 6) {
+            wrong_words(run, block, &cursor, out_len);
+        } else {
+            cursor.apply(run, block, &op, out_len);
+        }
+    }
+}
+
+fn pick_target(targets: &[Vec<u8>]) -> Vec<u8> {
+    targets.first().cloned().unwrap_or_default()
+}
+
+fn cursor(run: &mut Run, block: &[u8], starts: &[usize]) -> Arrays {
+    let count = block.len().checked_sub(2).map_or(0, |at| u16::from_be_bytes([block[at], block[at + 1]])) as u64;
+    let start = if starts.is_empty() { 0 } else { pick(&mut run.rng, starts) as u64 };
+    let anywhere = around(run, block.len() as u64);
+    let any = run.rng.next();
+    let key_len = pick(&mut run.rng, &[0, 0, 1, 2, 5, 1_023, 1_024, 1_025, any]);
+    let region = if one_in(&mut run.rng, 4) { around(run, count) } else { below(&mut run.rng, count.max(1) as usize) as u64 };
+    let at = if one_in(&mut run.rng, 3) { anywhere } else { start };
+    let words = [run.rng.next() % 2, region, at, key_len, one_in(&mut run.rng, 12) as u64];
+    Arrays { cursor: bytes_of(&words), key: key_bytes(run, key_len) }
+}
+
+/// Wrong numbers of words and key bytes, and words that stand for no case: 254.
+fn wrong_words(run: &mut Run, block: &[u8], cursor: &Arrays, out_len: usize) {
+    let mut words = words_of(&cursor.cursor);
+    let any = run.rng.next();
+    let place = pick(&mut run.rng, &[0, 4]);
+    words[place] = pick(&mut run.rng, &[0, 1, 2, 3, 256, u64::MAX, any]);
+    let words = resized(run, &bytes_of(&words), 5, 8);
+    let key = resized(run, &cursor.key, KEY_LIMIT, 1);
+    let row_words = length(run, 13) * 8;
+    let (out, row) = (run.pattern(out_len), run.pattern(row_words));
+    let block = Arg::Read(block.to_vec());
+    let lent = |bytes: &[u8]| Arg::Written(bytes.to_vec());
+    let args = vec![block.clone(), lent(&words), lent(&key), lent(&out), lent(&row)];
+    run.call("words that are no state", Function::Next, args.clone());
+    run.call("words that are no state", Function::NextByValue, args);
+    run.call("words that are no state", Function::Seek, vec![block.clone(), Arg::Read(out), lent(&words), lent(&key), lent(&bytes_of(&[1]))]);
+    run.call("words that are no state", Function::IsEmpty, vec![block.clone(), Arg::Read(words.clone()), lent(&bytes_of(&[1]))]);
+    let order = pick(&mut run.rng, &[0, 1, 2, any]);
+    run.call("words that are no state", Function::Open, vec![block.clone(), Arg::Number(order), lent(&words)]);
+    let sum_words = length(run, 2) * 8;
+    let sum = run.pattern(sum_words);
+    for function in [Function::WalkByValue, Function::WalkInPlace] {
+        run.call("words that are no state", function, vec![block.clone(), Arg::Number(order), Arg::Number(any % 4), lent(&sum)]);
+    }
+}
+
+// ---- builders
+
+/// A builder of any words, near those that could be, and every call on it.
+pub fn builder(run: &mut Run) {
+    let data_len = pick(&mut run.rng, &[0, 12, 13, 17, 40, 100, 1_000]);
+    let restarts_len = pick(&mut run.rng, &[0, 1, 2, 5, 50]);
+    let words = builder_words(run, data_len, restarts_len);
+    let key = key_bytes(run, words[5]);
+    let arrays = building::Arrays { builder: bytes_of(&words), key, data: run.pattern(data_len), restarts: run.pattern(2 * restarts_len) };
+    let key = any_key(&mut run.rng);
+    let row = good_row(&mut run.rng, key);
+    builder_calls(run, arrays, &row);
+}
+
+fn builder_words(run: &mut Run, data_len: usize, restarts_len: usize) -> [u64; 6] {
+    let mut words = [131_072, 1, 0, 0, 0, 0];
+    words[0] = if one_in(&mut run.rng, 4) { around(run, 131_072) } else { pick(&mut run.rng, &[100, 1_000, 131_072]) };
+    words[1] = if one_in(&mut run.rng, 6) { around(run, 1_024) } else { pick(&mut run.rng, &[1, 2, 3, 16]) };
+    words[2] = around(run, data_len as u64);
+    words[4] = around(run, words[2] / 12);
+    let right = if words[1] == 0 { 0 } else { words[4].div_ceil(words[1]) };
+    words[3] = if one_in(&mut run.rng, 4) { around(run, restarts_len as u64) } else { right };
+    words[5] = around(run, KEY_LIMIT as u64);
+    words
+}
+
+fn builder_calls(run: &mut Run, mut arrays: building::Arrays, row: &Row) {
+    if one_in(&mut run.rng, 6) {
+        wrong_builder_words(run, &arrays, row);
+    }
+    arrays.is_empty(run);
+    arrays.would_fit(run, row);
+    let _ = arrays.build(run);
+    if arrays.add(run, row) == 0 {
+        // what came back is a state to go on with
+        arrays.would_fit(run, row);
+        let _ = arrays.build(run);
+    }
+}
+
+/// The fit question takes lengths alone: these may be any numbers.
+pub fn fit_of_lengths(run: &mut Run) {
+    let (data_len, restarts_len) = (around(run, u64::MAX), around(run, MOST_RESTARTS as u64));
+    let used = around(run, data_len);
+    let rows = around(run, used / 12);
+    let interval = pick(&mut run.rng, &[1, 2, 1_024]);
+    let words = [131_072, interval, used, rows.div_ceil(interval), rows, 3];
+    let key = key_bytes(run, 3);
+    let row = bytes_of(&[0, 1, 0, 0, 0, 0]);
+    let args = vec![Arg::Read(bytes_of(&words)), Arg::Read(key), Arg::Number(data_len), Arg::Number(restarts_len), Arg::Read(b"ab".to_vec()), Arg::Read(Vec::new()), Arg::Read(row)];
+    run.call("fit question of a forged builder", Function::WouldFit, args);
+}
+
+fn wrong_builder_words(run: &mut Run, arrays: &building::Arrays, row: &Row) {
+    let kind = "words that are no state";
+    let builder = resized(run, &arrays.builder, 6, 8);
+    let key = resized(run, &arrays.key, KEY_LIMIT, 1);
+    let fields = fields_words(run, row);
+    let row_args = [Arg::Read(row.key.clone()), Arg::Read(row.value.clone()), Arg::Read(fields.clone())];
+    let lent = |bytes: &[u8]| Arg::Written(bytes.to_vec());
+    let read = |bytes: &[u8]| Arg::Read(bytes.to_vec());
+    let state = [lent(&builder), lent(&key), lent(&arrays.data), lent(&arrays.restarts)];
+    for function in [Function::Add, Function::AddByValue] {
+        run.call(kind, function, [&state[..], &row_args].concat());
+    }
+    let numbers = [Arg::Number(arrays.data.len() as u64), Arg::Number(arrays.restarts.len() as u64 / 2)];
+    run.call(kind, Function::WouldFit, [&[read(&builder), read(&key)][..], &numbers, &row_args].concat());
+    run.call(kind, Function::BuilderIsEmpty, vec![read(&builder), lent(&bytes_of(&[4]))]);
+    run.call(kind, Function::Build, vec![read(&builder), lent(&arrays.data), read(&arrays.restarts), lent(&bytes_of(&[4]))]);
+    run.call(kind, Function::BuilderNew, [&[lent(&builder)][..], &numbers].concat());
+    let output = run.pattern(200);
+    run.call(kind, Function::Encode, vec![lent(&output), Arg::Number(3), Arg::Number(2), row_args[0].clone(), row_args[1].clone(), read(&fields), lent(&bytes_of(&[4]))]);
+    let row_words = length(run, 13) * 8;
+    let words = run.pattern(row_words);
+    run.call(kind, Function::Decode, vec![read(&arrays.data), Arg::Number(3), lent(&words)]);
+}
+
+/// Fields with a word that has no meaning, or too many or few of them.
+fn fields_words(run: &mut Run, row: &Row) -> Vec<u8> {
+    let mut words = crate::calls::fields_words(&rows::fields(row));
+    let any = run.rng.next();
+    let place = pick(&mut run.rng, &[0, 2, 4]);
+    words[place] = pick(&mut run.rng, &[0, 1, 2, 3, 256, u64::MAX, any]);
+    resized(run, &bytes_of(&words), 6, 8)
+}
+
+/// A state that passes 18 with as many restarts as a block can have: add takes one more, and what comes back passes no longer.
+pub fn most_restarts(run: &mut Run) {
+    let restarts = MOST_RESTARTS as u64;
+    let used = 12 * restarts;
+    let words = [131_072, 1, used, restarts, restarts, 1];
+    let key = key_bytes(run, 1);
+    let halves: Vec<u16> = (0..MOST_RESTARTS as u16 + 1).collect();
+    let arrays = building::Arrays { builder: bytes_of(&words), key, data: run.pattern(used as usize + 12_000), restarts: bytes_of_halves(&halves) };
+    let row = Row { key: b"a".to_vec(), kind: 0, value: Vec::new(), seq: 1, expire: None, create: None };
+    builder_calls(run, arrays, &row);
+}

@@ -1,0 +1,148 @@
+//! Cursors over one block: opened, stepped, asked and sought with.
+use crate::building::scramble;
+use crate::calls::{bytes_of, words_of, Arg, Expected, Function, DONE, GOOD};
+use crate::guest::short_hex;
+use crate::Run;
+use model::KEY_LIMIT;
+use slate_oracle::direct::{self, Opened, Row, Stop};
+
+#[derive(Clone, Debug)]
+pub enum Op {
+    Next,
+    IsEmpty,
+    Seek(Vec<u8>),
+}
+
+/// What an operation answers, as both the Rust and 01 can say it.
+#[derive(Clone, Debug, PartialEq, Eq)]
+pub enum Word {
+    Given(Row),
+    Done,
+    Empty(bool),
+    Sought,
+    Refused(u8),
+}
+
+/// The memory that a caller of the C interface keeps for a cursor.
+#[derive(Clone)]
+pub struct Arrays {
+    pub cursor: Vec<u8>,
+    pub key: Vec<u8>,
+}
+
+pub fn check(run: &mut Run, block: &[u8]) -> u8 {
+    run.call("block checked", Function::Check, vec![Arg::Read(block.to_vec()), Arg::Written(bytes_of(&[3]))]).code
+}
+
+pub fn open(run: &mut Run, block: &[u8], order: u64) -> Result<Arrays, u8> {
+    let words = run.pattern(5 * 8);
+    let answer = run.call("cursor opened", Function::Open, vec![Arg::Read(block.to_vec()), Arg::Number(order), Arg::Written(words)]);
+    if answer.code != GOOD {
+        return Err(answer.code);
+    }
+    let key = run.pattern(KEY_LIMIT);
+    Ok(Arrays { cursor: answer.memory[0].clone(), key })
+}
+
+/// Both walks, with a limit of steps.
+pub fn walks(run: &mut Run, block: &[u8], order: u64, limit: u64) {
+    for function in [Function::WalkByValue, Function::WalkInPlace] {
+        let sum = run.pattern(2 * 8);
+        run.call("walk summed", function, vec![Arg::Read(block.to_vec()), Arg::Number(order), Arg::Number(limit), Arg::Written(sum)]);
+    }
+}
+
+impl Arrays {
+    /// A step in both ways, with a lent key buffer of this length.
+    pub fn next(&mut self, run: &mut Run, block: &[u8], out_len: usize) -> Word {
+        let (out, row) = (run.pattern(out_len), run.pattern(13 * 8));
+        let lent = [&self.cursor, &self.key, &out, &row].map(|bytes| Arg::Written(bytes.clone()));
+        let args = [&[Arg::Read(block.to_vec())][..], &lent].concat();
+        run.call("step by value", Function::NextByValue, args.clone());
+        let Expected { code, memory, .. } = run.call("step", Function::Next, args);
+        let [cursor, key, out, row]: [Vec<u8>; 4] = memory.try_into().expect("four arrays");
+        (self.cursor, self.key) = (cursor, key);
+        match code {
+            GOOD => Word::Given(given(block, &words_of(&row), &out)),
+            DONE => Word::Done,
+            code => Word::Refused(code),
+        }
+    }
+
+    pub fn seek(&mut self, run: &mut Run, block: &[u8], target: &[u8]) -> Word {
+        let args = vec![
+            Arg::Read(block.to_vec()),
+            Arg::Read(target.to_vec()),
+            Arg::Written(self.cursor.clone()),
+            Arg::Written(self.key.clone()),
+            Arg::Written(bytes_of(&[123])),
+        ];
+        let answer = run.call("seek", Function::Seek, args);
+        (self.cursor, self.key) = (answer.memory[0].clone(), answer.memory[1].clone());
+        if matches!(answer.code, GOOD | DONE) { Word::Sought } else { Word::Refused(answer.code) }
+    }
+
+    pub fn is_empty(&self, run: &mut Run, block: &[u8]) -> Word {
+        let args = vec![Arg::Read(block.to_vec()), Arg::Read(self.cursor.clone()), Arg::Written(bytes_of(&[9]))];
+        let answer = run.call("cursor asked whether it is empty", Function::IsEmpty, args);
+        if answer.code == GOOD { Word::Empty(answer.memory[0][0] == 1) } else { Word::Refused(answer.code) }
+    }
+
+    pub fn apply(&mut self, run: &mut Run, block: &[u8], op: &Op, out_len: usize) -> Word {
+        let key_len = words_of(&self.cursor)[3];
+        scramble(run, &mut self.key, key_len);
+        match op {
+            Op::Next => self.next(run, block, out_len),
+            Op::IsEmpty => self.is_empty(run, block),
+            Op::Seek(target) => self.seek(run, block, target),
+        }
+    }
+}
+
+/// The row that the words tell of, with its bytes.
+fn given(block: &[u8], words: &[u64], out: &[u8]) -> Row {
+    let &[_, _, shared, _, suffix_len, kind, value_at, value_len, seq, has_expire, expire, has_create, create] = words else {
+        panic!("a row has 13 words")
+    };
+    let key = out[..(shared + suffix_len) as usize].to_vec();
+    let value = block[value_at as usize..(value_at + value_len) as usize].to_vec();
+    let time = |has: u64, time: u64| (has == 1).then_some(time as i64);
+    Row { key, kind: kind as u8, value, seq, expire: time(has_expire, expire), create: time(has_create, create) }
+}
+
+fn rust_word(iterator: &mut direct::Iterator, op: &Op) -> Result<Word, Stop> {
+    Ok(match op {
+        Op::Next => iterator.next()?.map_or(Word::Done, Word::Given),
+        Op::IsEmpty => Word::Empty(iterator.is_empty()),
+        Op::Seek(target) => iterator.seek(target).map(|()| Word::Sought)?,
+    })
+}
+
+/// The same operations on one cursor and one iterator of the Rust, over a block that the check accepts: nothing may differ.
+pub fn walk_accepted(run: &mut Run, kind: &'static str, block: &[u8], order: u64, ops: &[Op]) {
+    let mut cursor = open(run, block, order).expect("an accepted block opens");
+    let opened = Opened::new(block).expect("an accepted block");
+    let mut iterator = opened.iterator(order == 1).expect("an accepted block");
+    for (i, op) in ops.iter().enumerate() {
+        let here = cursor.apply(run, block, op, KEY_LIMIT);
+        let rust = rust_word(&mut iterator, op);
+        if rust.as_ref() == Ok(&here) {
+            run.tally.same(kind);
+        } else {
+            run.tally.differs(kind, block.len() + 8 * i, || format!("order {order}, block {}, ops {:?}: {here:?}, Rust {rust:?}", short_hex(block), &ops[..=i]));
+            return;
+        }
+    }
+}
+
+/// Operations on a block that may be refused: the library and the model only. Each goes on from the state that came back.
+pub fn walk_any(run: &mut Run, block: &[u8], order: u64, ops: &[Op], out_len: usize) {
+    let mut cursor = match open(run, block, order) {
+        Ok(cursor) => cursor,
+        // a seek tests only the offsets that it uses, so it may answer where opening refuses
+        Err(_) => Arrays { cursor: bytes_of(&[order, 0, 0, 0, 0]), key: run.pattern(KEY_LIMIT) },
+    };
+    for op in ops {
+        cursor.apply(run, block, op, out_len);
+    }
+}

@@ -1,0 +1,237 @@
+//! Rounds of inputs by chance, and the edges by name.
+use crate::inputs::{self, any_row, below, good_row, one_in, pick};
+use crate::reading::{self, Op};
+use crate::{building, forged, refused, rows, Run};
+use model::{KEY_LIMIT, MOST_RESTARTS};
+use slate_oracle::direct::{self, Row};
+
+/// Large enough for what the rounds build.
+const ROOM: usize = 6_000;
+
+pub fn round(run: &mut Run) {
+    single_rows(run);
+    buffers(run);
+    let keys = keys(run);
+    let block = if one_in(&mut run.rng, 3) { inputs::crafted_block(&mut run.rng, &keys) } else { built(run, &keys) };
+    good_block(run, &block, &keys);
+    damaged_block(run, &block, &keys);
+    for _ in 0..4 {
+        forged::builder(run);
+        forged::fit_of_lengths(run);
+    }
+}
+
+fn keys(run: &mut Run) -> Vec<Vec<u8>> {
+    let count = if one_in(&mut run.rng, 10) { 30 + below(&mut run.rng, 40) } else { 1 + below(&mut run.rng, 12) };
+    let mut keys = inputs::sorted_keys(&mut run.rng, count);
+    if one_in(&mut run.rng, 5) {
+        let (a, b) = (below(&mut run.rng, count), below(&mut run.rng, count));
+        keys.swap(a, b);
+    }
+    keys
+}
+
+fn built(run: &mut Run, keys: &[Vec<u8>]) -> Vec<u8> {
+    let rows: Vec<Row> = keys.iter().map(|key| good_row(&mut run.rng, key.clone())).collect();
+    let interval = pick(&mut run.rng, &[1, 2, 3, 4, 16, 1_024]);
+    let mut builder = direct::Builder::new(131_072, interval);
+    for row in &rows {
+        builder.add(row).expect("a good row");
+    }
+    builder.build().expect("a good block")
+}
+
+// ---- rows
+
+fn single_rows(run: &mut Run) {
+    for _ in 0..3 {
+        let row = any_row(&mut run.rng);
+        let shared: usize = pick(&mut run.rng, &[0, 0, 1, 2, 127, 128, 1_023, 1_024, 1_025, 5_000]);
+        let previous_len = pick(&mut run.rng, &[shared, shared + 1, shared.saturating_sub(1), 0, 1_024, 70_000]);
+        let size = direct::encode(shared as u32, &row).expect("a size").1;
+        let output_len = pick(&mut run.rng, &[size, size + 1, size + 20, size - 1, 0]);
+        rows::write_row(run, previous_len, shared, &row, output_len);
+        let (mut input, _) = direct::encode(shared as u32, &row).expect("bytes");
+        let after = below(&mut run.rng, 3);
+        input.extend(run.pattern(after));
+        rows::read_row(run, &input, previous_len);
+        for _ in 0..4 {
+            let damaged = inputs::damaged(&mut run.rng, &input);
+            rows::read_row(run, &damaged, previous_len);
+        }
+    }
+}
+
+// ---- builders
+
+/// Lent buffers exactly full, one short and empty; block sizes exact and one short.
+fn buffers(run: &mut Run) {
+    let count = 1 + below(&mut run.rng, 7);
+    let rows: Vec<Row> = (0..count).map(|_| any_row(&mut run.rng)).collect();
+    let interval = pick(&mut run.rng, &[1, 1, 2, 3, 16, 1_024]);
+    let taken: Vec<&Row> = rows.iter().filter(|row| (1..=KEY_LIMIT).contains(&row.key.len()) && row.value.len() <= 65_535).collect();
+    // room for all: the Rust reserves as many bytes
+    let mut builder = direct::Builder::new(1 << 20, interval);
+    let all = taken.iter().filter(|row| builder.add(row) == Ok(true)).count();
+    let exact = builder.build().map_or(0, |block| block.len());
+    let restarts = all.div_ceil(interval);
+    let any_size = below(&mut run.rng, 300);
+    let block_size = pick(&mut run.rng, &[exact, exact.saturating_sub(1), exact + 1, any_size, 131_072, 0]).min(131_072);
+    let any_len = below(&mut run.rng, exact + 20);
+    let data_len = pick(&mut run.rng, &[exact, exact, exact.saturating_sub(1), exact + 9, any_len, 0, exact + 4_000]);
+    let restarts_len = pick(&mut run.rng, &[restarts, restarts, restarts.saturating_sub(1), restarts + 3, 0]);
+    building::fill(run, block_size, interval, &rows, data_len, restarts_len);
+}
+
+// ---- blocks
+
+fn targets(run: &mut Run, keys: &[Vec<u8>], count: usize) -> Vec<Vec<u8>> {
+    (0..count).map(|_| inputs::target(&mut run.rng, keys)).collect()
+}
+
+fn ops(run: &mut Run, keys: &[Vec<u8>], count: usize) -> Vec<Op> {
+    (0..count).map(|_| match below(&mut run.rng, 6) {
+        0 => Op::Seek(inputs::target(&mut run.rng, keys)),
+        1 => Op::IsEmpty,
+        _ => Op::Next,
+    }).collect()
+}
+
+fn good_block(run: &mut Run, block: &[u8], keys: &[Vec<u8>]) {
+    let accepted = reading::check(run, block) == 0;
+    for order in [0, 1] {
+        let mixed = ops(run, keys, 24);
+        let rest = vec![Op::Next; keys.len() + 2];
+        if accepted {
+            reading::walk_accepted(run, "scan (Rust)", block, order, &rest);
+            reading::walk_accepted(run, "mixed walk (Rust)", block, order, &mixed);
+        }
+        let out_len = pick(&mut run.rng, &[0, 1, 2, 3, 4, 5, 1_023]);
+        reading::walk_any(run, block, order, &mixed, out_len);
+        let limit = pick(&mut run.rng, &[0, 1, keys.len() as u64 - 1, keys.len() as u64, keys.len() as u64 + 1, u64::MAX]);
+        reading::walks(run, block, order, limit);
+    }
+    if !accepted {
+        let targets = targets(run, keys, 4);
+        refused::compare(run, block, &targets);
+    }
+    forge(run, block, keys, 8);
+}
+
+/// The places where the rows of a block start, as far as they can be read.
+fn starts(block: &[u8]) -> Vec<usize> {
+    let mut starts = vec![0];
+    if let Ok(mut cursor) = model::cursor::Cursor::open(block, model::cursor::Order::Ascending) {
+        while let Ok(Some(row)) = cursor.next(block, &mut [0; KEY_LIMIT]) {
+            starts.push(row.next);
+        }
+    }
+    starts
+}
+
+fn forge(run: &mut Run, block: &[u8], keys: &[Vec<u8>], times: usize) {
+    let starts = starts(block);
+    let targets = targets(run, keys, 1);
+    forged::cursors(run, block, &starts, &targets, times);
+}
+
+fn damaged_block(run: &mut Run, block: &[u8], keys: &[Vec<u8>]) {
+    for _ in 0..4 {
+        let mut damaged = inputs::damaged(&mut run.rng, block);
+        if one_in(&mut run.rng, 4) {
+            damaged = inputs::damaged(&mut run.rng, &damaged);
+        }
+        let accepted = reading::check(run, &damaged) == 0;
+        let targets = targets(run, keys, 3);
+        for order in [0, 1] {
+            let mixed = ops(run, keys, 8);
+            if accepted {
+                reading::walk_accepted(run, "mixed walk on damage that is accepted (Rust)", &damaged, order, &mixed);
+            } else {
+                reading::walk_any(run, &damaged, order, &mixed, KEY_LIMIT);
+            }
+            reading::walks(run, &damaged, order, u64::MAX);
+        }
+        if !accepted {
+            refused::compare(run, &damaged, &targets);
+        }
+        forge(run, &damaged, keys, 4);
+    }
+}
+
+// ---- edges by name
+
+fn plain(key: &[u8], value_len: usize) -> Row {
+    Row { key: key.to_vec(), kind: 0, value: vec![b'v'; value_len], seq: 1, expire: None, create: None }
+}
+
+pub fn edges(run: &mut Run) {
+    case_11(run);
+    lengths(run);
+    settings(run);
+    forged::most_restarts(run);
+    most_restarts(run);
+    // the block's bytes of the cases 1 to 4
+    for (size, interval) in [(31, 16), (30, 16), (34, 1), (33, 1)] {
+        building::fill(run, size, interval, &[plain(b"a", 0), Row { seq: 2, ..plain(b"ab", 0) }], ROOM, 4);
+    }
+}
+
+/// "A restart at 65,535 is taken; at 65,536 it answers 5."
+fn case_11(run: &mut Run) {
+    for (first, timed) in [(65_534, false), (65_535, false), (65_536, false), (65_536, true)] {
+        // share, suffix, three bytes of value length, the key and 9
+        let mut row = plain(b"a", first - 15);
+        if timed {
+            row = Row { expire: Some(1), ..plain(b"a", first - 23) };
+        }
+        let rows = [row, plain(b"b", 0), plain(b"c", 1)];
+        for interval in [1, 2] {
+            if let Some(block) = building::fill(run, 131_072, interval, &rows, 70_000, 4) {
+                let keys: Vec<Vec<u8>> = rows.iter().map(|row| row.key.clone()).collect();
+                good_block(run, &block, &keys);
+            }
+        }
+    }
+}
+
+/// Keys and values at their limits and one past, alone and as rows of a block.
+fn lengths(run: &mut Run) {
+    for key in [0, 1, 1_023, 1_024, 1_025] {
+        for value in [0, 1, 65_535, 65_536] {
+            for kind in [0, 1, 2] {
+                let row = Row { kind, ..plain(&vec![b'k'; key], value) };
+                rows::write_row(run, 0, 0, &row, 70_000);
+                let input = direct::encode(0, &row).expect("bytes").0;
+                rows::read_row(run, &input, 0);
+                if let Some(block) = building::fill(run, 131_072, 16, &[row], 70_000, 1) {
+                    good_block(run, &block, &[vec![b'k'; key]]);
+                }
+            }
+        }
+    }
+}
+
+fn settings(run: &mut Run) {
+    for block_size in [0, 1, 131_071, 131_072, 131_073, usize::MAX] {
+        for interval in [0, 1, 2, 16, 1_023, 1_024, 1_025, usize::MAX] {
+            building::open(run, block_size, interval);
+        }
+    }
+}
+
+/// As many restarts as a block can have: 13 bytes each up to 65,535, and one of them past.
+fn most_restarts(run: &mut Run) {
+    let mut builder = direct::Builder::new(131_072, 1);
+    let rows: Vec<Row> = (0..MOST_RESTARTS).map(|i| plain(&[(i / 20) as u8], 0)).collect();
+    for row in &rows {
+        builder.add(row).expect("13 bytes each");
+    }
+    let block = builder.build().expect("a block");
+    reading::check(run, &block);
+    for order in [0, 1] {
+        reading::walks(run, &block, order, u64::MAX);
+        let ops = [Op::Seek(vec![7]), Op::Next, Op::Seek(vec![251]), Op::Next, Op::Seek(vec![252, 1]), Op::Next, Op::IsEmpty];
+        reading::walk_accepted(run, "mixed walk (Rust)", &block, order, &ops);
+    }
+}

@@ -1,0 +1,63 @@
+//! What was compared, what differs, and what differs as it is listed to.
+use std::collections::BTreeMap;
+
+#[derive(Default)]
+pub struct Tally {
+    same: BTreeMap<&'static str, u64>,
+    listed: BTreeMap<&'static str, Listed>,
+    differ: u64,
+    /// the smallest input of each kind that differs
+    smallest: BTreeMap<&'static str, (usize, String)>,
+}
+
+struct Listed {
+    times: u64,
+    size: usize,
+    input: String,
+}
+
+impl Tally {
+    pub fn same(&mut self, kind: &'static str) {
+        *self.same.entry(kind).or_default() += 1;
+    }
+
+    pub fn differs(&mut self, kind: &'static str, size: usize, what: impl FnOnce() -> String) {
+        self.differ += 1;
+        if self.smallest.get(kind).is_none_or(|known| size < known.0) {
+            self.smallest.insert(kind, (size, what()));
+        }
+    }
+
+    /// A difference from the Rust that the table has.
+    pub fn listed(&mut self, name: &'static str, size: usize, input: impl FnOnce() -> String) {
+        let listed = self.listed.entry(name).or_insert(Listed { times: 0, size: usize::MAX, input: String::new() });
+        listed.times += 1;
+        if size < listed.size {
+            listed.size = size;
+            listed.input = input();
+        }
+    }
+
+    /// Prints all, and says whether nothing differs.
+    pub fn report(&self) -> bool {
+        for (kind, times) in &self.same {
+            println!("{times:>10} same    {kind}");
+        }
+        for (name, listed) in &self.listed {
+            println!("{:>10} listed  {name}", listed.times);
+            println!("{:>19} smallest: {}", "", cut(&listed.input));
+        }
+        for (kind, (_, what)) in &self.smallest {
+            println!("DIFFERS  {kind}: {what}");
+        }
+        let listed: u64 = self.listed.values().map(|listed| listed.times).sum();
+        let compared = self.same.values().sum::<u64>() + listed + self.differ;
+        println!("{compared} compared, {} differ, {listed} listed differences", self.differ);
+        self.differ == 0
+    }
+}
+
+fn cut(text: &str) -> String {
+    const MOST: usize = 300;
+    if text.len() <= MOST { text.into() } else { format!("{}.. ({} characters)", &text[..MOST], text.len()) }
+}
