@@ -36,10 +36,11 @@ fn new_calls(run: &mut Run, block_size: usize, interval: usize) -> Expected {
 pub fn open(run: &mut Run, block_size: usize, interval: usize) -> Option<Vec<u8>> {
     let answer = new_calls(run, block_size, interval);
     let settings = Settings { block_size, interval };
+    let shown = || format!("block size {block_size}, interval {interval}");
     match (answer.code, differences::first(&differences::SETTINGS, &settings)) {
         (GOOD, None) => return Some(answer.memory[0].clone()),
-        (code, Some(known)) if known.here == code => run.tally.listed(known.name, block_size, || format!("block size {block_size}, interval {interval}")),
-        (code, _) => run.tally.differs("builder opened (Rust)", 8, || format!("block size {block_size}, interval {interval}: {code}")),
+        (code, Some(known)) if known.here == code => run.tally.listed(known.name, block_size, shown),
+        (code, _) => run.tally.differs("builder opened (Rust)", 8, || format!("{}: {code}", shown())),
     }
     None
 }
@@ -74,13 +75,15 @@ impl Arrays {
     }
 
     pub fn is_empty(&self, run: &mut Run) -> bool {
-        let answer = run.call("builder asked whether it is empty", Function::BuilderIsEmpty, vec![Arg::Read(self.builder.clone()), Arg::Written(bytes_of(&[9]))]);
+        let args = vec![Arg::Read(self.builder.clone()), Arg::Written(bytes_of(&[9]))];
+        let answer = run.call("builder asked whether it is empty", Function::BuilderIsEmpty, args);
         answer.memory[0][0] == 1
     }
 
     /// The block, or the refusal.
     pub fn build(&self, run: &mut Run) -> Result<Vec<u8>, u8> {
-        let args = vec![Arg::Read(self.builder.clone()), Arg::Written(self.data.clone()), Arg::Read(self.restarts.clone()), Arg::Written(bytes_of(&[5]))];
+        let (builder, data, restarts) = (self.builder.clone(), self.data.clone(), self.restarts.clone());
+        let args = vec![Arg::Read(builder), Arg::Written(data), Arg::Read(restarts), Arg::Written(bytes_of(&[5]))];
         let answer = run.call("block built", Function::Build, args);
         if answer.code != GOOD {
             return Err(answer.code);
@@ -128,10 +131,14 @@ impl Beside {
     }
 }
 
+fn shown(offer: &Offer) -> String {
+    format!("key {}, {} value bytes after {} data bytes", short_hex(&offer.row.key), offer.row.value.len(), offer.used)
+}
+
 fn compare_fit(run: &mut Run, offer: &Offer, code: u8, rust: Result<bool, Stop>) {
     let kind = "fit question (Rust)";
     let size = offer.row.key.len() + offer.row.value.len();
-    let shown = || format!("key {}, {} value bytes after {} data bytes: {code}, Rust {rust:?}", short_hex(&offer.row.key), offer.row.value.len(), offer.used);
+    let shown = || format!("{}: {code}, Rust {rust:?}", shown(offer));
     match (code, &rust, differences::first(&differences::FIT, offer)) {
         (0, Ok(true), None) | (4, Ok(false), None) => run.tally.same(kind),
         (code, _, Some(known)) if known.here == code => run.tally.listed(known.name, size, shown),
@@ -142,7 +149,7 @@ fn compare_fit(run: &mut Run, offer: &Offer, code: u8, rust: Result<bool, Stop>)
 fn compare_add(run: &mut Run, offer: &Offer, code: u8, rust: Result<bool, Stop>) {
     let kind = "row added (Rust)";
     let size = offer.row.key.len() + offer.row.value.len() + offer.used;
-    let shown = || format!("key {}, {} value bytes after {} data bytes: {code}, Rust {rust:?}", short_hex(&offer.row.key), offer.row.value.len(), offer.used);
+    let shown = || format!("{}: {code}, Rust {rust:?}", shown(offer));
     match (code, &rust, differences::first(&differences::ADD, offer)) {
         (0, Ok(true), None) | (4, Ok(false), _) | (1, Err(Stop::EmptyKey), _) => run.tally.same(kind),
         (code, _, Some(known)) if known.here == code && known.rust.may(&rust) => run.tally.listed(known.name, size, shown),

@@ -104,16 +104,24 @@ fn row_end(place: &Place) -> Option<usize> {
 
 pub static VARINT: [Difference<Vec<u8>>; 2] = [
     entry("a varint that the input ends in: the Rust panics, 01 refuses 9", 9, Rust::Panics, |input| spelled(input, 0) == Spelled::Ends),
-    entry("a varint's fifth byte above 15: the Rust cuts it or reads on, 01 refuses 10", 10, Rust::Varies, |input| spelled(input, 0) == Spelled::FifthAbove15),
+    entry("a varint's fifth byte above 15: the Rust cuts it or reads on, 01 refuses 10", 10, Rust::Varies, |input| {
+        spelled(input, 0) == Spelled::FifthAbove15
+    }),
 ];
 
 /// What both reads of a row begin with, as 01 orders the tests.
 fn head_table<'a>() -> [Difference<Place<'a>>; 6] {
     [
         entry("a row that ends in a varint: the Rust panics, 01 refuses 9", 9, Rust::Panics, |p| head(p).is_err_and(|s| s == Spelled::Ends)),
-        entry("a row with a fifth varint byte above 15: the Rust reads on, 01 refuses 10", 10, Rust::Varies, |p| head(p).is_err_and(|s| s == Spelled::FifthAbove15)),
-        entry("a share that is not 0 at a restart: the Rust takes it ascending, else panics, 01 refuses 13", 13, Rust::Varies, |p| p.restart && has(p, |_, h| h.shared != 0)),
-        entry("a share longer than the key before: the Rust panics, or decoding one row takes it, 01 refuses 13", 13, Rust::Varies, |p| has(p, |p, h| h.shared > p.previous_len)),
+        entry("a row with a fifth varint byte above 15: the Rust reads on, 01 refuses 10", 10, Rust::Varies, |p| {
+            head(p).is_err_and(|s| s == Spelled::FifthAbove15)
+        }),
+        entry("a share that is not 0 at a restart: the Rust takes it ascending, else panics, 01 refuses 13", 13, Rust::Varies, |p| {
+            p.restart && has(p, |_, h| h.shared != 0)
+        }),
+        entry("a share longer than the key before: the Rust panics, or decoding one row takes it, 01 refuses 13", 13, Rust::Varies, |p| {
+            has(p, |p, h| h.shared > p.previous_len)
+        }),
         entry("a row with an empty key: the Rust reads it, 01 refuses 1", 1, Rust::Varies, |p| has(p, |_, h| h.shared + h.suffix == 0)),
         entry("a row with a key over 1,024: the Rust reads it, 01 refuses 2", 2, Rust::Varies, |p| has(p, |_, h| h.shared + h.suffix > KEY_LIMIT)),
     ]
@@ -126,14 +134,18 @@ fn row_table<'a>() -> [Difference<Place<'a>>; 6] {
         entry("unknown flags: both refuse, 01 with 11", 11, Rust::Errors, |p| flags(p).is_some_and(|flags| flags >= 16)),
         entry("tombstone with merge: both refuse, 01 with 12", 12, Rust::Errors, |p| flags(p).is_some_and(|flags| flags & 9 == 9)),
         entry("a row whose times are missing: the Rust panics, 01 refuses 9", 9, Rust::Panics, |p| row_end(p).is_some_and(|end| end > p.data.len())),
-        entry("a row that runs past the next restart: the Rust reads it, 01 refuses 16", 16, Rust::Varies, |p| row_end(p).is_some_and(|end| end > p.region_end)),
+        entry("a row that runs past the next restart: the Rust reads it, 01 refuses 16", 16, Rust::Varies, |p| {
+            row_end(p).is_some_and(|end| end > p.region_end)
+        }),
     ]
 }
 
 fn key_table<'a>() -> [Difference<Place<'a>>; 2] {
     [
         entry("a key whose bytes are missing: the Rust panics, 01 refuses 9", 9, Rust::Panics, |p| has(p, |p, h| h.end + h.suffix > p.data.len())),
-        entry("a key that runs past the next restart: the Rust reads it, 01 refuses 16", 16, Rust::Varies, |p| has(p, |p, h| h.end + h.suffix > p.region_end)),
+        entry("a key that runs past the next restart: the Rust reads it, 01 refuses 16", 16, Rust::Varies, |p| {
+            has(p, |p, h| h.end + h.suffix > p.region_end)
+        }),
     ]
 }
 
@@ -241,7 +253,9 @@ pub static TRAILER: [Difference<Vec<u8>>; 6] = [
     entry("a trailer longer than the block: the Rust panics, 01 refuses 14", 14, Rust::Panics, |b| 2 * count(b) + 2 > b.len()),
     entry("a restart count of 0: the Rust reads rows ascending, none descending, 01 refuses 14", 14, Rust::Varies, |b| count(b) == 0),
     entry("a first restart that is not 0: the Rust reads on, 01 refuses 15", 15, Rust::Varies, |b| offsets(b).0[0] != 0),
-    entry("offsets that don't rise: the Rust reads on, 01 refuses 15", 15, Rust::Varies, |b| offsets(b).0.windows(2).any(|pair| pair[0] >= pair[1])),
+    entry("offsets that don't rise: the Rust reads on, 01 refuses 15", 15, Rust::Varies, |b| {
+        offsets(b).0.windows(2).any(|pair| pair[0] >= pair[1])
+    }),
     entry("an offset not below the data length: the Rust reads on or panics, 01 refuses 15", 15, Rust::Varies, |b| {
         let (offsets, data_len) = offsets(b);
         offsets.iter().any(|offset| *offset >= data_len)
@@ -251,3 +265,4 @@ pub static TRAILER: [Difference<Vec<u8>>; 6] = [
 /// Not in a table, since what 01 gives here is no number: see `reading`.
 pub const OPENING: &str = "a first restart whose key can't be read: opening it the Rust panics, 01 opens it";
 pub const FALLS: &str = "a descending seek where keys fall: the Rust takes the row before the first greater one, 01 the last at or below";
+pub const LANDING: &str = "a seek that lands on a row with bad flags: the Rust shows them at the step after it, 01 refuses the seek";

@@ -1,7 +1,10 @@
-//! All small inputs: varints at every edge, and all blocks of up to four rows over few keys.
-use crate::reading::{self, Op};
+//! All small inputs: varints at every edge, all blocks of up to four rows over few keys, a few small blocks with every cursor and
+//! with each byte damaged.
+use crate::calls::bytes_of;
+use crate::reading::{self, Arrays, Op};
 use crate::{building, refused, rows, Run};
-use slate_oracle::direct::Row;
+use model::KEY_LIMIT;
+use slate_oracle::direct::{self, Row};
 
 const LETTERS: [u8; 2] = [b'a', b'b'];
 const LONGEST_KEY: usize = 2;
@@ -11,6 +14,11 @@ const INTERVALS: [usize; 3] = [1, 2, 3];
 
 pub fn all(run: &mut Run) {
     varints(run);
+    for block in small_blocks() {
+        every_cursor(run, &block);
+        every_damage(run, &block);
+    }
+    moved_offsets(run);
     let keys: Vec<Vec<u8>> = words(LONGEST_KEY).into_iter().filter(|word| !word.is_empty()).collect();
     let targets = words(LONGEST_TARGET);
     let mut blocks = vec![Vec::new()];
@@ -51,6 +59,96 @@ fn one_block(run: &mut Run, interval: usize, keys: &[Vec<u8>], targets: &[Vec<u8
             let ops: Vec<Op> = targets.iter().flat_map(|target| [Op::Seek(target.clone()), Op::Next]).collect();
             reading::walk_any(run, &block, order, &ops, 2);
         }
+    }
+}
+
+// ---- small blocks
+
+/// The row of key "a", as in 01's case 1.
+const ROW: [u8; 13] = [0, 1, 0, 0x61, 0, 0, 0, 0, 0, 0, 0, 1, 0];
+
+/// The blocks of 01's cases 2, 4 and 8, and one with times, a tombstone and a merge.
+fn small_blocks() -> Vec<Vec<u8>> {
+    let row = |key: &[u8], kind, value: &[u8], time| Row { key: key.to_vec(), kind, value: value.to_vec(), seq: 2, expire: time, create: time };
+    let case_2 = [row(b"a", 0, b"", None), row(b"ab", 0, b"x", None)];
+    let case_8 = [b"a", b"b", b"b", b"b", b"c"].map(|key| row(key, 0, b"", None));
+    let kinds = [row(b"a", 1, b"", Some(-1)), row(b"aa", 2, b"xy", None), row(b"ab", 0, b"z", Some(5))];
+    [(16, &case_2[..]), (1, &case_2), (2, &case_8), (2, &kinds), (16, &kinds)].map(|(interval, rows)| built(interval, rows)).to_vec()
+}
+
+fn built(interval: usize, rows: &[Row]) -> Vec<u8> {
+    let mut builder = direct::Builder::new(4096, interval);
+    for row in rows {
+        assert_eq!(builder.add(row), Ok(true));
+    }
+    builder.build().expect("a block")
+}
+
+/// Every direction, region, position, mark and some keys.
+fn every_cursor(run: &mut Run, block: &[u8]) {
+    let count = u16::from_be_bytes([block[block.len() - 2], block[block.len() - 1]]) as u64;
+    for at in 0..block.len() as u64 + 2 {
+        for (order, region) in [0, 1].into_iter().flat_map(|order| (0..=count).map(move |region| (order, region))) {
+            for (key_len, done) in [(0, 0), (1, 0), (2, 0), (1_024, 0), (1_025, 0), (0, 1), (1_025, 1)] {
+                let key = vec![b'a'; KEY_LIMIT];
+                let cursor = Arrays { cursor: bytes_of(&[order, region, at, key_len, done]), key };
+                for out_len in [1, 2] {
+                    cursor.clone().next(run, block, out_len);
+                }
+                cursor.is_empty(run, block);
+            }
+        }
+    }
+}
+
+/// Each byte set to what means something somewhere, and each cut at the front and at the end.
+fn every_damage(run: &mut Run, block: &[u8]) {
+    const BYTES: [u8; 16] = [0, 1, 2, 3, 4, 8, 9, 12, 13, 14, 15, 16, 26, 127, 128, 255];
+    let mut blocks: Vec<Vec<u8>> = (0..=block.len()).flat_map(|at| [block[..at].to_vec(), block[at..].to_vec()]).collect();
+    for (at, byte) in (0..block.len()).flat_map(|at| BYTES.map(|byte| (at, byte))) {
+        let mut damaged = block.to_vec();
+        damaged[at] = byte;
+        blocks.push(damaged);
+    }
+    let targets = ["", "a", "ab", "b", "bb", "c"].map(|target| target.as_bytes().to_vec());
+    for block in blocks {
+        any_block(run, &block, &targets);
+    }
+}
+
+/// Three rows of 13 bytes with all offsets of interest: rising or not, at rows and inside them.
+fn moved_offsets(run: &mut Run) {
+    const OFFSETS: [u8; 6] = [0, 1, 13, 26, 38, 39];
+    let targets = [vec![], b"a".to_vec(), b"b".to_vec()];
+    for a in OFFSETS {
+        for (b, c) in OFFSETS.into_iter().flat_map(|b| OFFSETS.map(|c| (b, c))) {
+            let block = [&ROW[..], &ROW, &ROW, &[0, a, 0, b, 0, c, 0, 3]].concat();
+            any_block(run, &block, &targets);
+            for at in [0, 1, 12, 13, 14, 26, 39, 40] {
+                for (order, region) in [0, 1].into_iter().flat_map(|order| (0..=3).map(move |region| (order, region))) {
+                    let cursor = Arrays { cursor: bytes_of(&[order, region, at, 1, 0]), key: vec![b'a'; KEY_LIMIT] };
+                    cursor.clone().next(run, &block, 1);
+                }
+            }
+        }
+    }
+}
+
+/// A block of any bytes, checked, scanned and sought in, both ways.
+fn any_block(run: &mut Run, block: &[u8], targets: &[Vec<u8>]) {
+    let accepted = reading::check(run, block) == 0;
+    let seeks = targets.iter().flat_map(|target| [Op::Seek(target.clone()), Op::Next]);
+    let ops: Vec<Op> = vec![Op::Next; 6].into_iter().chain(seeks).collect();
+    for order in [0, 1] {
+        if accepted {
+            reading::walk_accepted(run, "damage that is accepted (Rust)", block, order, &ops);
+        } else {
+            reading::walk_any(run, block, order, &ops, KEY_LIMIT);
+        }
+        reading::walks(run, block, order, u64::MAX);
+    }
+    if !accepted {
+        refused::compare(run, block, targets);
     }
 }
 

@@ -136,9 +136,9 @@ pub fn fit_of_lengths(run: &mut Run) {
     let interval = pick(&mut run.rng, &[1, 2, 1_024]);
     let words = [131_072, interval, used, rows.div_ceil(interval), rows, 3];
     let key = key_bytes(run, 3);
-    let row = bytes_of(&[0, 1, 0, 0, 0, 0]);
-    let args = vec![Arg::Read(bytes_of(&words)), Arg::Read(key), Arg::Number(data_len), Arg::Number(restarts_len), Arg::Read(b"ab".to_vec()), Arg::Read(Vec::new()), Arg::Read(row)];
-    run.call("fit question of a forged builder", Function::WouldFit, args);
+    let state = [Arg::Read(bytes_of(&words)), Arg::Read(key), Arg::Number(data_len), Arg::Number(restarts_len)];
+    let row = [Arg::Read(b"ab".to_vec()), Arg::Read(Vec::new()), Arg::Read(bytes_of(&[0, 1, 0, 0, 0, 0]))];
+    run.call("fit question of a forged builder", Function::WouldFit, [&state[..], &row].concat());
 }
 
 fn wrong_builder_words(run: &mut Run, arrays: &building::Arrays, row: &Row) {
@@ -159,7 +159,8 @@ fn wrong_builder_words(run: &mut Run, arrays: &building::Arrays, row: &Row) {
     run.call(kind, Function::Build, vec![read(&builder), lent(&arrays.data), read(&arrays.restarts), lent(&bytes_of(&[4]))]);
     run.call(kind, Function::BuilderNew, [&[lent(&builder)][..], &numbers].concat());
     let output = run.pattern(200);
-    run.call(kind, Function::Encode, vec![lent(&output), Arg::Number(3), Arg::Number(2), row_args[0].clone(), row_args[1].clone(), read(&fields), lent(&bytes_of(&[4]))]);
+    let head = [lent(&output), Arg::Number(3), Arg::Number(2)];
+    run.call(kind, Function::Encode, [&head[..], &row_args, &[lent(&bytes_of(&[4]))]].concat());
     let row_words = length(run, 13) * 8;
     let words = run.pattern(row_words);
     run.call(kind, Function::Decode, vec![read(&arrays.data), Arg::Number(3), lent(&words)]);

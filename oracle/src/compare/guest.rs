@@ -1,5 +1,5 @@
 //! The process that has the proved library: calls go to it in batches, and each answer is held to the model's.
-use crate::calls::{Arg, Call, Expected};
+use crate::calls::{words_of, Arg, Call, Expected};
 use crate::tally::Tally;
 use std::io::{Read, Write};
 use std::process::{Child, ChildStdin, ChildStdout, Command, Stdio};
@@ -103,7 +103,7 @@ impl Guest {
                 at += bytes.len();
             }
             match difference(&expected, code, stray, &memory) {
-                None => tally.same(kind),
+                None => tally.answered(kind, code),
                 Some(what) => tally.differs(kind, call.size(), || format!("the library {what}\n{}", shown(&call))),
             }
         }
@@ -119,20 +119,25 @@ impl Guest {
     }
 }
 
-/// A call as text; trailing equal bytes, as those of a lent buffer, are counted.
+/// A call as text. Of an array that is written, which is mostly a pattern, the first bytes are shown, and what words they are.
 fn shown(call: &Call) -> String {
+    const FIRST: usize = 64;
     let mut text = format!("  {:?}", call.function);
     for arg in &call.args {
         text += "\n    ";
         text += &match arg {
             Arg::Number(number) => number.to_string(),
             Arg::Read(bytes) => format!("read    {} bytes: {}", bytes.len(), short_hex(bytes)),
-            Arg::Written(bytes) => format!("written {} bytes: {}", bytes.len(), short_hex(bytes)),
+            Arg::Written(bytes) => {
+                let first = &bytes[..bytes.len().min(FIRST)];
+                format!("written {} bytes: {}, as words {:?}", bytes.len(), short_hex(first), words_of(first))
+            }
         };
     }
     text
 }
 
+/// A long run of one byte at the end is counted.
 pub fn short_hex(bytes: &[u8]) -> String {
     let tail = bytes.iter().rev().take_while(|byte| Some(*byte) == bytes.last()).count();
     if tail > 16 {

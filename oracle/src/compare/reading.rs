@@ -129,7 +129,8 @@ pub fn walk_accepted(run: &mut Run, kind: &'static str, block: &[u8], order: u64
         if rust.as_ref() == Ok(&here) {
             run.tally.same(kind);
         } else {
-            run.tally.differs(kind, block.len() + 8 * i, || format!("order {order}, block {}, ops {:?}: {here:?}, Rust {rust:?}", short_hex(block), &ops[..=i]));
+            let asked = || format!("order {order}, block {}, ops {:?}", short_hex(block), &ops[..=i]);
+            run.tally.differs(kind, block.len() + 8 * i, || format!("{}: {here:?}, Rust {rust:?}", asked()));
             return;
         }
     }

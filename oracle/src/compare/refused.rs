@@ -1,6 +1,6 @@
 //! Blocks that the check refuses: what the Rust does beside 01. An iterator of the Rust is opened first, so here too: a scan is
 //! opening and steps, a seek is opening, the seek and steps.
-use crate::differences::{self, Known, Rust, FALLS, OPENING, TRAILER};
+use crate::differences::{self, Known, Rust, FALLS, LANDING, OPENING, TRAILER};
 use crate::guest::short_hex;
 use crate::rows::row_at;
 use crate::Run;
@@ -14,21 +14,24 @@ struct Here {
     rows: Vec<Row>,
     first_at: Option<usize>,
     end: Option<Refusal>,
+    sought: bool,
 }
 
 struct There {
     rows: Vec<Row>,
     end: Option<Stop>,
     opened: bool,
+    sought: bool,
 }
 
 fn model_tells(block: &[u8], order: Order, target: Option<&[u8]>) -> Here {
-    let (mut rows, mut first_at) = (Vec::new(), None);
+    let (mut rows, mut first_at, mut sought) = (Vec::new(), None, false);
     let mut tell = || -> Result<(), Refusal> {
         let mut cursor = Cursor::open(block, order)?;
         if let Some(target) = target {
             cursor.seek(block, target)?;
         }
+        sought = true;
         let mut key = [0; KEY_LIMIT];
         while let Some(row) = cursor.next(block, &mut key)? {
             first_at = first_at.or(Some(row.start));
@@ -37,19 +40,20 @@ fn model_tells(block: &[u8], order: Order, target: Option<&[u8]>) -> Here {
         Ok(())
     };
     let end = tell().err();
-    Here { rows, first_at, end }
+    Here { rows, first_at, end, sought }
 }
 
 /// At most a row more than there are bytes is read: where 01 refuses a block, the Rust may give the same row for ever.
 fn rust_tells(block: &[u8], order: Order, target: Option<&[u8]>) -> There {
-    let (mut rows, mut is_open) = (Vec::new(), false);
+    let (mut rows, mut opened_it, mut sought) = (Vec::new(), false, false);
     let mut tell = || -> Result<(), Stop> {
         let opened = Opened::new(block)?;
         let mut iterator = opened.iterator(order == Order::Descending)?;
-        is_open = true;
+        opened_it = true;
         if let Some(target) = target {
             iterator.seek(target)?;
         }
+        sought = true;
         while let Some(row) = iterator.next()? {
             rows.push(row);
             if rows.len() > block.len() {
@@ -59,7 +63,7 @@ fn rust_tells(block: &[u8], order: Order, target: Option<&[u8]>) -> There {
         Ok(())
     };
     let end = tell().err();
-    There { rows, end, opened: is_open }
+    There { rows, end, opened: opened_it, sought }
 }
 
 /// A region's good rows, read from its start, as place and key, and the first fault.
@@ -115,8 +119,9 @@ impl<'a> Question<'a> {
 
     fn shown(&self) -> String {
         let target = self.target.map_or(String::new(), |target| format!(", seek {}", short_hex(target)));
-        let (here, there) = (&self.here, &self.there);
-        format!("{:?}{target}, block {}: {} rows, then {:?}; Rust {} rows, then {:?}", self.order, short_hex(self.block), here.rows.len(), here.end, there.rows.len(), there.end)
+        let here = format!("{} rows, then {:?}", self.here.rows.len(), self.here.end);
+        let there = format!("{} rows, then {:?}", self.there.rows.len(), self.there.end);
+        format!("{:?}{target}, block {}: {here}; Rust {there}", self.order, short_hex(self.block))
     }
 
     fn size(&self) -> usize {
@@ -152,6 +157,7 @@ impl<'a> Question<'a> {
     /// A fault that 01 refuses, and the Rust's way with it.
     fn at_fault(&self, run: &mut Run, known: Known) {
         match known.rust {
+            Rust::Errors if self.is_as_known(known) && self.here.sought != self.there.sought => self.listed(run, LANDING),
             Rust::Errors if self.is_as_known(known) => self.same(run),
             _ => self.listed(run, known.name),
         }

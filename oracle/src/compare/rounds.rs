@@ -11,6 +11,9 @@ const ROOM: usize = 6_000;
 pub fn round(run: &mut Run) {
     single_rows(run);
     buffers(run);
+    if one_in(&mut run.rng, 20) {
+        near_the_last_restart(run);
+    }
     let keys = keys(run);
     let block = if one_in(&mut run.rng, 3) { inputs::crafted_block(&mut run.rng, &keys) } else { built(run, &keys) };
     good_block(run, &block, &keys);
@@ -83,6 +86,17 @@ fn buffers(run: &mut Run) {
     building::fill(run, block_size, interval, &rows, data_len, restarts_len);
 }
 
+/// Data that ends around 65,535, where no restart may lie any more, in a block that has room for more.
+fn near_the_last_restart(run: &mut Run) {
+    let ends_at = 65_533 + below(&mut run.rng, 6);
+    // share, suffix, three bytes of value length, the key and 9
+    let first = plain(b"a", ends_at - 15);
+    let more = (0..3).map(|_| any_row(&mut run.rng));
+    let rows: Vec<Row> = [first].into_iter().chain(more).collect();
+    let interval = pick(&mut run.rng, &[1, 2, 3]);
+    building::fill(run, 131_072, interval, &rows, 140_000, 4);
+}
+
 // ---- blocks
 
 fn targets(run: &mut Run, keys: &[Vec<u8>], count: usize) -> Vec<Vec<u8>> {
@@ -146,7 +160,7 @@ fn damaged_block(run: &mut Run, block: &[u8], keys: &[Vec<u8>]) {
         for order in [0, 1] {
             let mixed = ops(run, keys, 8);
             if accepted {
-                reading::walk_accepted(run, "mixed walk on damage that is accepted (Rust)", &damaged, order, &mixed);
+                reading::walk_accepted(run, "damage that is accepted (Rust)", &damaged, order, &mixed);
             } else {
                 reading::walk_any(run, &damaged, order, &mixed, KEY_LIMIT);
             }

@@ -4,6 +4,8 @@ use std::collections::BTreeMap;
 #[derive(Default)]
 pub struct Tally {
     same: BTreeMap<&'static str, u64>,
+    /// how often each code was answered, of calls of the library
+    codes: BTreeMap<&'static str, BTreeMap<u8, u64>>,
     listed: BTreeMap<&'static str, Listed>,
     differ: u64,
     /// the smallest input of each kind that differs
@@ -19,6 +21,11 @@ struct Listed {
 impl Tally {
     pub fn same(&mut self, kind: &'static str) {
         *self.same.entry(kind).or_default() += 1;
+    }
+
+    pub fn answered(&mut self, kind: &'static str, code: u8) {
+        self.same(kind);
+        *self.codes.entry(kind).or_default().entry(code).or_default() += 1;
     }
 
     pub fn differs(&mut self, kind: &'static str, size: usize, what: impl FnOnce() -> String) {
@@ -38,10 +45,17 @@ impl Tally {
         }
     }
 
+    /// As ": code x times, ..".
+    fn codes_of(&self, kind: &str) -> String {
+        let Some(codes) = self.codes.get(kind) else { return String::new() };
+        let codes: Vec<String> = codes.iter().map(|(code, times)| format!("{code} x {times}")).collect();
+        format!(": {}", codes.join(", "))
+    }
+
     /// Prints all, and says whether nothing differs.
     pub fn report(&self) -> bool {
         for (kind, times) in &self.same {
-            println!("{times:>10} same    {kind}");
+            println!("{times:>10} same    {kind}{}", self.codes_of(kind));
         }
         for (name, listed) in &self.listed {
             println!("{:>10} listed  {name}", listed.times);
