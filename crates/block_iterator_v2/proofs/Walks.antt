@@ -19,13 +19,13 @@ use Rattle.block_regions_v2.specs.declared.Walked.{Walked}
 use Rattle.block_regions_v2.specs.Laws.{walk-stopped, walk-refused, walk-used}
 use Rattle.block_regions_v2.specs.Promise.{Walks}
 use Rattle.block_regions_v2.specs.Says.{stopFrom}
+use Rattle.block_step_v2.proofs.Laws.{carries-key}
 use Rattle.block_iterator_v2.specs.declared.BlockIteratorV2.{BlockIteratorV2}
 use Rattle.block_iterator_v2.specs.declared.SeekAnswer.{SeekAnswer}
 use Rattle.block_iterator_v2.specs.declared.SeekAnswer.the-variants.{Landed, Done as SeekDone, Refused as SeekRefused}
 use Rattle.block_iterator_v2.specs.declared.Sought.{Sought}
 use Rattle.block_iterator_v2.specs.Parts.{refusalOfWalk, placed, landed, sought}
 use Rattle.block_iterator_v2.specs.Promise.{Seeks}
-use Rattle.block_iterator_v2.proofs.Laws.{carries-key}
 
 abbrev pub withAnswer : BlockIteratorV2 → SeekAnswer → Sought
 withAnswer c a = record { iterator = c; answer = a }

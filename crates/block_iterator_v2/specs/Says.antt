@@ -1,21 +1,18 @@
 -- What a cursor is to the definitions, and what each case of an answer says: the values, or the number of the refusal. No two cases say the same.
 use Prim.Native.Nat.{ℕ}
 use mathlib.Core.Bool.{Bool, true, false}
-use mathlib.Core.Path.{_≡_, refl, ap, sym, _∙_}
+use mathlib.Core.List.{List}
+use mathlib.Core.Path.{_≡_, refl, ap, ap₂, sym}
 use native.Mathlib.Omega.{arith}
-use lib.ListN.{take}
 use Rattle.layout.specs.Answer.{Res, ok, refuse}
-use Rattle.layout.specs.RowRead.{RowRead as RowReadL}
-use Rattle.layout.specs.Cursor.{Cursor, Answer, found, done, Step}
+use Rattle.layout.specs.Cursor.{Cursor}
 use Rattle.layout.specs.Seek.{Sought as SoughtL}
 use Rattle.layout.specs.Laws.Answer.{ok-inj}
 use Rattle.types.specs.Answers.{apart, refused-one}
 use Rattle.types.specs.Number.{number}
-use Rattle.types.specs.Says.{saysOrder, saysOrder-one}
-use Rattle.row_codec_v2.specs.Says.{rowFrom, saysRow-one}
-use Rattle.row_codec_v2.specs.declared.Row.{Row}
-use Rattle.row_codec_v2.specs.declared.RowRead.{RowRead}
-use Rattle.row_codec_v2.specs.declared.RowRead.the-variants.{Read as ReadRow}
+use Rattle.row_codec_v2.specs.Says.{rowFrom}
+use Rattle.block_step_v2.specs.declared.Place.{Place}
+use Rattle.block_step_v2.specs.Says.{viewIn, Told, row, none, viewIn-one, row-one, told-row, told-apart}
 use Rattle.block_iterator_v2.specs.declared.BlockIteratorV2.{BlockIteratorV2}
 use Rattle.block_iterator_v2.specs.declared.OpenAnswer.{OpenAnswer}
 use Rattle.block_iterator_v2.specs.declared.OpenAnswer.the-variants.{Good, Refused as OpenRefused}
@@ -26,25 +23,16 @@ use Rattle.block_iterator_v2.specs.declared.SeekAnswer.the-variants.{Lan
 use Rattle.block_iterator_v2.specs.declared.EmptyRead.{EmptyRead}
 use Rattle.block_iterator_v2.specs.declared.EmptyRead.the-variants.{Is, Refused as EmptyRefused}
 
--- bytes past the key's length tell nothing; the length is told as the number that it is
+-- all of a cursor but the bytes of its key
+abbrev pub placeOf : BlockIteratorV2 → Place
+placeOf c = record { order = c .order; region = c .region; at = c .at; «key_len» = c .«key_len»; done = c .done }
+
 abbrev pub viewOf : BlockIteratorV2 → Cursor
-viewOf c = record { direction = saysOrder (c .order); region = c .region; at = c .at; keyLen = c .«key_len»; key = take (c .«key_len») (c .key); mark = c .done }
+viewOf c = viewIn (placeOf c) (c .key)
 
 abbrev pub saysOpen : OpenAnswer → Res (Unit {0})
 saysOpen Good = ok tt
 saysOpen (OpenRefused r) = refuse (number r)
-
--- what a step answers beside the key, which goes to the lent buffer
-pub data Told : Type 0 where
-  row : RowReadL → Told
-  none : Told
-
-abbrev pub toldOf : Answer → Told
-toldOf (found r key) = row r
-toldOf done = none
-
-abbrev pub told : Step → Res Told
-told s = ok (toldOf (s .answer))
 
 abbrev pub saysNext : NextAnswer → Res Told
 saysNext (Found r) = ok (row (rowFrom r))
@@ -76,23 +64,14 @@ saysEmpty (EmptyRefused r) = refuse (number r)
 -- two cursors that are known as one, with the same bytes past the key
 pub viewOf-one : (a b : BlockIteratorV2) → viewOf a ≡ viewOf b → a .key ≡ b .key → a ≡ b
 viewOf-one a b e k =
-    let o = saysOrder-one (a .order) (b .order) (ap (λ (x : Cursor). x .direction) e) in
-    ap (λ (x : Cursor). record { order = a .order; region = x .region; at = x .at; key = a .key; «key_len» = x .keyLen; done = x .mark }) e ∙ rw (o, k)
+    ap₂ (λ (p : Place) (x : List ℕ). record { order = p .order; region = p .region; at = p .at; key = x; «key_len» = p .«key_len»; done = p .done })
+    (viewIn-one (placeOf a) (placeOf b) (a .key) (b .key) e) k
 
 pub saysOpen-one : (a b : OpenAnswer) → saysOpen a ≡ saysOpen b → a ≡ b
 saysOpen-one Good Good e = refl
 saysOpen-one Good (OpenRefused r) e = absurd (apart e)
 saysOpen-one (OpenRefused r) Good e = absurd (apart (sym e))
 saysOpen-one (OpenRefused r) (OpenRefused q) e = ap OpenRefused (refused-one e)
-
-row-one : (r q : Row) → rowFrom r ≡ rowFrom q → r ≡ q
-row-one r q e = let w : _≡_ {A = RowRead} (ReadRow r) (ReadRow q) = saysRow-one (ReadRow r) (ReadRow q) (ap (λ (x : RowReadL). ok x) e) in cc
-
-told-row : {r q : RowReadL} → _≡_ {A = Told} (row r) (row q) → r ≡ q
-told-row e = cc
-
-told-apart : {r : RowReadL} → _≡_ {A = Told} (row r) none → ⊥
-told-apart e = let z : _≡_ {A = ℕ} 0 1 = cc in omega arith
 
 pub saysNext-one : (a b : NextAnswer) → saysNext a ≡ saysNext b → a ≡ b
 saysNext-one (Found r) (Found q) e = ap Found (row-one r q (told-row (ok-inj e)))

@@ -3,33 +3,31 @@
 // Follows slatedb 0.16.0, src/block_iterator_v2.rs (Apache License 2.0), and is changed: no region is cached, a step back reads its region again, every call
 // tests block and cursor for itself, and what they can break is a refusal that gives the cursor back as it came.
 ghost use mathlib.Core.Path.{_≡_};
-ghost use Prim.Native.Nat.{suc, _≤_, _<_, _+_, _-_};
-ghost use lib.ListN.{length, take};
+ghost use Prim.Native.Nat.{suc, _-_};
+ghost use lib.ListN.{length};
 ghost use Rattle.layout.specs.Answer.{ok, bind};
-ghost use Rattle.layout.specs.Cursor.{ascending, descending, stepUp, stepDown, stepBackIn};
-ghost use Rattle.layout.specs.Laws.Carry.{suffixOf};
-ghost use Rattle.layout.specs.Place.{splice};
+ghost use Rattle.layout.specs.Cursor.{ascending, descending, next};
 ghost use Rattle.layout.specs.Seek.{walkUp, walkDown, seek};
-ghost use Rattle.layout.specs.Trailer.{trailerOf, dataOf};
+ghost use Rattle.layout.specs.Trailer.{trailerOf};
 ghost use Rattle.types.specs.Says.{saysOrder};
-ghost use Rattle.row_codec_v2.specs.Says.{rowFrom};
-ghost use Rattle.block.specs.Says.{trailerFrom, regionFrom};
+ghost use Rattle.block.specs.Says.{trailerFrom};
+ghost use Rattle.block_step_v2.specs.Promise.{Moves};
+ghost use Rattle.block_step_v2.specs.Says.{viewIn, placeAfter};
 ghost use Rattle.block_iterator_v2.specs.Says.{viewOf};
-ghost use Rattle.block_iterator_v2.specs.Parts.{refusalOfTrailer, refusalOfOffsets, refusalOfRegion, refusalOfRow, refusalOfEnded, refusalOfWalk, refusalOfLast, refusalOfStart, placed, finished, Stands, passed, Fits, LooksAhead, LooksBehind, SetsOut, sought, landed};
-ghost use Rattle.block_iterator_v2.specs.Promise.{Opens, Steps, StepsNext, Seeks, SeeksTarget, TellsEmpty};
-use block::Region;
+ghost use Rattle.block_iterator_v2.specs.Parts.{refusalOfTrailer, refusalOfOffsets, refusalOfRegion, refusalOfWalk, refusalOfLast, refusalOfStart, placed, answerOf, SetsOut, sought, landed};
+ghost use Rattle.block_iterator_v2.specs.Promise.{Opens, StepsNext, Seeks, SeeksTarget, TellsEmpty};
 use block::RegionRead;
 use block::Tested;
 use block::Trailer;
 use block::TrailerRead;
-use block_regions_v2::Ended;
 use block_regions_v2::LastRead;
 use block_regions_v2::WalkAnswer;
 use block_regions_v2::Walked;
 use block_restarts_v2::Start;
 use block_restarts_v2::StartRead;
+use block_step_v2::Moved;
+use block_step_v2::Place;
 use row_codec_v2::Row;
-use row_codec_v2::RowRead;
 use types::IterationOrder;
 use types::Refusal;
 
@@ -83,20 +81,6 @@ pub enum EmptyRead {
     Refused(Refusal),
 }
 
-// The row that an ascending cursor stands before, with its region; or the end of the last one.
-enum Ahead {
-    At { row: Row, region: Region },
-    End,
-    Refused(Refusal),
-}
-
-// The region, with its number, whose row before the position of a descending cursor comes next; or the start of the first one.
-enum Behind {
-    In { number: usize, region: Region },
-    Start,
-    Refused(Refusal),
-}
-
 // ---- the refusal of an answer that is one
 
 fn trailer_refusal(a: TrailerRead) -> Refusal
@@ -123,24 +107,6 @@ fn region_refusal(a: RegionRead) -> Refusal
     match a {
         RegionRead::Refused(refusal) => refusal,
         RegionRead::Good(_) => Refusal::BadOffset,
-    }
-}
-
-fn row_refusal(a: RowRead) -> Refusal
-    ensures { λ r. ⌜ r ≡ refusalOfRow a ⌝ }
-{
-    match a {
-        RowRead::Refused(refusal) => refusal,
-        RowRead::Read(_) => Refusal::InputEnds,
-    }
-}
-
-fn ended_refusal(a: Ended) -> Refusal
-    ensures { λ r. ⌜ r ≡ refusalOfEnded a ⌝ }
-{
-    match a {
-        Ended::Refused(refusal) => refusal,
-        Ended::Row(_) => Refusal::BadState,
     }
 }
 
@@ -171,25 +137,35 @@ fn start_refusal(a: StartRead) -> Refusal
     }
 }
 
-// ---- the writes of a step
+// ---- a step over the cursor's own key bytes
 
-// Puts the row's suffix over the key of the row before: the array then carries the row's key.
-fn put_suffix(key: &mut [u8; 1024], data: &[u8], row: Row)
+// Lends the array as the bytes that a step works on.
+fn step(key: &mut [u8; 1024], p: Place, block: &[u8], out: &mut [u8]) -> Moved
     requires { ⌜ length (now key) ≡ 1024 ⌝ }
-    requires { ⌜ (row .shared + row .«suffix_len» ≤ 1024) × (row .«suffix_at» + row .«suffix_len» ≤ length (now «data»)) ⌝ }
-    ensures { λ _. ⌜ now (key .exit) ≡ splice (now (key .entry)) (row .shared) (suffixOf (now («data» .entry)) (rowFrom row)) ⌝ }
+    ensures { λ r. ⌜ Moves (next (viewIn p (now (key .entry))) (now (block .entry)) (length (now (out .entry)))) p (now (key .entry)) (now (out .entry)) r (now (key .exit)) (now (out .exit)) ⌝ }
 {
-    let from = row.suffix_at;
-    let end = from + row.suffix_len;
-    utils::copy_in(key, row.shared, &data[from..end]);
+    block_step_v2::next_in_place(key, p, block, out)
 }
 
-// Gives the first `n` bytes of the key.
-fn give_key(out: &mut [u8], key: &[u8], n: usize)
-    requires { ⌜ (n ≤ length (now key)) × (n ≤ length (now out)) ⌝ }
-    ensures { λ _. ⌜ now (out .exit) ≡ splice (now (out .entry)) 0 (take n (now (key .entry))) ⌝ }
+// The place that a step gives back: a refused one gives it as it came.
+fn place_after(moved: Moved, came: Place) -> Place
+    ensures { λ r. ⌜ r ≡ placeAfter moved came ⌝ }
 {
-    utils::copy_in(out, 0, &key[..n]);
+    match moved {
+        Moved::Found { place, row: _ } => place,
+        Moved::Done(place) => place,
+        Moved::Refused(_) => came,
+    }
+}
+
+fn answer_of(moved: Moved) -> NextAnswer
+    ensures { λ r. ⌜ r ≡ answerOf moved ⌝ }
+{
+    match moved {
+        Moved::Found { place: _, row } => NextAnswer::Found(row),
+        Moved::Done(_) => NextAnswer::Done,
+        Moved::Refused(refusal) => NextAnswer::Refused(refusal),
+    }
 }
 
 impl BlockIteratorV2 {
@@ -260,194 +236,27 @@ impl BlockIteratorV2 {
         }
     }
 
-    // A step that says "done" sets only the mark.
-    fn finished(mut self) -> Next
-        ensures { λ r. ⌜ r ≡ finished self ⌝ }
-    {
-        self.done = true;
-        Next {
-            iterator: self,
-            answer: NextAnswer::Done,
-        }
-    }
-
-    // All that an ascending step tests once the mark is tested, with nothing written: 15 for the region, 18 for the position, the row, 19.
-    fn look_ahead(self, block: &[u8], t: Trailer, room: usize) -> Ahead
-        requires { ⌜ Stands ascending (viewOf self) (now block) (trailerFrom t) ⌝ }
-        ensures { λ r. ⌜ LooksAhead (viewOf self) (now (block .entry)) (trailerFrom t) room r ⌝ }
-    {
-        let at = self.at;
-        let size = t.size;
-        let read = block::region_of(block, t, self.region);
-        let RegionRead::Good(region) = read else {
-            return Ahead::Refused(region_refusal(read));
-        };
-        if at < region.start {
-            return Ahead::Refused(Refusal::BadState);
-        }
-        if region.reach < at {
-            return Ahead::Refused(Refusal::BadState);
-        }
-        if at == region.end {
-            return Ahead::End;
-        }
-        let restart = at == region.start;
-        let a = row_codec_v2::decode_at(&block[..size], at, region.end, self.key_len, restart);
-        let RowRead::Read(row) = a else {
-            return Ahead::Refused(row_refusal(a));
-        };
-        if room < row.shared + row.suffix_len {
-            return Ahead::Refused(Refusal::KeyBufferTooShort);
-        }
-        Ahead::At { row, region }
-    }
-
-    // Moves past a row and gives its key. A finished region hands over to the next at once, then with no key.
-    fn pass(self, block: &[u8], t: Trailer, row: Row, region: Region, out: &mut [u8]) -> Next
-        requires { ⌜ Stands ascending (viewOf self) (now block) (trailerFrom t) ⌝ }
-        requires { ⌜ Fits (viewOf self) (dataOf (now block) (trailerFrom t)) (regionFrom region) (length (now out)) (rowFrom row) ⌝ }
-        ensures { λ r. ⌜ Steps (ok (passed (viewOf self) (dataOf (now (block .entry)) (trailerFrom t)) (regionFrom region) (rowFrom row))) self (now (out .entry)) r (now (out .exit)) ⌝ }
-    {
-        let mut moved = self;
-        let size = t.size;
-        let n = row.shared + row.suffix_len;
-        put_suffix(&mut moved.key, &block[..size], row);
-        give_key(out, &moved.key, n);
-        moved.at = row.next;
-        if region.reach < row.next {
-            moved.region += 1;
-            moved.key_len = 0;
-            return Next {
-                iterator: moved,
-                answer: NextAnswer::Found(row),
-            };
-        }
-        moved.key_len = n;
-        Next {
-            iterator: moved,
-            answer: NextAnswer::Found(row),
-        }
-    }
-
-    fn next_ascending(self, block: &[u8], t: Trailer, out: &mut [u8]) -> Next
-        requires { ⌜ Stands ascending (viewOf self) (now block) (trailerFrom t) ⌝ }
-        ensures { λ r. ⌜ Steps (stepUp (viewOf self) (now (block .entry)) (trailerFrom t) (length (now (out .entry)))) self (now (out .entry)) r (now (out .exit)) ⌝ }
-    {
-        let ahead = self.look_ahead(block, t, out.len());
-        match ahead {
-            Ahead::At { row, region } => self.pass(block, t, row, region, out),
-            Ahead::End => self.finished(),
-            Ahead::Refused(refusal) => Next {
-                iterator: self,
-                answer: NextAnswer::Refused(refusal),
-            },
-        }
-    }
-
-    // The region that a descending step reads once the mark is tested: 15 for the cursor's region, 18 for the position unless a row can end there; at the
-    // region's start the region before, and 15 for it.
-    fn look_behind(self, block: &[u8], t: Trailer) -> Behind
-        requires { ⌜ Stands descending (viewOf self) (now block) (trailerFrom t) ⌝ }
-        ensures { λ r. ⌜ LooksBehind (viewOf self) (now (block .entry)) (trailerFrom t) r ⌝ }
-    {
-        let at = self.at;
-        let number = self.region;
-        let read = block::region_of(block, t, number);
-        let RegionRead::Good(region) = read else {
-            return Behind::Refused(region_refusal(read));
-        };
-        if at < region.start {
-            return Behind::Refused(Refusal::BadState);
-        }
-        if region.end < at {
-            return Behind::Refused(Refusal::BadState);
-        }
-        if region.start < at {
-            return Behind::In { number, region };
-        }
-        if number == 0 {
-            return Behind::Start;
-        }
-        let before = block::region_of(block, t, number - 1);
-        let RegionRead::Good(region) = before else {
-            return Behind::Refused(region_refusal(before));
-        };
-        Behind::In {
-            number: number - 1,
-            region,
-        }
-    }
-
-    // Moves before the row that ends where the cursor stands, read from the start of its region, and gives its key. The carried key stays.
-    fn back(self, block: &[u8], t: Trailer, number: usize, region: Region, out: &mut [u8]) -> Next
-        requires { ⌜ (trailerOf (now block) ≡ ok (trailerFrom t)) × (region .start < self .at) ⌝ }
-        ensures { λ r. ⌜ Steps (stepBackIn (viewOf self) (now (block .entry)) (trailerFrom t) (length (now (out .entry))) number (regionFrom region)) self (now (out .entry)) r (now (out .exit)) ⌝ }
-    {
-        let size = t.size;
-        let ended = block_regions_v2::row_ending_at(&block[..size], region, self.at, out);
-        let Ended::Row(row) = ended else {
-            return Next {
-                iterator: self,
-                answer: NextAnswer::Refused(ended_refusal(ended)),
-            };
-        };
-        let mut moved = self;
-        moved.region = number;
-        moved.at = row.start;
-        Next {
-            iterator: moved,
-            answer: NextAnswer::Found(row),
-        }
-    }
-
-    fn next_descending(self, block: &[u8], t: Trailer, out: &mut [u8]) -> Next
-        requires { ⌜ Stands descending (viewOf self) (now block) (trailerFrom t) ⌝ }
-        ensures { λ r. ⌜ Steps (stepDown (viewOf self) (now (block .entry)) (trailerFrom t) (length (now (out .entry)))) self (now (out .entry)) r (now (out .exit)) ⌝ }
-    {
-        let behind = self.look_behind(block, t);
-        match behind {
-            Behind::In { number, region } => self.back(block, t, number, region, out),
-            Behind::Start => self.finished(),
-            Behind::Refused(refusal) => Next {
-                iterator: self,
-                answer: NextAnswer::Refused(refusal),
-            },
-        }
-    }
-
-    // One step. Tested in this order: the trailer (14), the region number and the key's length (18), the mark, then what the step's direction asks for.
-    pub fn next(self, block: &[u8], out: &mut [u8]) -> Next
+    // One step, made on the cursor's numbers and its key where it lies; then the numbers are put back. The order is not a step's to change.
+    pub fn next(mut self, block: &[u8], out: &mut [u8]) -> Next
         ensures { λ r. ⌜ StepsNext self (now (block .entry)) (now (out .entry)) r (now (out .exit)) ⌝ }
     {
-        let read = block::trailer_of(block);
-        let TrailerRead::Good(t) = read else {
-            return Next {
-                iterator: self,
-                answer: NextAnswer::Refused(trailer_refusal(read)),
-            };
-        };
-        if t.count <= self.region {
-            return Next {
-                iterator: self,
-                answer: NextAnswer::Refused(Refusal::BadState),
-            };
-        }
-        if types::MAX_KEY < self.key_len {
-            return Next {
-                iterator: self,
-                answer: NextAnswer::Refused(Refusal::BadState),
-            };
-        }
-        if self.done {
-            return Next {
-                iterator: self,
-                answer: NextAnswer::Done,
-            };
-        }
         let order = self.order;
-        match order {
-            IterationOrder::Ascending => self.next_ascending(block, t, out),
-            IterationOrder::Descending => self.next_descending(block, t, out),
+        let came = Place {
+            order,
+            region: self.region,
+            at: self.at,
+            key_len: self.key_len,
+            done: self.done,
+        };
+        let moved = step(&mut self.key, came, block, out);
+        let place = place_after(moved, came);
+        self.region = place.region;
+        self.at = place.at;
+        self.key_len = place.key_len;
+        self.done = place.done;
+        Next {
+            iterator: self,
+            answer: answer_of(moved),
         }
     }
 

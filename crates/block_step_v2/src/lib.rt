@@ -1,0 +1,293 @@
+// One step of the block iterator of format V2, over key bytes that stay where they are: a cursor's numbers go in and come back by value, and the key that it
+// carries is lent and worked on in place.
+// Follows slatedb 0.16.0, src/block_iterator_v2.rs (Apache License 2.0), and is changed: no region is cached, a step back reads its region again, every call
+// tests block and cursor for itself, and what they can break is a refusal that writes nothing.
+ghost use mathlib.Core.Path.{_≡_};
+ghost use mathlib.Core.List.{List};
+ghost use Prim.Native.Nat.{ℕ, _≤_, _<_, _+_};
+ghost use lib.ListN.{length, take};
+ghost use Rattle.layout.specs.Answer.{ok};
+ghost use Rattle.layout.specs.Cursor.{ascending, descending, stepUp, stepDown, stepBackIn};
+ghost use Rattle.layout.specs.Laws.Carry.{suffixOf};
+ghost use Rattle.layout.specs.Limits.{maxKey};
+ghost use Rattle.layout.specs.Place.{splice};
+ghost use Rattle.layout.specs.Trailer.{trailerOf, dataOf};
+ghost use Rattle.row_codec_v2.specs.Says.{rowFrom};
+ghost use Rattle.block.specs.Says.{trailerFrom, regionFrom};
+ghost use Rattle.block_step_v2.specs.Says.{viewIn};
+ghost use Rattle.block_step_v2.specs.Parts.{refusalOfTrailer, refusalOfRegion, refusalOfRow, refusalOfEnded, finished, Stands, passed, Fits, LooksAhead, LooksBehind};
+ghost use Rattle.block_step_v2.specs.Promise.{Moves, StepsInPlace};
+use block::Region;
+use block::RegionRead;
+use block::Trailer;
+use block::TrailerRead;
+use block_regions_v2::Ended;
+use row_codec_v2::Row;
+use row_codec_v2::RowRead;
+use types::IterationOrder;
+use types::Refusal;
+
+// A cursor without the bytes of its key: those stay where they are.
+pub struct Place {
+    pub order: IterationOrder,
+    pub region: usize,
+    pub at: usize,
+    pub key_len: usize,
+    pub done: bool,
+}
+
+// What a step answers, with the place past the row. A refusal moves nothing.
+pub enum Moved {
+    Found { place: Place, row: Row },
+    Done(Place),
+    Refused(Refusal),
+}
+
+// The row that an ascending cursor stands before, with its region; or the end of the last one.
+enum Ahead {
+    At { row: Row, region: Region },
+    End,
+    Refused(Refusal),
+}
+
+// The region, with its number, whose row before the position of a descending cursor comes next; or the start of the first one.
+enum Behind {
+    In { number: usize, region: Region },
+    Start,
+    Refused(Refusal),
+}
+
+// ---- the refusal of an answer that is one
+
+fn trailer_refusal(a: TrailerRead) -> Refusal
+    ensures { λ r. ⌜ r ≡ refusalOfTrailer a ⌝ }
+{
+    match a {
+        TrailerRead::Refused(refusal) => refusal,
+        TrailerRead::Good(_) => Refusal::BadTrailer,
+    }
+}
+
+fn region_refusal(a: RegionRead) -> Refusal
+    ensures { λ r. ⌜ r ≡ refusalOfRegion a ⌝ }
+{
+    match a {
+        RegionRead::Refused(refusal) => refusal,
+        RegionRead::Good(_) => Refusal::BadOffset,
+    }
+}
+
+fn row_refusal(a: RowRead) -> Refusal
+    ensures { λ r. ⌜ r ≡ refusalOfRow a ⌝ }
+{
+    match a {
+        RowRead::Refused(refusal) => refusal,
+        RowRead::Read(_) => Refusal::InputEnds,
+    }
+}
+
+fn ended_refusal(a: Ended) -> Refusal
+    ensures { λ r. ⌜ r ≡ refusalOfEnded a ⌝ }
+{
+    match a {
+        Ended::Refused(refusal) => refusal,
+        Ended::Row(_) => Refusal::BadState,
+    }
+}
+
+// ---- the writes of a step
+
+// Puts the row's suffix over the key of the row before: the bytes then carry the row's key.
+fn put_suffix(key: &mut [u8], data: &[u8], row: Row)
+    requires { ⌜ (row .shared + row .«suffix_len» ≤ length (now key)) × (row .«suffix_at» + row .«suffix_len» ≤ length (now «data»)) ⌝ }
+    ensures { λ _. ⌜ now (key .exit) ≡ splice (now (key .entry)) (row .shared) (suffixOf (now («data» .entry)) (rowFrom row)) ⌝ }
+{
+    let from = row.suffix_at;
+    let end = from + row.suffix_len;
+    utils::copy_in(key, row.shared, &data[from..end]);
+}
+
+// Gives the first `n` bytes of the key.
+fn give_key(out: &mut [u8], key: &[u8], n: usize)
+    requires { ⌜ (n ≤ length (now key)) × (n ≤ length (now out)) ⌝ }
+    ensures { λ _. ⌜ now (out .exit) ≡ splice (now (out .entry)) 0 (take n (now (key .entry))) ⌝ }
+{
+    utils::copy_in(out, 0, &key[..n]);
+}
+
+// A step that says "done" sets only the mark.
+fn finished(p: Place) -> Moved
+    ensures { λ r. ⌜ r ≡ finished p ⌝ }
+{
+    let mut place = p;
+    place.done = true;
+    Moved::Done(place)
+}
+
+// ---- ascending
+
+// All that an ascending step tests once the mark is tested, with nothing written: 15 for the region, 18 for the position, the row, 19.
+fn look_ahead(p: Place, block: &[u8], t: Trailer, room: usize) -> Ahead
+    requires { ⌜ Stands ascending p (now block) (trailerFrom t) ⌝ }
+    ensures { λ r. ⌜ LooksAhead p (now (block .entry)) (trailerFrom t) room r ⌝ }
+{
+    let at = p.at;
+    let size = t.size;
+    let read = block::region_of(block, t, p.region);
+    let RegionRead::Good(region) = read else {
+        return Ahead::Refused(region_refusal(read));
+    };
+    if at < region.start {
+        return Ahead::Refused(Refusal::BadState);
+    }
+    if region.reach < at {
+        return Ahead::Refused(Refusal::BadState);
+    }
+    if at == region.end {
+        return Ahead::End;
+    }
+    let restart = at == region.start;
+    let a = row_codec_v2::decode_at(&block[..size], at, region.end, p.key_len, restart);
+    let RowRead::Read(row) = a else {
+        return Ahead::Refused(row_refusal(a));
+    };
+    if room < row.shared + row.suffix_len {
+        return Ahead::Refused(Refusal::KeyBufferTooShort);
+    }
+    Ahead::At { row, region }
+}
+
+// Moves past a row and gives its key. A finished region hands over to the next at once, then with no key.
+fn pass(
+    key: &mut [u8],
+    p: Place,
+    block: &[u8],
+    t: Trailer,
+    row: Row,
+    region: Region,
+    out: &mut [u8],
+) -> Moved
+    requires { ⌜ length (now key) ≡ maxKey ⌝ }
+    requires { ⌜ Stands ascending p (now block) (trailerFrom t) ⌝ }
+    requires { ⌜ Fits p (dataOf (now block) (trailerFrom t)) (regionFrom region) (length (now out)) (rowFrom row) ⌝ }
+    ensures { λ r. ⌜ Moves (ok (passed (viewIn p (now (key .entry))) (dataOf (now (block .entry)) (trailerFrom t)) (regionFrom region) (rowFrom row))) p (now (key .entry)) (now (out .entry)) r (now (key .exit)) (now (out .exit)) ⌝ }
+{
+    let mut place = p;
+    let size = t.size;
+    let n = row.shared + row.suffix_len;
+    put_suffix(key, &block[..size], row);
+    give_key(out, key, n);
+    place.at = row.next;
+    if region.reach < row.next {
+        place.region += 1;
+        place.key_len = 0;
+        return Moved::Found { place, row };
+    }
+    place.key_len = n;
+    Moved::Found { place, row }
+}
+
+fn next_ascending(key: &mut [u8], p: Place, block: &[u8], t: Trailer, out: &mut [u8]) -> Moved
+    requires { ⌜ length (now key) ≡ maxKey ⌝ }
+    requires { ⌜ Stands ascending p (now block) (trailerFrom t) ⌝ }
+    ensures { λ r. ⌜ Moves (stepUp (viewIn p (now (key .entry))) (now (block .entry)) (trailerFrom t) (length (now (out .entry)))) p (now (key .entry)) (now (out .entry)) r (now (key .exit)) (now (out .exit)) ⌝ }
+{
+    let ahead = look_ahead(p, block, t, out.len());
+    match ahead {
+        Ahead::At { row, region } => pass(key, p, block, t, row, region, out),
+        Ahead::End => finished(p),
+        Ahead::Refused(refusal) => Moved::Refused(refusal),
+    }
+}
+
+// ---- descending: the key is neither used nor changed, whatever its bytes are
+
+// The region that a descending step reads once the mark is tested: 15 for the cursor's region, 18 for the position unless a row can end there; at the
+// region's start the region before, and 15 for it.
+fn look_behind(p: Place, block: &[u8], t: Trailer) -> Behind
+    requires { ⌜ Stands descending p (now block) (trailerFrom t) ⌝ }
+    ensures { λ r. ⌜ LooksBehind p (now (block .entry)) (trailerFrom t) r ⌝ }
+{
+    let at = p.at;
+    let number = p.region;
+    let read = block::region_of(block, t, number);
+    let RegionRead::Good(region) = read else {
+        return Behind::Refused(region_refusal(read));
+    };
+    if at < region.start {
+        return Behind::Refused(Refusal::BadState);
+    }
+    if region.end < at {
+        return Behind::Refused(Refusal::BadState);
+    }
+    if region.start < at {
+        return Behind::In { number, region };
+    }
+    if number == 0 {
+        return Behind::Start;
+    }
+    let before = block::region_of(block, t, number - 1);
+    let RegionRead::Good(region) = before else {
+        return Behind::Refused(region_refusal(before));
+    };
+    Behind::In {
+        number: number - 1,
+        region,
+    }
+}
+
+// Moves before the row that ends where the cursor stands, read from the start of its region, and gives its key.
+fn back(p: Place, block: &[u8], t: Trailer, number: usize, region: Region, out: &mut [u8]) -> Moved
+    requires { ⌜ (trailerOf (now block) ≡ ok (trailerFrom t)) × (region .start < p .at) ⌝ }
+    ensures { λ r. ⌜ ((k : List ℕ) → Moves (stepBackIn (viewIn p k) (now (block .entry)) (trailerFrom t) (length (now (out .entry))) number (regionFrom region)) p k (now (out .entry)) r k (now (out .exit))) ⌝ }
+{
+    let size = t.size;
+    let ended = block_regions_v2::row_ending_at(&block[..size], region, p.at, out);
+    let Ended::Row(row) = ended else {
+        return Moved::Refused(ended_refusal(ended));
+    };
+    let mut place = p;
+    place.region = number;
+    place.at = row.start;
+    Moved::Found { place, row }
+}
+
+fn next_descending(p: Place, block: &[u8], t: Trailer, out: &mut [u8]) -> Moved
+    requires { ⌜ Stands descending p (now block) (trailerFrom t) ⌝ }
+    ensures { λ r. ⌜ ((k : List ℕ) → Moves (stepDown (viewIn p k) (now (block .entry)) (trailerFrom t) (length (now (out .entry)))) p k (now (out .entry)) r k (now (out .exit))) ⌝ }
+{
+    let behind = look_behind(p, block, t);
+    match behind {
+        Behind::In { number, region } => back(p, block, t, number, region, out),
+        Behind::Start => finished(p),
+        Behind::Refused(refusal) => Moved::Refused(refusal),
+    }
+}
+
+// One step, over a cursor whose key bytes are lent. Tested in this order: that they are 1,024 (18), the trailer (14), the region number and the key's length
+// (18), the mark, then what the step's direction asks for. All tests come before the first write.
+pub fn next_in_place(key: &mut [u8], p: Place, block: &[u8], out: &mut [u8]) -> Moved
+    ensures { λ r. ⌜ StepsInPlace p (now (key .entry)) (now (block .entry)) (now (out .entry)) r (now (key .exit)) (now (out .exit)) ⌝ }
+{
+    if key.len() != types::MAX_KEY {
+        return Moved::Refused(Refusal::BadState);
+    }
+    let read = block::trailer_of(block);
+    let TrailerRead::Good(t) = read else {
+        return Moved::Refused(trailer_refusal(read));
+    };
+    if t.count <= p.region {
+        return Moved::Refused(Refusal::BadState);
+    }
+    if types::MAX_KEY < p.key_len {
+        return Moved::Refused(Refusal::BadState);
+    }
+    if p.done {
+        return Moved::Done(p);
+    }
+    let order = p.order;
+    match order {
+        IterationOrder::Ascending => next_ascending(key, p, block, t, out),
+        IterationOrder::Descending => next_descending(p, block, t, out),
+    }
+}
