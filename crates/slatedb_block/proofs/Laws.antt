@@ -16,7 +16,7 @@ use Rattle.layout.specs.Laws.Answer.{ok-inj, guard-then}
 use Rattle.layout.specs.Place.{splice}
 use Rattle.utils.specs.Promise.{Puts}
 use Rattle.utils.specs.declared.Put.{Put}
-use Rattle.block_regions_v2.proofs.Laws.{copied}
+use Rattle.utils.proofs.Laws.{copied}
 use Rattle.types.specs.Answers.{apart, yes}
 use Rattle.types.specs.Number.{number}
 use Rattle.types.specs.declared.Refusal.{Refusal}
@@ -38,8 +38,9 @@ use Rattle.block_iterator_v2.specs.declared.Sought.{Sought as SoughtC}
 use Rattle.block_iterator_v2.specs.declared.SeekAnswer.the-variants.{Landed, Done as SeekDone, Refused as SeekRefused}
 use Rattle.block_iterator_v2.specs.declared.BlockIteratorV2.{BlockIteratorV2}
 use Rattle.slatedb_block.specs.Words.{badWords, doneCode, codeOf, counted, oneOf, truthIn, truthWord, orderIn, wordAt, cursorFrom, cursorIn, cursorWords, builderFrom, builderWords}
-use Rattle.slatedb_block.specs.Says.{viewIn, saysCursor, LoadsCursor, iteratorFrom, builderFromWords}
-use Rattle.slatedb_block.specs.declared.Place.{Place}
+use Rattle.slatedb_block.specs.Says.{saysCursor, LoadsCursor, iteratorFrom, builderFromWords}
+use Rattle.block_step_v2.specs.declared.Place.{Place}
+use Rattle.block_step_v2.specs.Says.{viewIn}
 use Rattle.slatedb_block.specs.declared.CursorRead.{CursorRead}
 use Rattle.slatedb_block.specs.declared.CursorRead.the-variants.{Is as IsCursor}
 use Rattle.slatedb_block.specs.Promise.{Tells, Sets, MakesFlat, EmptiesFlat, BuildsFlat, OpensFlat, TellsFlat, seekCode, SeeksAs, SeeksFlat}
@@ -109,7 +110,7 @@ sets-refused e q = rw (e, q) (record { answer = refl; state = refl })
 
 -- ---- a record's promise, taken apart: an answer that says only whether, with the value beside it
 
-abbrev only : {A : Type 0} → Res A → Res (Unit {0})
+abbrev pub only : {A : Type 0} → Res A → Res (Unit {0})
 only want = bind want λ _. ok tt
 
 pub went : {A : Type 0} (want : Res A) (v : A) → only want ≡ ok tt → ((a : A) → want ≡ ok a → v ≡ a) → want ≡ ok v

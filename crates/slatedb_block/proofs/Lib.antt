@@ -1,2 +1,5 @@
 pub mod Laws
 pub mod Stores
+pub mod Fields
+pub mod Rows
+pub mod Steps

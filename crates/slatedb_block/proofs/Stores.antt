@@ -23,3 +23,21 @@ six (_ ∷ _ ∷ _ ∷ []) a b c d e f h = absurd (omega arith)
 six (_ ∷ _ ∷ _ ∷ _ ∷ []) a b c d e f h = absurd (omega arith)
 six (_ ∷ _ ∷ _ ∷ _ ∷ _ ∷ []) a b c d e f h = absurd (omega arith)
 six (_ ∷ _ ∷ _ ∷ _ ∷ _ ∷ _ ∷ _ ∷ ws) a b c d e f h = absurd (omega arith)
+
+pub thirteen : (ws : List ℕ) (a0 a1 a2 a3 a4 a5 a6 a7 a8 a9 a10 a11 a12 : ℕ) → length ws ≡ 13 → set (set (set (set (set (set (set (set (set (set (set (set (set ws 0 a0) 1 a1) 2 a2) 3 a3) 4 a4) 5 a5) 6 a6) 7 a7) 8 a8) 9 a9) 10 a10) 11 a11) 12 a12
+    ≡ a0 ∷ a1 ∷ a2 ∷ a3 ∷ a4 ∷ a5 ∷ a6 ∷ a7 ∷ a8 ∷ a9 ∷ a10 ∷ a11 ∷ a12 ∷ []
+thirteen (_ ∷ _ ∷ _ ∷ _ ∷ _ ∷ _ ∷ _ ∷ _ ∷ _ ∷ _ ∷ _ ∷ _ ∷ _ ∷ []) a0 a1 a2 a3 a4 a5 a6 a7 a8 a9 a10 a11 a12 h = refl
+thirteen [] a0 a1 a2 a3 a4 a5 a6 a7 a8 a9 a10 a11 a12 h = absurd (omega arith)
+thirteen (_ ∷ []) a0 a1 a2 a3 a4 a5 a6 a7 a8 a9 a10 a11 a12 h = absurd (omega arith)
+thirteen (_ ∷ _ ∷ []) a0 a1 a2 a3 a4 a5 a6 a7 a8 a9 a10 a11 a12 h = absurd (omega arith)
+thirteen (_ ∷ _ ∷ _ ∷ []) a0 a1 a2 a3 a4 a5 a6 a7 a8 a9 a10 a11 a12 h = absurd (omega arith)
+thirteen (_ ∷ _ ∷ _ ∷ _ ∷ []) a0 a1 a2 a3 a4 a5 a6 a7 a8 a9 a10 a11 a12 h = absurd (omega arith)
+thirteen (_ ∷ _ ∷ _ ∷ _ ∷ _ ∷ []) a0 a1 a2 a3 a4 a5 a6 a7 a8 a9 a10 a11 a12 h = absurd (omega arith)
+thirteen (_ ∷ _ ∷ _ ∷ _ ∷ _ ∷ _ ∷ []) a0 a1 a2 a3 a4 a5 a6 a7 a8 a9 a10 a11 a12 h = absurd (omega arith)
+thirteen (_ ∷ _ ∷ _ ∷ _ ∷ _ ∷ _ ∷ _ ∷ []) a0 a1 a2 a3 a4 a5 a6 a7 a8 a9 a10 a11 a12 h = absurd (omega arith)
+thirteen (_ ∷ _ ∷ _ ∷ _ ∷ _ ∷ _ ∷ _ ∷ _ ∷ []) a0 a1 a2 a3 a4 a5 a6 a7 a8 a9 a10 a11 a12 h = absurd (omega arith)
+thirteen (_ ∷ _ ∷ _ ∷ _ ∷ _ ∷ _ ∷ _ ∷ _ ∷ _ ∷ []) a0 a1 a2 a3 a4 a5 a6 a7 a8 a9 a10 a11 a12 h = absurd (omega arith)
+thirteen (_ ∷ _ ∷ _ ∷ _ ∷ _ ∷ _ ∷ _ ∷ _ ∷ _ ∷ _ ∷ []) a0 a1 a2 a3 a4 a5 a6 a7 a8 a9 a10 a11 a12 h = absurd (omega arith)
+thirteen (_ ∷ _ ∷ _ ∷ _ ∷ _ ∷ _ ∷ _ ∷ _ ∷ _ ∷ _ ∷ _ ∷ []) a0 a1 a2 a3 a4 a5 a6 a7 a8 a9 a10 a11 a12 h = absurd (omega arith)
+thirteen (_ ∷ _ ∷ _ ∷ _ ∷ _ ∷ _ ∷ _ ∷ _ ∷ _ ∷ _ ∷ _ ∷ _ ∷ []) a0 a1 a2 a3 a4 a5 a6 a7 a8 a9 a10 a11 a12 h = absurd (omega arith)
+thirteen (_ ∷ _ ∷ _ ∷ _ ∷ _ ∷ _ ∷ _ ∷ _ ∷ _ ∷ _ ∷ _ ∷ _ ∷ _ ∷ _ ∷ ws) a0 a1 a2 a3 a4 a5 a6 a7 a8 a9 a10 a11 a12 h = absurd (omega arith)

@@ -6,11 +6,15 @@ use mathlib.Core.List.{List, []}
 use lib.ListN.{length, take}
 use Rattle.layout.specs.Answer.{Res, ok, refuse, bind}
 use Rattle.layout.specs.Limits.{maxKey}
-use Rattle.layout.specs.Builder.{Builder, newBuilder, isEmpty as isEmptyBuilder, build, blockAfter}
+use Rattle.layout.specs.Key.{Key}
+use Rattle.layout.specs.Place.{splice}
+use Rattle.layout.specs.Row.{Fields, encodeRow, written}
+use Rattle.layout.specs.RowRead.{decodeRow}
+use Rattle.layout.specs.Builder.{Builder, newBuilder, isEmpty as isEmptyBuilder, wouldFit, add, dataAfter, placesAfter, build, blockAfter}
 use Rattle.layout.specs.Check.{check}
-use Rattle.layout.specs.Cursor.{Cursor, openBlock, isEmpty}
+use Rattle.layout.specs.Cursor.{Cursor, openBlock, isEmpty, Answer, found, done, Step, next, keyAfter}
 use Rattle.layout.specs.Seek.{Sought, seek}
-use Rattle.slatedb_block.specs.Words.{doneCode, codeOf, setBy, counted, truthWord, orderIn, cursorIn, cursorWords, builderFrom, builderIn, builderWords}
+use Rattle.slatedb_block.specs.Words.{doneCode, codeOf, setBy, counted, truthWord, orderIn, cursorIn, cursorWords, builderFrom, builderIn, builderWords, fieldsIn, rowWords}
 
 -- a number that is wanted in a lent word
 pub record Tells (want : Res ℕ) (n code n′ : ℕ) : Type 0 where
@@ -22,10 +26,47 @@ pub record Sets {A : Type 0} (want : Res A) (words : A → List ℕ) (ws : List 
   pub answer : code ≡ codeOf want
   pub state : ws′ ≡ setBy want words ws
 
+-- ---- one row
+
+pub record Lays (want : Res (List ℕ)) (out : List ℕ) (n code : ℕ) (out′ : List ℕ) (n′ : ℕ) : Type 0 where
+  pub answer : code ≡ codeOf want
+  pub number : n′ ≡ setBy want length n
+  pub bytes : out′ ≡ written want out
+
+abbrev pub EncodesFlat : ℕ → ℕ → List ℕ → List ℕ → List ℕ → List ℕ → ℕ → ℕ → List ℕ → ℕ → Type 0
+EncodesFlat prevLen shared suffix value fs out n code out′ n′ = Lays (bind (fieldsIn fs value) λ f. encodeRow prevLen shared suffix f (length out)) out n code out′ n′
+
+abbrev pub DecodesFlat : List ℕ → ℕ → List ℕ → ℕ → List ℕ → Type 0
+DecodesFlat s prevLen row code row′ = Sets (counted row 13 (decodeRow s prevLen)) rowWords row code row′
+
 -- ---- building a block
 
 abbrev pub MakesFlat : List ℕ → ℕ → ℕ → ℕ → List ℕ → Type 0
 MakesFlat ws size interval code ws′ = Sets (counted ws 6 (newBuilder size interval)) builderWords ws code ws′
+
+abbrev pub FitsFlat : List ℕ → Key → ℕ → ℕ → Key → List ℕ → List ℕ → ℕ → Type 0
+FitsFlat ws last dataLen placesLen key value fs code =
+    code ≡ codeOf (counted ws 6 (counted last maxKey (bind (fieldsIn fs value) λ f. wouldFit (builderFrom ws last) dataLen placesLen key f)))
+
+-- a row that is added: the builder then, and what was offered with the key
+pub record Gain : Type 0 where
+  pub builder : Builder
+  pub fields : Fields
+
+abbrev pub gain : Builder → List ℕ → List ℕ → Key → Fields → Res Gain
+gain v bytes places key f = bind (add v (length bytes) (length places) key f) λ w. ok (record { builder = w; fields = f })
+
+pub record AddsAs (want : Res Gain) (v : Builder) (key : Key) (ws last bytes places : List ℕ) (code : ℕ) (ws′ last′ bytes′ places′ : List ℕ) : Type 0 where
+  pub answer : code ≡ codeOf want
+  pub state : ws′ ≡ setBy want (λ g. builderWords (g .builder)) ws
+  pub last-after : last′ ≡ setBy want (λ g. splice last 0 key) last
+  pub bytes-after : bytes′ ≡ setBy want (λ g. dataAfter (ok (g .builder)) v key (g .fields) bytes) bytes
+  pub places-after : places′ ≡ setBy want (λ g. placesAfter (ok (g .builder)) v places) places
+
+abbrev pub AddsFlat : List ℕ → Key → List ℕ → List ℕ → Key → List ℕ → List ℕ → ℕ → List ℕ → List ℕ → List ℕ → List ℕ → Type 0
+AddsFlat ws last bytes places key value fs code ws′ last′ bytes′ places′ =
+    AddsAs (counted ws 6 (counted last maxKey (bind (fieldsIn fs value) λ f. gain (builderFrom ws last) bytes places key f))) (builderFrom ws last) key ws last bytes places
+    code ws′ last′ bytes′ places′
 
 -- the bytes of the last key tell nothing: none are lent
 abbrev pub EmptiesFlat : List ℕ → ℕ → ℕ → ℕ → Type 0
@@ -55,6 +96,29 @@ KeyLeft (ok a) left key key′ = take (left a .keyLen) key′ ≡ left a .key
 KeyLeft (refuse n) left key key′ = key′ ≡ key
 
 -- "done" has a code of its own
+abbrev pub answerCode : Answer → ℕ
+answerCode (found r key) = 0
+answerCode done = doneCode
+
+abbrev pub stepCode : Res Step → ℕ
+stepCode (ok s) = answerCode (s .answer)
+stepCode (refuse n) = n
+
+abbrev pub rowGiven : List ℕ → Answer → List ℕ
+rowGiven row (found r key) = rowWords r
+rowGiven row done = row
+
+pub record StepsAs (want : Res Step) (ws key out row : List ℕ) (code : ℕ) (ws′ key′ out′ row′ : List ℕ) : Type 0 where
+  pub answer : code ≡ stepCode want
+  pub state : ws′ ≡ setBy want (λ s. cursorWords (s .cursor)) ws
+  pub key-bytes : KeyLeft want (λ s. s .cursor) key key′
+  pub lent : out′ ≡ keyAfter want out
+  pub row-words : row′ ≡ setBy want (λ s. rowGiven row (s .answer)) row
+
+abbrev pub StepsFlat : List ℕ → List ℕ → List ℕ → List ℕ → List ℕ → ℕ → List ℕ → List ℕ → List ℕ → List ℕ → Type 0
+StepsFlat b ws key out row code ws′ key′ out′ row′ =
+    StepsAs (counted row 13 (counted key maxKey (bind (cursorIn ws key) λ c. next c b (length out)))) ws key out row code ws′ key′ out′ row′
+
 abbrev pub seekCode : Res Sought → ℕ
 seekCode (ok s) = cond (s .cursor .mark) doneCode 0
 seekCode (refuse n) = n

@@ -11,16 +11,37 @@ use Rattle.types.specs.Says.{saysOrder}
 use Rattle.block_iterator_v2.specs.declared.BlockIteratorV2.{BlockIteratorV2}
 use Rattle.block_iterator_v2.specs.Says.{viewOf}
 use Rattle.block_v2.specs.declared.BlockBuilderV2.{BlockBuilderV2}
+use Rattle.block_v2.specs.declared.State.{State}
+use Rattle.block_v2.specs.Says.{builderFrom, viewOf as viewOfBuilder}
+use Rattle.layout.specs.Fixed.{bits}
+use Rattle.layout.specs.Row.{Kind as KindL, Time as TimeL, Fields}
+use Rattle.types.specs.Says.{saysKind, saysTime}
+use Rattle.types.specs.declared.Kind.{Kind}
+use Rattle.types.specs.declared.Time.{Time}
+use Rattle.types.specs.declared.Time.the-variants.{Absent, At}
+use Rattle.types.specs.declared.ValueDeletable.{ValueDeletable}
+use Rattle.types.specs.declared.ValueDeletable.the-variants.{Value, Tombstone, Merge}
+use Rattle.row_codec_v2.specs.Says.{fieldsFrom}
+use Rattle.row_codec_v2.specs.declared.RowFields.{RowFields}
 use Rattle.block_v2.specs.declared.New.{New}
 use Rattle.block_v2.specs.Promise.{Makes}
-use Rattle.slatedb_block.specs.declared.Place.{Place}
+use Rattle.block_step_v2.specs.declared.Place.{Place}
+use Rattle.block_step_v2.specs.Says.{viewIn}
 use Rattle.slatedb_block.specs.declared.TruthRead.{TruthRead}
 use Rattle.slatedb_block.specs.declared.TruthRead.the-variants.{Is as IsTruth, Bad as BadTruth}
 use Rattle.slatedb_block.specs.declared.OrderRead.{OrderRead}
 use Rattle.slatedb_block.specs.declared.OrderRead.the-variants.{Is as IsOrder, Bad as BadOrder}
 use Rattle.slatedb_block.specs.declared.CursorRead.{CursorRead}
 use Rattle.slatedb_block.specs.declared.CursorRead.the-variants.{Is as IsCursor, Bad as BadCursor}
-use Rattle.slatedb_block.specs.Words.{badWords, wordAt, cursorIn, cursorWords}
+use Rattle.slatedb_block.specs.declared.KindRead.{KindRead}
+use Rattle.slatedb_block.specs.declared.KindRead.the-variants.{Is as IsKind, Bad as BadKind}
+use Rattle.slatedb_block.specs.declared.TimeRead.{TimeRead}
+use Rattle.slatedb_block.specs.declared.TimeRead.the-variants.{Is as IsTime, Bad as BadTime}
+use Rattle.slatedb_block.specs.declared.FieldsRead.{FieldsRead}
+use Rattle.slatedb_block.specs.declared.FieldsRead.the-variants.{Is as IsFields, Bad as BadFields}
+use Rattle.slatedb_block.specs.declared.HeldWords.{HeldWords}
+use Rattle.slatedb_block.specs.declared.TimeWords.{TimeWords}
+use Rattle.slatedb_block.specs.Words.{badWords, wordAt, cursorIn, cursorWords, builderWords, fieldsIn}
 
 abbrev pub saysTruth : TruthRead → Res Bool
 saysTruth (IsTruth b) = ok b
@@ -29,10 +50,6 @@ saysTruth BadTruth = refuse badWords
 abbrev pub saysOrdered : OrderRead → Res Direction
 saysOrdered (IsOrder o) = ok (saysOrder o)
 saysOrdered BadOrder = refuse badWords
-
--- a place beside these key bytes
-abbrev pub viewIn : Place → List ℕ → Cursor
-viewIn p key = record { direction = saysOrder (p .order); region = p .region; at = p .at; keyLen = p .«key_len»; key = take (p .«key_len») key; mark = p .done }
 
 abbrev pub saysCursor : List ℕ → CursorRead → Res Cursor
 saysCursor key (IsCursor p) = ok (viewIn p key)
@@ -60,9 +77,57 @@ builderFromWords ws =
       «last_key_len» = wordAt ws 5;
     }
 
+abbrev pub iteratorOver : Place → List ℕ → BlockIteratorV2
+iteratorOver p key = record { order = p .order; region = p .region; at = p .at; key = key; «key_len» = p .«key_len»; done = p .done }
+
+abbrev pub stateIn : List ℕ → State
+stateIn ws =
+    record {
+      «block_size» = wordAt ws 0;
+      «restart_interval» = wordAt ws 1;
+      used = wordAt ws 2;
+      restarts = wordAt ws 3;
+      counter = wordAt ws 4;
+      «last_key_len» = wordAt ws 5;
+    }
+
+abbrev pub builderOver : State → List ℕ → BlockBuilderV2
+builderOver s last = builderFrom s last
+
 abbrev pub made : ℕ → ℕ → New → Type 0
 made size interval r = Makes size interval r
+
+pub record PutsBuilder (b : BlockBuilderV2) (ws last : List ℕ) : Type 0 where
+  pub words : ws ≡ builderWords (viewOfBuilder b)
+  pub bytes : last ≡ b .«last_key»
 
 pub record PutsIterator (c : BlockIteratorV2) (ws key : List ℕ) : Type 0 where
   pub words : ws ≡ cursorWords (viewOf c)
   pub bytes : key ≡ c .key
+
+-- ---- a row's fields
+
+abbrev pub saysKindRead : KindRead → Res KindL
+saysKindRead (IsKind k) = ok (saysKind k)
+saysKindRead BadKind = refuse badWords
+
+abbrev pub saysTimeRead : TimeRead → Res TimeL
+saysTimeRead (IsTime t) = ok (saysTime t)
+saysTimeRead BadTime = refuse badWords
+
+abbrev pub saysFields : List ℕ → FieldsRead → Res Fields
+saysFields v (IsFields f) = ok (fieldsFrom f v)
+saysFields v BadFields = refuse badWords
+
+-- whatever value is offered with them
+abbrev pub LoadsFields : List ℕ → FieldsRead → Type 0
+LoadsFields ws r = (v : List ℕ) → saysFields v r ≡ fieldsIn ws v
+
+abbrev pub heldFrom : ValueDeletable → HeldWords
+heldFrom (Value start n) = record { kind = 0; start = start; len = n }
+heldFrom Tombstone = record { kind = 1; start = 0; len = 0 }
+heldFrom (Merge start n) = record { kind = 2; start = start; len = n }
+
+abbrev pub timeWordsOf : Time → TimeWords
+timeWordsOf Absent = record { has = 0; bits = 0 }
+timeWordsOf (At z) = record { has = 1; bits = bits z }

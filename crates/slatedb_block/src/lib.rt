@@ -6,19 +6,36 @@ ghost use mathlib.Core.List.{[], _∷_};
 ghost use lib.ListN.{length};
 ghost use Rattle.layout.specs.Limits.{maxKey};
 ghost use Rattle.types.specs.Says.{saysOrder};
-ghost use Rattle.slatedb_block.specs.Words.{truthIn, truthWord, orderIn, orderWord, cursorWords};
-ghost use Rattle.slatedb_block.specs.Says.{saysTruth, saysOrdered, viewIn, LoadsCursor, placeOf, iteratorFrom, builderFromWords, made, PutsIterator};
-ghost use Rattle.slatedb_block.specs.Promise.{ChecksFlat, MakesFlat, EmptiesFlat, BuildsFlat, OpensFlat, SeeksFlat, TellsFlat};
+ghost use Rattle.block_v2.specs.Says.{stateOf, viewFrom};
+ghost use Rattle.row_codec_v2.specs.Says.{rowFrom};
+ghost use Rattle.block_step_v2.specs.Says.{viewIn};
+ghost use Rattle.slatedb_block.specs.Words.{truthIn, truthWord, orderIn, orderWord, cursorWords, builderWords, kindIn, timeIn, rowWords};
+ghost use Rattle.slatedb_block.specs.Says.{saysTruth, saysOrdered, LoadsCursor, saysKindRead, saysTimeRead, LoadsFields, heldFrom, timeWordsOf, placeOf, iteratorFrom, iteratorOver, builderFromWords, stateIn, builderOver, made, PutsIterator, PutsBuilder};
+ghost use Rattle.slatedb_block.specs.Promise.{EncodesFlat, DecodesFlat, MakesFlat, FitsFlat, AddsFlat, EmptiesFlat, BuildsFlat, ChecksFlat, OpensFlat, TellsFlat, StepsFlat, SeeksFlat};
 use block_check_v2::Checked;
 use block_iterator_v2::BlockIteratorV2;
 use block_iterator_v2::EmptyRead;
+use block_iterator_v2::NextAnswer;
 use block_iterator_v2::OpenAnswer;
 use block_iterator_v2::SeekAnswer;
+use block_step_v2::Moved;
+use block_step_v2::Place;
+use block_v2::AddAnswer;
 use block_v2::BlockBuilderV2;
 use block_v2::BuildAnswer;
+use block_v2::Fit;
+use block_v2::Grown;
 use block_v2::Made;
 use block_v2::New;
+use block_v2::State;
+use row_codec_v2::Encoded;
+use row_codec_v2::Row;
+use row_codec_v2::RowFields;
+use row_codec_v2::RowRead;
 use types::IterationOrder;
+use types::Kind;
+use types::Time;
+use types::ValueDeletable;
 
 const GOOD: u8 = 0;
 
@@ -30,13 +47,9 @@ const CURSOR_WORDS: usize = 5;
 
 const BUILDER_WORDS: usize = 6;
 
-struct Place {
-    order: IterationOrder,
-    region: usize,
-    at: usize,
-    key_len: usize,
-    done: bool,
-}
+const FIELDS_WORDS: usize = 6;
+
+const ROW_WORDS: usize = 13;
 
 enum TruthRead {
     Is(bool),
@@ -51,6 +64,34 @@ enum OrderRead {
 enum CursorRead {
     Is(Place),
     Bad,
+}
+
+enum KindRead {
+    Is(Kind),
+    Bad,
+}
+
+enum TimeRead {
+    Is(Time),
+    Bad,
+}
+
+enum FieldsRead {
+    Is(RowFields),
+    Bad,
+}
+
+// A value's kind and place, as words.
+struct HeldWords {
+    kind: u64,
+    start: u64,
+    len: u64,
+}
+
+// Whether there is a time, and its bits.
+struct TimeWords {
+    has: u64,
+    bits: u64,
 }
 
 // ---- words
@@ -179,24 +220,196 @@ fn builder_in(words: &[u64]) -> BlockBuilderV2
     }
 }
 
-fn put_builder(
-    words: &mut [u64],
-    block_size: usize,
-    restart_interval: usize,
-    used: usize,
-    restarts: usize,
-    counter: usize,
-    last_key_len: usize,
-)
+fn put_state(words: &mut [u64], s: State)
     requires { ⌜ length (now words) ≡ 6 ⌝ }
-    ensures { λ _. ⌜ now (words .exit) ≡ «block_size» ∷ «restart_interval» ∷ used ∷ restarts ∷ counter ∷ «last_key_len» ∷ [] ⌝ }
+    ensures { λ _. ⌜ now (words .exit) ≡ builderWords (viewFrom s []) ⌝ }
 {
-    words[0] = block_size as u64;
-    words[1] = restart_interval as u64;
-    words[2] = used as u64;
-    words[3] = restarts as u64;
-    words[4] = counter as u64;
-    words[5] = last_key_len as u64;
+    words[0] = s.block_size as u64;
+    words[1] = s.restart_interval as u64;
+    words[2] = s.used as u64;
+    words[3] = s.restarts as u64;
+    words[4] = s.counter as u64;
+    words[5] = s.last_key_len as u64;
+}
+
+fn state_of(b: BlockBuilderV2) -> State
+    ensures { λ r. ⌜ r ≡ stateOf b ⌝ }
+{
+    State {
+        block_size: b.block_size,
+        restart_interval: b.restart_interval,
+        used: b.used,
+        restarts: b.restarts,
+        counter: b.counter,
+        last_key_len: b.last_key_len,
+    }
+}
+
+// Puts a builder back: its words, and its last key's bytes.
+fn put_added(builder: &mut [u64], last_key: &mut [u8], b: BlockBuilderV2)
+    requires { ⌜ (length (now builder) ≡ 6) × (length (now «last_key») ≡ maxKey) ⌝ }
+    ensures { λ _. ⌜ PutsBuilder b (now (builder .exit)) (now («last_key» .exit)) ⌝ }
+{
+    put_state(builder, state_of(b));
+    utils::copy_in(last_key, 0, &b.last_key);
+}
+
+fn kind_in(word: u64) -> KindRead
+    ensures { λ r. ⌜ saysKindRead r ≡ kindIn word ⌝ }
+{
+    if word == 2 {
+        return KindRead::Is(Kind::Merge);
+    }
+    if word == 0 {
+        return KindRead::Is(Kind::Value);
+    }
+    if word == 1 {
+        return KindRead::Is(Kind::Tombstone);
+    }
+    KindRead::Bad
+}
+
+fn time_in(has: u64, bits: u64) -> TimeRead
+    ensures { λ r. ⌜ saysTimeRead r ≡ timeIn has bits ⌝ }
+{
+    let there = truth_in(has);
+    let TruthRead::Is(b) = there else {
+        return TimeRead::Bad;
+    };
+    if b {
+        return TimeRead::Is(Time::At(utils::from_bits(bits)));
+    }
+    TimeRead::Is(Time::Absent)
+}
+
+fn fields_in(words: &[u64]) -> FieldsRead
+    ensures { λ r. ⌜ LoadsFields (now (words .entry)) r ⌝ }
+{
+    if words.len() != FIELDS_WORDS {
+        return FieldsRead::Bad;
+    }
+    let kinds = kind_in(words[0]);
+    let KindRead::Is(kind) = kinds else {
+        return FieldsRead::Bad;
+    };
+    let expires = time_in(words[2], words[3]);
+    let TimeRead::Is(expire) = expires else {
+        return FieldsRead::Bad;
+    };
+    let creates = time_in(words[4], words[5]);
+    let TimeRead::Is(create) = creates else {
+        return FieldsRead::Bad;
+    };
+    FieldsRead::Is(RowFields {
+        kind,
+        seq: words[1],
+        expire,
+        create,
+    })
+}
+
+fn held_words(held: ValueDeletable) -> HeldWords
+    ensures { λ r. ⌜ r ≡ heldFrom held ⌝ }
+{
+    match held {
+        ValueDeletable::Value { start, len } => HeldWords {
+            kind: 0,
+            start: start as u64,
+            len: len as u64,
+        },
+        ValueDeletable::Tombstone => HeldWords {
+            kind: 1,
+            start: 0,
+            len: 0,
+        },
+        ValueDeletable::Merge { start, len } => HeldWords {
+            kind: 2,
+            start: start as u64,
+            len: len as u64,
+        },
+    }
+}
+
+fn time_words(time: Time) -> TimeWords
+    ensures { λ r. ⌜ r ≡ timeWordsOf time ⌝ }
+{
+    match time {
+        Time::Absent => TimeWords { has: 0, bits: 0 },
+        Time::At(z) => TimeWords {
+            has: 1,
+            bits: utils::to_bits(z),
+        },
+    }
+}
+
+fn put_row(words: &mut [u64], row: Row)
+    requires { ⌜ length (now words) ≡ 13 ⌝ }
+    ensures { λ _. ⌜ now (words .exit) ≡ rowWords (rowFrom row) ⌝ }
+{
+    let held = row.held;
+    let h = held_words(held);
+    let expire = row.expire;
+    let e = time_words(expire);
+    let create = row.create;
+    let c = time_words(create);
+    words[0] = row.start as u64;
+    words[1] = row.next as u64;
+    words[2] = row.shared as u64;
+    words[3] = row.suffix_at as u64;
+    words[4] = row.suffix_len as u64;
+    words[5] = h.kind;
+    words[6] = h.start;
+    words[7] = h.len;
+    words[8] = row.seq;
+    words[9] = e.has;
+    words[10] = e.bits;
+    words[11] = c.has;
+    words[12] = c.bits;
+}
+
+// ---- one row
+
+#[no_mangle]
+pub extern "C" fn slatedb_encode(
+    output: &mut [u8],
+    previous_len: usize,
+    shared: usize,
+    key_suffix: &[u8],
+    value: &[u8],
+    fields: &[u64],
+    count: &mut u64,
+) -> u8
+    ensures { λ r. ⌜ EncodesFlat «previous_len» shared (now («key_suffix» .entry)) (now (value .entry)) (now (fields .entry)) (now (output .entry)) (now (count .entry)) r (now (output .exit)) (now (count .exit)) ⌝ }
+{
+    let loaded = fields_in(fields);
+    let FieldsRead::Is(row) = loaded else {
+        return BAD_WORDS;
+    };
+    let encoded = row_codec_v2::encode(output, previous_len, shared, key_suffix, value, row);
+    match encoded {
+        Encoded::Bytes(n) => {
+            *count = n as u64;
+            GOOD
+        }
+        Encoded::Refused(refusal) => types::number(refusal),
+    }
+}
+
+#[no_mangle]
+pub extern "C" fn slatedb_decode(input: &[u8], previous_len: usize, row: &mut [u64]) -> u8
+    ensures { λ r. ⌜ DecodesFlat (now (input .entry)) «previous_len» (now (row .entry)) r (now (row .exit)) ⌝ }
+{
+    if row.len() != ROW_WORDS {
+        return BAD_WORDS;
+    }
+    let read = row_codec_v2::decode(input, previous_len);
+    match read {
+        RowRead::Read(r) => {
+            put_row(row, r);
+            GOOD
+        }
+        RowRead::Refused(refusal) => types::number(refusal),
+    }
 }
 
 // ---- building a block
@@ -226,19 +439,139 @@ pub extern "C" fn slatedb_builder_new(
     let answer = new.answer;
     match answer {
         Made::Good => {
-            let b = new.builder;
-            put_builder(
-                builder,
-                b.block_size,
-                b.restart_interval,
-                b.used,
-                b.restarts,
-                b.counter,
-                b.last_key_len,
-            );
+            put_state(builder, state_of(new.builder));
             GOOD
         }
         Made::Refused(refusal) => types::number(refusal),
+    }
+}
+
+fn state_in(words: &[u64]) -> State
+    requires { ⌜ length (now words) ≡ 6 ⌝ }
+    ensures { λ r. ⌜ r ≡ stateIn (now (words .entry)) ⌝ }
+{
+    State {
+        block_size: size(words[0]),
+        restart_interval: size(words[1]),
+        used: size(words[2]),
+        restarts: size(words[3]),
+        counter: size(words[4]),
+        last_key_len: size(words[5]),
+    }
+}
+
+// A builder by value, with a copy of its last key.
+fn builder_over(words: &[u64], last_key: &[u8]) -> BlockBuilderV2
+    requires { ⌜ (length (now words) ≡ 6) × (length (now «last_key») ≡ maxKey) ⌝ }
+    ensures { λ r. ⌜ r ≡ builderOver (stateIn (now (words .entry))) (now («last_key» .entry)) ⌝ }
+{
+    let s = state_in(words);
+    let mut key = [0; 1024];
+    utils::copy_in(&mut key, 0, last_key);
+    BlockBuilderV2 {
+        block_size: s.block_size,
+        restart_interval: s.restart_interval,
+        used: s.used,
+        restarts: s.restarts,
+        counter: s.counter,
+        last_key: key,
+        last_key_len: s.last_key_len,
+    }
+}
+
+#[no_mangle]
+pub extern "C" fn slatedb_builder_would_fit(
+    builder: &[u64],
+    last_key: &[u8],
+    data_len: usize,
+    restarts_len: usize,
+    key: &[u8],
+    value: &[u8],
+    fields: &[u64],
+) -> u8
+    ensures { λ r. ⌜ FitsFlat (now (builder .entry)) (now («last_key» .entry)) «data_len» «restarts_len» (now (key .entry)) (now (value .entry)) (now (fields .entry)) r ⌝ }
+{
+    if builder.len() != BUILDER_WORDS {
+        return BAD_WORDS;
+    }
+    if last_key.len() != types::MAX_KEY {
+        return BAD_WORDS;
+    }
+    let loaded = fields_in(fields);
+    let FieldsRead::Is(row) = loaded else {
+        return BAD_WORDS;
+    };
+    let b = builder_over(builder, last_key);
+    let fit = b.would_fit(data_len, restarts_len, key, value, row);
+    match fit {
+        Fit::Yes => GOOD,
+        Fit::Refused(refusal) => types::number(refusal),
+    }
+}
+
+#[no_mangle]
+pub extern "C" fn slatedb_builder_add(
+    builder: &mut [u64],
+    last_key: &mut [u8],
+    data: &mut [u8],
+    restarts: &mut [u16],
+    key: &[u8],
+    value: &[u8],
+    fields: &[u64],
+) -> u8
+    ensures { λ r. ⌜ AddsFlat (now (builder .entry)) (now («last_key» .entry)) (now («data» .entry)) (now (restarts .entry)) (now (key .entry)) (now (value .entry)) (now (fields .entry)) r (now (builder .exit)) (now («last_key» .exit)) (now («data» .exit)) (now (restarts .exit)) ⌝ }
+{
+    if builder.len() != BUILDER_WORDS {
+        return BAD_WORDS;
+    }
+    if last_key.len() != types::MAX_KEY {
+        return BAD_WORDS;
+    }
+    let loaded = fields_in(fields);
+    let FieldsRead::Is(row) = loaded else {
+        return BAD_WORDS;
+    };
+    let s = state_in(builder);
+    let grown = block_v2::add_in_place(last_key, s, data, restarts, key, value, row);
+    match grown {
+        Grown::Row(t) => {
+            put_state(builder, t);
+            GOOD
+        }
+        Grown::Refused(refusal) => types::number(refusal),
+    }
+}
+
+#[no_mangle]
+pub extern "C" fn slatedb_builder_add_by_value(
+    builder: &mut [u64],
+    last_key: &mut [u8],
+    data: &mut [u8],
+    restarts: &mut [u16],
+    key: &[u8],
+    value: &[u8],
+    fields: &[u64],
+) -> u8
+    ensures { λ r. ⌜ AddsFlat (now (builder .entry)) (now («last_key» .entry)) (now («data» .entry)) (now (restarts .entry)) (now (key .entry)) (now (value .entry)) (now (fields .entry)) r (now (builder .exit)) (now («last_key» .exit)) (now («data» .exit)) (now (restarts .exit)) ⌝ }
+{
+    if builder.len() != BUILDER_WORDS {
+        return BAD_WORDS;
+    }
+    if last_key.len() != types::MAX_KEY {
+        return BAD_WORDS;
+    }
+    let loaded = fields_in(fields);
+    let FieldsRead::Is(row) = loaded else {
+        return BAD_WORDS;
+    };
+    let added = builder_over(builder, last_key).add(data, restarts, key, value, row);
+    let answer = added.answer;
+    match answer {
+        AddAnswer::Good => {
+            put_added(builder, last_key, added.builder);
+            GOOD
+        }
+        AddAnswer::Refused(refusal) => types::number(refusal),
     }
 }
 
@@ -343,6 +676,95 @@ fn put_iterator(cursor: &mut [u64], key: &mut [u8], c: BlockIteratorV2)
 {
     put_cursor(cursor, place_of(c));
     utils::copy_in(key, 0, &c.key);
+}
+
+#[no_mangle]
+pub extern "C" fn slatedb_next(
+    block: &[u8],
+    cursor: &mut [u64],
+    key: &mut [u8],
+    out: &mut [u8],
+    row: &mut [u64],
+) -> u8
+    ensures { λ r. ⌜ StepsFlat (now (block .entry)) (now (cursor .entry)) (now (key .entry)) (now (out .entry)) (now (row .entry)) r (now (cursor .exit)) (now (key .exit)) (now (out .exit)) (now (row .exit)) ⌝ }
+{
+    if row.len() != ROW_WORDS {
+        return BAD_WORDS;
+    }
+    if key.len() != types::MAX_KEY {
+        return BAD_WORDS;
+    }
+    let loaded = cursor_in(cursor);
+    let CursorRead::Is(p) = loaded else {
+        return BAD_WORDS;
+    };
+    let moved = block_step_v2::next_in_place(key, p, block, out);
+    match moved {
+        Moved::Found { place, row: r } => {
+            put_cursor(cursor, place);
+            put_row(row, r);
+            GOOD
+        }
+        Moved::Done(place) => {
+            put_cursor(cursor, place);
+            DONE
+        }
+        Moved::Refused(refusal) => types::number(refusal),
+    }
+}
+
+// A cursor by value, with a copy of its key.
+fn iterator_over(p: Place, key: &[u8]) -> BlockIteratorV2
+    requires { ⌜ length (now key) ≡ maxKey ⌝ }
+    ensures { λ r. ⌜ r ≡ iteratorOver p (now (key .entry)) ⌝ }
+{
+    let order = p.order;
+    let mut carried = [0; 1024];
+    utils::copy_in(&mut carried, 0, key);
+    BlockIteratorV2 {
+        order,
+        region: p.region,
+        at: p.at,
+        key: carried,
+        key_len: p.key_len,
+        done: p.done,
+    }
+}
+
+#[no_mangle]
+pub extern "C" fn slatedb_next_by_value(
+    block: &[u8],
+    cursor: &mut [u64],
+    key: &mut [u8],
+    out: &mut [u8],
+    row: &mut [u64],
+) -> u8
+    ensures { λ r. ⌜ StepsFlat (now (block .entry)) (now (cursor .entry)) (now (key .entry)) (now (out .entry)) (now (row .entry)) r (now (cursor .exit)) (now (key .exit)) (now (out .exit)) (now (row .exit)) ⌝ }
+{
+    if row.len() != ROW_WORDS {
+        return BAD_WORDS;
+    }
+    if key.len() != types::MAX_KEY {
+        return BAD_WORDS;
+    }
+    let loaded = cursor_in(cursor);
+    let CursorRead::Is(p) = loaded else {
+        return BAD_WORDS;
+    };
+    let next = iterator_over(p, key).next(block, out);
+    let answer = next.answer;
+    match answer {
+        NextAnswer::Found(r) => {
+            put_iterator(cursor, key, next.iterator);
+            put_row(row, r);
+            GOOD
+        }
+        NextAnswer::Done => {
+            put_iterator(cursor, key, next.iterator);
+            DONE
+        }
+        NextAnswer::Refused(refusal) => types::number(refusal),
+    }
 }
 
 #[no_mangle]
