@@ -12,10 +12,6 @@ use Rattle.layout.specs.Seek.{Sought, soughtIs}
 use Rattle.types.specs.declared.IterationOrder.{IterationOrder}
 use Rattle.types.specs.declared.Refusal.{Refusal}
 use Rattle.types.specs.declared.Refusal.the-variants.{BadTrailer, BadOffset, BadState}
-use Rattle.block.specs.declared.RegionRead.{RegionRead}
-use Rattle.block.specs.declared.RegionRead.the-variants.{Good as GoodRegion, Refused as RegionRefused}
-use Rattle.block.specs.declared.TrailerRead.{TrailerRead}
-use Rattle.block.specs.declared.TrailerRead.the-variants.{Good as GoodTrailer, Refused as TrailerRefused}
 use Rattle.block.specs.declared.Tested.{Tested}
 use Rattle.block.specs.declared.Tested.the-variants.{Good as GoodOffsets, Refused as OffsetsRefused}
 use Rattle.block_regions_v2.specs.declared.WalkAnswer.{WalkAnswer}
@@ -35,17 +31,9 @@ use Rattle.block_iterator_v2.specs.declared.Sought.{Sought as SoughtC}
 
 -- ---- the refusal that an answer hands on: where an answer is none, it does not matter which
 
-abbrev pub refusalOfTrailer : TrailerRead → Refusal
-refusalOfTrailer (GoodTrailer t) = BadTrailer
-refusalOfTrailer (TrailerRefused r) = r
-
 abbrev pub refusalOfOffsets : Tested → Refusal
 refusalOfOffsets GoodOffsets = BadOffset
 refusalOfOffsets (OffsetsRefused r) = r
-
-abbrev pub refusalOfRegion : RegionRead → Refusal
-refusalOfRegion (GoodRegion g) = BadOffset
-refusalOfRegion (RegionRefused r) = r
 
 abbrev pub refusalOfWalk : WalkAnswer → Refusal
 refusalOfWalk Stopped = BadState

@@ -14,7 +14,7 @@ ghost use Rattle.block.specs.Says.{trailerFrom};
 ghost use Rattle.block_step_v2.specs.Promise.{Moves};
 ghost use Rattle.block_step_v2.specs.Says.{viewIn, placeAfter};
 ghost use Rattle.block_iterator_v2.specs.Says.{viewOf};
-ghost use Rattle.block_iterator_v2.specs.Parts.{refusalOfTrailer, refusalOfOffsets, refusalOfRegion, refusalOfWalk, refusalOfLast, refusalOfStart, placed, answerOf, SetsOut, sought, landed};
+ghost use Rattle.block_iterator_v2.specs.Parts.{refusalOfOffsets, refusalOfWalk, refusalOfLast, refusalOfStart, placed, answerOf, SetsOut, sought, landed};
 ghost use Rattle.block_iterator_v2.specs.Promise.{Opens, StepsNext, Seeks, SeeksTarget, TellsEmpty};
 use block::RegionRead;
 use block::Tested;
@@ -83,30 +83,12 @@ pub enum EmptyRead {
 
 // ---- the refusal of an answer that is one
 
-fn trailer_refusal(a: TrailerRead) -> Refusal
-    ensures { λ r. ⌜ r ≡ refusalOfTrailer a ⌝ }
-{
-    match a {
-        TrailerRead::Refused(refusal) => refusal,
-        TrailerRead::Good(_) => Refusal::BadTrailer,
-    }
-}
-
 fn offsets_refusal(a: Tested) -> Refusal
     ensures { λ r. ⌜ r ≡ refusalOfOffsets a ⌝ }
 {
     match a {
         Tested::Refused(refusal) => refusal,
         Tested::Good => Refusal::BadOffset,
-    }
-}
-
-fn region_refusal(a: RegionRead) -> Refusal
-    ensures { λ r. ⌜ r ≡ refusalOfRegion a ⌝ }
-{
-    match a {
-        RegionRead::Refused(refusal) => refusal,
-        RegionRead::Good(_) => Refusal::BadOffset,
     }
 }
 
@@ -192,7 +174,7 @@ impl BlockIteratorV2 {
         let TrailerRead::Good(t) = read else {
             return Opened {
                 iterator: start,
-                answer: OpenAnswer::Refused(trailer_refusal(read)),
+                answer: OpenAnswer::Refused(block::trailer_refusal(read)),
             };
         };
         let offsets = block::all_offsets(block, t);
@@ -223,7 +205,7 @@ impl BlockIteratorV2 {
     {
         let read = block::trailer_of(block);
         let TrailerRead::Good(t) = read else {
-            return EmptyRead::Refused(trailer_refusal(read));
+            return EmptyRead::Refused(block::trailer_refusal(read));
         };
         if self.done {
             return EmptyRead::Is(true);
@@ -289,7 +271,7 @@ impl BlockIteratorV2 {
             let RegionRead::Good(region) = read else {
                 return Sought {
                     iterator: self,
-                    answer: SeekAnswer::Refused(region_refusal(read)),
+                    answer: SeekAnswer::Refused(block::region_refusal(read)),
                 };
             };
             let walked = block_regions_v2::walk_region(&block[..size], region, target);
@@ -326,7 +308,7 @@ impl BlockIteratorV2 {
             let RegionRead::Good(region) = read else {
                 return Sought {
                     iterator: self,
-                    answer: SeekAnswer::Refused(region_refusal(read)),
+                    answer: SeekAnswer::Refused(block::region_refusal(read)),
                 };
             };
             let last = block_regions_v2::last_at_or_below(&block[..size], region, target);
@@ -390,7 +372,7 @@ impl BlockIteratorV2 {
         let TrailerRead::Good(t) = read else {
             return Sought {
                 iterator: self,
-                answer: SeekAnswer::Refused(trailer_refusal(read)),
+                answer: SeekAnswer::Refused(block::trailer_refusal(read)),
             };
         };
         let order = self.order;

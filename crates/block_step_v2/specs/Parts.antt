@@ -12,15 +12,9 @@ use Rattle.layout.specs.Cursor.{Direction, Cursor, marked, found, done, Step, s
 use Rattle.types.specs.Number.{number}
 use Rattle.types.specs.Says.{saysOrder}
 use Rattle.types.specs.declared.Refusal.{Refusal}
-use Rattle.types.specs.declared.Refusal.the-variants.{BadTrailer, BadOffset, InputEnds, BadState}
+use Rattle.types.specs.declared.Refusal.the-variants.{BadState}
 use Rattle.row_codec_v2.specs.Says.{rowFrom}
-use Rattle.row_codec_v2.specs.declared.RowRead.{RowRead}
-use Rattle.row_codec_v2.specs.declared.RowRead.the-variants.{Read as ReadRow, Refused as RowRefused}
 use Rattle.block.specs.Says.{regionFrom}
-use Rattle.block.specs.declared.RegionRead.{RegionRead}
-use Rattle.block.specs.declared.RegionRead.the-variants.{Good as GoodRegion, Refused as RegionRefused}
-use Rattle.block.specs.declared.TrailerRead.{TrailerRead}
-use Rattle.block.specs.declared.TrailerRead.the-variants.{Good as GoodTrailer, Refused as TrailerRefused}
 use Rattle.block_regions_v2.specs.declared.Ended.{Ended}
 use Rattle.block_regions_v2.specs.declared.Ended.the-variants.{Row as EndedRow, Refused as EndedRefused}
 use Rattle.block_step_v2.specs.declared.Place.{Place}
@@ -33,18 +27,6 @@ use Rattle.block_step_v2.specs.declared.Behind.the-variants.{In, Start, 
 use Rattle.block_step_v2.specs.Says.{viewIn}
 
 -- ---- the refusal that an answer hands on: where an answer is none, it does not matter which
-
-abbrev pub refusalOfTrailer : TrailerRead → Refusal
-refusalOfTrailer (GoodTrailer t) = BadTrailer
-refusalOfTrailer (TrailerRefused r) = r
-
-abbrev pub refusalOfRegion : RegionRead → Refusal
-refusalOfRegion (GoodRegion g) = BadOffset
-refusalOfRegion (RegionRefused r) = r
-
-abbrev pub refusalOfRow : RowRead → Refusal
-refusalOfRow (ReadRow r) = InputEnds
-refusalOfRow (RowRefused r) = r
 
 abbrev pub refusalOfEnded : Ended → Refusal
 refusalOfEnded (EndedRow r) = BadState

@@ -15,7 +15,7 @@ ghost use Rattle.layout.specs.Trailer.{trailerOf, dataOf};
 ghost use Rattle.row_codec_v2.specs.Says.{rowFrom};
 ghost use Rattle.block.specs.Says.{trailerFrom, regionFrom};
 ghost use Rattle.block_step_v2.specs.Says.{viewIn};
-ghost use Rattle.block_step_v2.specs.Parts.{refusalOfTrailer, refusalOfRegion, refusalOfRow, refusalOfEnded, finished, Stands, passed, Fits, LooksAhead, LooksBehind};
+ghost use Rattle.block_step_v2.specs.Parts.{refusalOfEnded, finished, Stands, passed, Fits, LooksAhead, LooksBehind};
 ghost use Rattle.block_step_v2.specs.Promise.{Moves, StepsInPlace};
 use block::Region;
 use block::RegionRead;
@@ -58,33 +58,6 @@ enum Behind {
 }
 
 // ---- the refusal of an answer that is one
-
-fn trailer_refusal(a: TrailerRead) -> Refusal
-    ensures { λ r. ⌜ r ≡ refusalOfTrailer a ⌝ }
-{
-    match a {
-        TrailerRead::Refused(refusal) => refusal,
-        TrailerRead::Good(_) => Refusal::BadTrailer,
-    }
-}
-
-fn region_refusal(a: RegionRead) -> Refusal
-    ensures { λ r. ⌜ r ≡ refusalOfRegion a ⌝ }
-{
-    match a {
-        RegionRead::Refused(refusal) => refusal,
-        RegionRead::Good(_) => Refusal::BadOffset,
-    }
-}
-
-fn row_refusal(a: RowRead) -> Refusal
-    ensures { λ r. ⌜ r ≡ refusalOfRow a ⌝ }
-{
-    match a {
-        RowRead::Refused(refusal) => refusal,
-        RowRead::Read(_) => Refusal::InputEnds,
-    }
-}
 
 fn ended_refusal(a: Ended) -> Refusal
     ensures { λ r. ⌜ r ≡ refusalOfEnded a ⌝ }
@@ -135,7 +108,7 @@ fn look_ahead(p: Place, block: &[u8], t: Trailer, room: usize) -> Ahead
     let size = t.size;
     let read = block::region_of(block, t, p.region);
     let RegionRead::Good(region) = read else {
-        return Ahead::Refused(region_refusal(read));
+        return Ahead::Refused(block::region_refusal(read));
     };
     if at < region.start {
         return Ahead::Refused(Refusal::BadState);
@@ -149,7 +122,7 @@ fn look_ahead(p: Place, block: &[u8], t: Trailer, room: usize) -> Ahead
     let restart = at == region.start;
     let a = row_codec_v2::decode_at(&block[..size], at, region.end, p.key_len, restart);
     let RowRead::Read(row) = a else {
-        return Ahead::Refused(row_refusal(a));
+        return Ahead::Refused(row_codec_v2::row_refusal(a));
     };
     if room < row.shared + row.suffix_len {
         return Ahead::Refused(Refusal::KeyBufferTooShort);
@@ -212,7 +185,7 @@ fn look_behind(p: Place, block: &[u8], t: Trailer) -> Behind
     let number = p.region;
     let read = block::region_of(block, t, number);
     let RegionRead::Good(region) = read else {
-        return Behind::Refused(region_refusal(read));
+        return Behind::Refused(block::region_refusal(read));
     };
     if at < region.start {
         return Behind::Refused(Refusal::BadState);
@@ -228,7 +201,7 @@ fn look_behind(p: Place, block: &[u8], t: Trailer) -> Behind
     }
     let before = block::region_of(block, t, number - 1);
     let RegionRead::Good(region) = before else {
-        return Behind::Refused(region_refusal(before));
+        return Behind::Refused(block::region_refusal(before));
     };
     Behind::In {
         number: number - 1,
@@ -274,7 +247,7 @@ pub fn next_in_place(key: &mut [u8], p: Place, block: &[u8], out: &mut [u8]) -> 
     }
     let read = block::trailer_of(block);
     let TrailerRead::Good(t) = read else {
-        return Moved::Refused(trailer_refusal(read));
+        return Moved::Refused(block::trailer_refusal(read));
     };
     if t.count <= p.region {
         return Moved::Refused(Refusal::BadState);

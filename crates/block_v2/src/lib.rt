@@ -15,7 +15,7 @@ ghost use Rattle.layout.specs.Limits.{maxKey, maxBlock, maxInterval, defaultInt
 ghost use Rattle.layout.specs.Row.{ifSo, rowBytes};
 ghost use Rattle.layout.specs.Laws.RowWrite.{sizeOf};
 ghost use Rattle.layout.specs.Laws.Splice.{Wrote};
-ghost use Rattle.row_codec_v2.specs.Says.{fieldsFrom, saysSized, sizedRefusal};
+ghost use Rattle.row_codec_v2.specs.Says.{fieldsFrom, saysSized};
 ghost use Rattle.block_v2.specs.Says.{stateOf, stateFrom, builderFrom, viewFrom, noKey, badSettings};
 ghost use Rattle.block_v2.specs.Plan.{Judges, fitted, accepted, saysPlanned, plannedRefusal, Tested, Fitting, Grew, Finishes};
 ghost use Rattle.block_v2.specs.Promise.{Makes, Fits, Adds, AddsInPlace, Empties, Builds};
@@ -209,15 +209,6 @@ fn entry_encoded_size(shared: usize, key: &[u8], value: &[u8], row: RowFields) -
     )
 }
 
-fn size_refusal(size: Sized) -> Refusal
-    ensures { λ r. ⌜ r ≡ sizedRefusal size ⌝ }
-{
-    match size {
-        Sized::Refused(refusal) => refusal,
-        Sized::Bytes(_) => Refusal::EmptyKey,
-    }
-}
-
 // A new restart's offset takes two bytes of the trailer.
 fn restart_overhead(restart: bool) -> usize
     ensures { λ r. ⌜ (r ≡ ifSo restart 2) × (r ≤ 2) ⌝ }
@@ -255,7 +246,7 @@ fn plan_row(
     let shared = shared_bytes(restart, last_key, s.last_key_len, key);
     let entry_size = entry_encoded_size(shared, key, value, row);
     let Sized::Bytes(n) = entry_size else {
-        return Planned::Refused(size_refusal(entry_size));
+        return Planned::Refused(row_codec_v2::size_refusal(entry_size));
     };
     let no = Planned::Refused(Refusal::RowDoesNotFit);
     // Rows past the block size leave no room for another. Below it no sum wraps.

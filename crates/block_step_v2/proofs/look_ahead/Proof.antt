@@ -12,10 +12,9 @@ use Rattle.layout.specs.Laws.Cursor.{up-region, up-before, up-past, up-done, up
 use Rattle.layout.specs.Laws.Tells.{readRow-ends}
 use Rattle.layout.specs.Laws.Trailer.{trailerOf-tells}
 use Rattle.types.specs.Answers.{yes, no}
-use Rattle.row_codec_v2.specs.Says.{rowFrom, saysRow}
-use Rattle.block.specs.Says.{trailerFrom, regionFrom, saysRegion}
+use Rattle.row_codec_v2.specs.Says.{rowFrom, saysRow, refusalOfRow}
+use Rattle.block.specs.Says.{trailerFrom, regionFrom, saysRegion, refusalOfRegion}
 use Rattle.block.specs.Laws.{region-used}
-use Rattle.block_step_v2.specs.Parts.{refusalOfRegion, refusalOfRow}
 use Rattle.block_step_v2.proofs.Laws.{ahead-not, ahead-end, ahead-at}
 use borrow.Author.Needs.{needs}
 use Rattle.block_step_v2.proofs.look_ahead.Statement.{statement}

@@ -7,9 +7,8 @@ use Rattle.layout.specs.Answer.{ok}
 use Rattle.layout.specs.Trailer.{regionOf}
 use Rattle.layout.specs.Laws.Cursor.{down-region, down-before, down-past, down-done, down-before-no, down-before-in, down-in}
 use Rattle.types.specs.Answers.{yes, no}
-use Rattle.block.specs.Says.{trailerFrom, regionFrom, saysRegion}
+use Rattle.block.specs.Says.{trailerFrom, regionFrom, saysRegion, refusalOfRegion}
 use Rattle.block.specs.Laws.{region-used}
-use Rattle.block_step_v2.specs.Parts.{refusalOfRegion}
 use Rattle.block_step_v2.proofs.Laws.{behind-not, behind-start, behind-in, before-starts}
 use borrow.Author.Needs.{needs}
 use Rattle.block_step_v2.proofs.look_behind.Statement.{statement}

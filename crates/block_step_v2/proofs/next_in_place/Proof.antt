@@ -7,9 +7,9 @@ use Rattle.layout.specs.Trailer.{trailerOf}
 use Rattle.layout.specs.Laws.Cursor.{next-trailer, next-region, next-key, next-marked, next-up, next-down}
 use Rattle.types.specs.Answers.{yes, no}
 use Rattle.types.specs.Says.{saysOrder}
-use Rattle.block.specs.Says.{trailerFrom, saysTrailer}
+use Rattle.block.specs.Says.{trailerFrom, saysTrailer, refusalOfTrailer}
 use Rattle.block_step_v2.specs.Lent.{lent-other, lent-whole}
-use Rattle.block_step_v2.specs.Parts.{refusalOfTrailer, Stands}
+use Rattle.block_step_v2.specs.Parts.{Stands}
 use Rattle.block_step_v2.proofs.Laws.{moves-not, moves-over, moves-as}
 use borrow.Author.Needs.{needs}
 use Rattle.block_step_v2.proofs.next_in_place.Statement.{statement}

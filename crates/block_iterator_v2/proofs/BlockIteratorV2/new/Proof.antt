@@ -7,9 +7,9 @@ use Rattle.layout.specs.Trailer.{trailerOf, allOffsets}
 use Rattle.layout.specs.Laws.Trailer.{trailerOf-tells}
 use Rattle.layout.specs.Laws.Cursor.{open-trailer, open-offsets, open-good}
 use Rattle.types.specs.Answers.{yes, no}
-use Rattle.block.specs.Says.{trailerFrom, saysTrailer, saysTested}
+use Rattle.block.specs.Says.{trailerFrom, saysTrailer, saysTested, refusalOfTrailer}
 use Rattle.block.specs.Laws.{offsets-used}
-use Rattle.block_iterator_v2.specs.Parts.{refusalOfTrailer, refusalOfOffsets}
+use Rattle.block_iterator_v2.specs.Parts.{refusalOfOffsets}
 use Rattle.block_iterator_v2.proofs.Laws.{opens-not, opens-up, opens-down}
 use borrow.Author.Needs.{needs}
 use Rattle.block_iterator_v2.proofs.BlockIteratorV2.new.Statement.{statement}

@@ -6,8 +6,7 @@ use Rattle.layout.specs.Trailer.{trailerOf}
 use Rattle.layout.specs.Laws.Seek.{seek-trailer}
 use Rattle.types.specs.Answers.{yes, no}
 use Rattle.types.specs.Says.{saysOrder}
-use Rattle.block.specs.Says.{trailerFrom, saysTrailer}
-use Rattle.block_iterator_v2.specs.Parts.{refusalOfTrailer}
+use Rattle.block.specs.Says.{trailerFrom, saysTrailer, refusalOfTrailer}
 use Rattle.block_iterator_v2.proofs.Walks.{seeks-not, seeks-along}
 use borrow.Author.Needs.{needs}
 use Rattle.block_iterator_v2.proofs.BlockIteratorV2.seek.Statement.{statement}

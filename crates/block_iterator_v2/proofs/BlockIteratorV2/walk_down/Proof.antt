@@ -12,11 +12,11 @@ use Rattle.layout.specs.Trailer.{dataOf, regionOf}
 use Rattle.layout.specs.Laws.Seek.{Falling, falling-start, falling-region, falling-no, falling-found, falling-done, falling-more}
 use Rattle.layout.specs.Laws.Trailer.{trailerOf-tells}
 use Rattle.types.specs.Answers.{yes, no}
-use Rattle.block.specs.Says.{trailerFrom, regionFrom, saysRegion}
+use Rattle.block.specs.Says.{trailerFrom, regionFrom, saysRegion, refusalOfRegion}
 use Rattle.block.specs.Laws.{region-used}
 use Rattle.block_regions_v2.specs.Laws.{last-used}
 use Rattle.block_regions_v2.specs.Says.{saysLast}
-use Rattle.block_iterator_v2.specs.Parts.{refusalOfRegion, refusalOfLast}
+use Rattle.block_iterator_v2.specs.Parts.{refusalOfLast}
 use Rattle.block_iterator_v2.proofs.Walks.{walked-not, walked-to, walked-off}
 use Rattle.block_iterator_v2.proofs.BlockIteratorV2.walk_down.Statement.{statement}
 use Rattle.block_iterator_v2.proofs.BlockIteratorV2.walk_down.Tie as tie

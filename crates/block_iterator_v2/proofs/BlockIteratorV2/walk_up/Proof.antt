@@ -12,11 +12,10 @@ use Rattle.layout.specs.Trailer.{dataOf, regionOf}
 use Rattle.layout.specs.Laws.Seek.{Climbing, climbing-start, climbing-over, climbing-region, climbing-no, climbing-found, climbing-more}
 use Rattle.layout.specs.Laws.Trailer.{trailerOf-tells}
 use Rattle.types.specs.Answers.{yes, no}
-use Rattle.block.specs.Says.{trailerFrom, regionFrom, saysRegion}
+use Rattle.block.specs.Says.{trailerFrom, regionFrom, saysRegion, refusalOfRegion}
 use Rattle.block.specs.Laws.{region-used}
 use Rattle.block_regions_v2.specs.Laws.{walk-stopped}
 use Rattle.block_regions_v2.specs.Says.{stopFrom}
-use Rattle.block_iterator_v2.specs.Parts.{refusalOfRegion}
 use Rattle.block_iterator_v2.proofs.Walks.{walked-not, walked-off, walked-up, walk-stops, walk-refuses}
 use Rattle.block_iterator_v2.proofs.BlockIteratorV2.walk_up.Statement.{statement}
 use Rattle.block_iterator_v2.proofs.BlockIteratorV2.walk_up.Tie as tie
