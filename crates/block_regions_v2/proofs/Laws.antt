@@ -16,7 +16,6 @@ use Rattle.layout.specs.Laws.Cursor.{Backing, backing-straddles, backing-found,
 use Rattle.layout.specs.Laws.Compare.{isLess, compare-less-below}
 use Rattle.layout.specs.Laws.Seek.{Walking, walking-more, Lasting, lasting-more}
 use Rattle.layout.specs.Laws.Tells.{readRow-ends}
-pub use Rattle.utils.proofs.Laws.{copied, copied-part}
 use Rattle.block_regions_v2.specs.Regions.{given, endingAt}
 use Rattle.block_regions_v2.specs.Laws.{ending-given}
 
