@@ -1,6 +1,7 @@
 -- Each promise admits one outcome: two results, with the buffers that they leave, that both keep it are equal.
 use Prim.Native.Nat.{ℕ}
 use mathlib.Core.Path.{_≡_, sym, _∙_}
+use mathlib.Core.Bool.{Bool}
 use mathlib.Core.List.{List}
 use lib.ListN.{take}
 use Rattle.layout.specs.Block.{trailer}
@@ -11,11 +12,14 @@ use Rattle.block.specs.declared.Trailer.{Trailer}
 use Rattle.block.specs.declared.TrailerRead.{TrailerRead}
 use Rattle.block.specs.declared.RegionRead.{RegionRead}
 use Rattle.block.specs.declared.Tested.{Tested}
-use Rattle.block.specs.Promise.{ReadsTrailer, TrailerRefusal, ReadsRegion, RegionRefusal, TestsOffsets, PutsTrailer}
+use Rattle.block.specs.Promise.{ReadsTrailer, TestsTrailer, TrailerRefusal, ReadsRegion, RegionRefusal, TestsOffsets, PutsTrailer}
 use Rattle.block.specs.Says.{saysTrailer-one, saysRegion-one, saysTested-one}
 
 pub trailer-of-settled : (b : List ℕ) (r q : TrailerRead) → ReadsTrailer b r → ReadsTrailer b q → r ≡ q
 trailer-of-settled b r q m n = saysTrailer-one r q (m ∙ sym n)
+
+pub belongs-to-settled : (t : Trailer) (len : ℕ) (r q : Bool) → TestsTrailer t len r → TestsTrailer t len q → r ≡ q
+belongs-to-settled t len r q m n = m ∙ sym n
 
 pub trailer-refusal-settled : (a : TrailerRead) (r q : Refusal) → TrailerRefusal a r → TrailerRefusal a q → r ≡ q
 trailer-refusal-settled a r q m n = m ∙ sym n

@@ -1,6 +1,7 @@
 -- What each public function promises: equations to the definitions, that settle each number answered and each byte lent.
 use Prim.Native.Nat.{ℕ}
 use mathlib.Core.Path.{_≡_}
+use mathlib.Core.Bool.{Bool}
 use mathlib.Core.List.{List}
 use lib.ListN.{take}
 use Rattle.layout.specs.Block.{trailer}
@@ -12,11 +13,15 @@ use Rattle.block.specs.declared.Trailer.{Trailer}
 use Rattle.block.specs.declared.TrailerRead.{TrailerRead}
 use Rattle.block.specs.declared.RegionRead.{RegionRead}
 use Rattle.block.specs.declared.Tested.{Tested}
-use Rattle.block.specs.Handed.{regionAt, offsetsAt}
+use Rattle.block.specs.Handed.{belongs, regionAt, offsetsAt}
 use Rattle.block.specs.Says.{trailerFrom, saysTrailer, saysRegion, saysTested, refusalOfTrailer, refusalOfRegion}
 
 abbrev pub ReadsTrailer : List ℕ → TrailerRead → Type 0
 ReadsTrailer b a = saysTrailer a ≡ trailerOf b
+
+-- whether the numbers are those of a block of `len` bytes
+abbrev pub TestsTrailer : Trailer → ℕ → Bool → Type 0
+TestsTrailer t len r = r ≡ belongs len (trailerFrom t)
 
 abbrev pub TrailerRefusal : TrailerRead → Refusal → Type 0
 TrailerRefusal a r = r ≡ refusalOfTrailer a

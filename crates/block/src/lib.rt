@@ -5,9 +5,8 @@ ghost use mathlib.Core.Path.{_≡_};
 ghost use Prim.Native.Nat.{_≤_, _<_, _+_, _*_, _%_};
 ghost use lib.ListN.{length};
 ghost use Rattle.layout.specs.Trailer.{shortAt, firstOf, regionOf, allOffsets};
-ghost use Rattle.block.specs.Handed.{belongs};
 ghost use Rattle.block.specs.Says.{trailerFrom, saysRegion, saysTested};
-ghost use Rattle.block.specs.Promise.{ReadsTrailer, TrailerRefusal, ReadsRegion, RegionRefusal, TestsOffsets, PutsTrailer};
+ghost use Rattle.block.specs.Promise.{ReadsTrailer, TestsTrailer, TrailerRefusal, ReadsRegion, RegionRefusal, TestsOffsets, PutsTrailer};
 use types::Refusal;
 use utils::Put;
 use utils::ShortRead;
@@ -76,8 +75,8 @@ pub fn trailer_of(block: &[u8]) -> TrailerRead
 }
 
 // Whether these numbers are those of a block of `len` bytes. They may be any, so no sum is made of them that may wrap.
-fn belongs_to(t: Trailer, len: usize) -> bool
-    ensures { λ r. ⌜ r ≡ belongs len (trailerFrom t) ⌝ }
+pub fn belongs_to(t: Trailer, len: usize) -> bool
+    ensures { λ r. ⌜ TestsTrailer t len r ⌝ }
 {
     if len < 2 {
         return false;

@@ -1,4 +1,4 @@
--- What the proofs of more than one function cite: a row's test, and the turn of each loop for the array that a put left. Of a copy the laws of `utils` are handed on.
+-- What the proofs of more than one function cite: a row's test, and the turn of each loop for the array that a put left.
 use Prim.Native.Nat.{ℕ, _+_, _-_, _≤_, _<_}
 use mathlib.Core.Path.{_≡_, refl, sym}
 use mathlib.Core.Bool.{Bool, true, false, cond, not}

@@ -158,9 +158,9 @@ module _ (b : List ℕ) (t : Trailer) where
         either true = refl
         either false = refl
 
-    pub search-strange : (t .size + (2 + 2 * t .count) ≡ length b → ⊥) → refuse 14 ≡ searchAt b t target
+    pub search-strange : not (belongs (length b) t) ≡ true → refuse 14 ≡ searchAt b t target
     unfolding searchAt
-    search-strange n = rw (ne-eqb (t .size + (2 + 2 * t .count)) (length b) n)
+    search-strange e = rw e
 
     pub search-there : {x : Res Found} → t .size + (2 + 2 * t .count) ≡ length b → (t .count ≡ 0 → ⊥) → x ≡ searchFrom b t target 0 (t .count) 0 → x ≡ searchAt b t target
     unfolding searchAt

@@ -142,17 +142,14 @@ fn binary_search_restarts(
     }
 }
 
-// Tests the trailer, and searches all restarts. Its numbers may be any, so no sum is made of them that may wrap.
+// Tests the trailer, and searches all restarts.
 fn search_restarts(block: &[u8], t: Trailer, target: &[u8]) -> Search
     ensures { λ r. ⌜ saysSearch r ≡ searchAt (now (block .entry)) (trailerFrom t) (now (target .entry)) ⌝ }
 {
+    if !block::belongs_to(t, block.len()) {
+        return Search::Refused(Refusal::BadTrailer);
+    }
     if t.count == 0 {
-        return Search::Refused(Refusal::BadTrailer);
-    }
-    if block.len() / 2 <= t.count {
-        return Search::Refused(Refusal::BadTrailer);
-    }
-    if t.size != block.len() - 2 - 2 * t.count {
         return Search::Refused(Refusal::BadTrailer);
     }
     binary_search_restarts(block, t, target, 0, t.count, 0)
