@@ -58,7 +58,11 @@ fn cursor(run: &mut Run, block: &[u8], starts: &[usize]) -> Arrays {
     let key_len = pick(&mut run.rng, &[0, 0, 1, 2, 5, 1_023, 1_024, 1_025, any]);
     let region = if one_in(&mut run.rng, 4) { around(run, count) } else { below(&mut run.rng, count.max(1) as usize) as u64 };
     let at = if one_in(&mut run.rng, 3) { anywhere } else { start };
-    let words = [run.rng.next() % 2, region, at, key_len, one_in(&mut run.rng, 12) as u64];
+    let mut words = [run.rng.next() % 2, region, at, key_len, one_in(&mut run.rng, 12) as u64];
+    if one_in(&mut run.rng, 15) {
+        // right, were it cut to 32 bits
+        words[1 + below(&mut run.rng, 3)] |= 1 << 32;
+    }
     Arrays { cursor: bytes_of(&words), key: key_bytes(run, key_len) }
 }
 

@@ -183,8 +183,11 @@ pub fn edges(run: &mut Run) {
     case_11(run);
     lengths(run);
     settings(run);
+    past_32_bits(run);
     forged::most_restarts(run);
     most_restarts(run);
+    most_offsets(run);
+    long_block(run);
     // the block's bytes of the cases 1 to 4
     for (size, interval) in [(31, 16), (30, 16), (34, 1), (33, 1)] {
         building::fill(run, size, interval, &[plain(b"a", 0), Row { seq: 2, ..plain(b"ab", 0) }], ROOM, 4);
@@ -227,8 +230,8 @@ fn lengths(run: &mut Run) {
 }
 
 fn settings(run: &mut Run) {
-    for block_size in [0, 1, 131_071, 131_072, 131_073, usize::MAX] {
-        for interval in [0, 1, 2, 16, 1_023, 1_024, 1_025, usize::MAX] {
+    for block_size in [0, 1, 131_071, 131_072, 131_073, 1 << 32, usize::MAX] {
+        for interval in [0, 1, 2, 16, 1_023, 1_024, 1_025, (1 << 32) + 1, usize::MAX] {
             building::open(run, block_size, interval);
         }
     }
@@ -246,6 +249,49 @@ fn most_restarts(run: &mut Run) {
     for order in [0, 1] {
         reading::walks(run, &block, order, u64::MAX);
         let ops = [Op::Seek(vec![7]), Op::Next, Op::Seek(vec![251]), Op::Next, Op::Seek(vec![252, 1]), Op::Next, Op::IsEmpty];
+        reading::walk_accepted(run, "mixed walk (Rust)", &block, order, &ops);
+    }
+}
+
+/// Lengths that would be small if they were cut to 32 bits: they are refused before.
+fn past_32_bits(run: &mut Run) {
+    for shared in [1 << 32, (1 << 32) + 1, usize::MAX] {
+        for previous_len in [0, 1, 1 << 32, usize::MAX] {
+            rows::write_row(run, previous_len, shared, &plain(b"", 0), 40);
+            rows::write_row(run, previous_len, shared, &plain(b"a", 0), 40);
+        }
+    }
+    for previous_len in [1 << 32, usize::MAX] {
+        rows::read_row(run, &[1, 0, 0, 0, 0, 0, 0, 0, 0, 0, 1, 0], previous_len);
+    }
+}
+
+/// As many offsets as the count can say, one byte apart: such a block opens, and few of its restarts can be read.
+fn most_offsets(run: &mut Run) {
+    let row = direct::encode(0, &plain(b"a", 0)).expect("bytes").0;
+    let data = row.iter().copied().cycle().take(65_536);
+    let offsets = (0..u16::MAX).chain([u16::MAX]).flat_map(u16::to_be_bytes);
+    let block: Vec<u8> = data.chain(offsets).collect();
+    let keys = [b"a".to_vec()];
+    reading::check(run, &block);
+    for order in [0, 1] {
+        let mixed = ops(run, &keys, 12);
+        reading::walk_any(run, &block, order, &mixed, KEY_LIMIT);
+        reading::walks(run, &block, order, 3);
+    }
+}
+
+/// Longer than any block that a builder gives: there is no upper length on reading. And a target longer than any key.
+fn long_block(run: &mut Run) {
+    let mut builder = direct::Builder::new(1 << 20, 16);
+    let keys = [b"a".to_vec(), b"ab".to_vec(), b"b".to_vec(), vec![b'b'; KEY_LIMIT]];
+    for key in &keys {
+        builder.add(&plain(key, 65_535)).expect("a good row");
+    }
+    let block = builder.build().expect("a block");
+    good_block(run, &block, &keys);
+    for order in [0, 1] {
+        let ops = [Op::Seek(vec![b'a'; 100_000]), Op::Next, Op::Seek(vec![b'b'; 1_025]), Op::Next, Op::Next];
         reading::walk_accepted(run, "mixed walk (Rust)", &block, order, &ops);
     }
 }
