@@ -43,7 +43,7 @@ fn model_tells(block: &[u8], order: Order, target: Option<&[u8]>) -> Here {
     Here { rows, first_at, end, sought }
 }
 
-/// At most a row more than there are bytes is read: where 01 refuses a block, the Rust may give the same row for ever.
+/// No block has more rows than bytes: a bound, in case a refused block sends the Rust in circles.
 fn rust_tells(block: &[u8], order: Order, target: Option<&[u8]>) -> There {
     let (mut rows, mut opened_it, mut sought) = (Vec::new(), false, false);
     let mut tell = || -> Result<(), Stop> {
