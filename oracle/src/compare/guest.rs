@@ -1,12 +1,13 @@
 //! The process that has the proved library: calls go to it in batches, and each answer is held to the model's.
 use crate::calls::{words_of, Arg, Call, Expected};
 use crate::tally::Tally;
-use std::io::{Read, Write};
+use std::io::{self, Read, Write};
 use std::process::{Child, ChildStdin, ChildStdout, Command, Stdio};
 
 const BATCH: usize = 1 << 21;
 
 pub struct Guest {
+    command: Vec<String>,
     process: Child,
     to: ChildStdin,
     from: ChildStdout,
@@ -64,7 +65,7 @@ impl Guest {
             .spawn()
             .unwrap_or_else(|e| panic!("{}: {e}", command[0]));
         let (to, from) = (process.stdin.take().expect("stdin"), process.stdout.take().expect("stdout"));
-        Guest { process, to, from, requests: Vec::new(), waiting: Vec::new(), sent: Vec::new() }
+        Guest { command: command.to_vec(), process, to, from, requests: Vec::new(), waiting: Vec::new(), sent: Vec::new() }
     }
 
     pub fn ask(&mut self, kind: &'static str, call: Call, expected: Expected, tally: &mut Tally) {
@@ -77,11 +78,38 @@ impl Guest {
 
     fn flush(&mut self, tally: &mut Tally) {
         self.collect(tally);
-        self.to.write_all(&(self.requests.len() as u32).to_le_bytes()).expect("the guest reads");
-        self.to.write_all(&self.requests).expect("the guest reads");
-        self.to.flush().expect("the guest reads");
-        self.requests.clear();
+        self.send().expect("the guest reads");
         std::mem::swap(&mut self.waiting, &mut self.sent);
+    }
+
+    fn send(&mut self) -> io::Result<()> {
+        self.to.write_all(&(self.requests.len() as u32).to_le_bytes())?;
+        self.to.write_all(&self.requests)?;
+        self.requests.clear();
+        self.to.flush()
+    }
+
+    fn receive(&mut self) -> io::Result<Vec<u8>> {
+        let mut length = [0; 4];
+        self.from.read_exact(&mut length)?;
+        let mut answers = vec![0; u32::from_le_bytes(length) as usize];
+        self.from.read_exact(&mut answers)?;
+        Ok(answers)
+    }
+
+    /// The process has ended in the batch that was sent: the calls that end it by themselves are what differs.
+    fn find_end(&mut self, tally: &mut Tally) -> ! {
+        for (kind, call, _) in &self.sent {
+            let mut alone = Guest::start(&self.command);
+            written(call, &mut alone.requests);
+            if alone.send().and_then(|()| alone.receive()).is_err() {
+                tally.differs(kind, call.size(), || format!("the library ends the process\n{}", shown(call)));
+            }
+            drop(alone.to);
+            let _ = alone.process.wait();
+        }
+        tally.report();
+        panic!("the guest has ended");
     }
 
     /// Holds the answers of the batch that was sent.
@@ -89,10 +117,7 @@ impl Guest {
         if self.sent.is_empty() {
             return;
         }
-        let mut length = [0; 4];
-        self.from.read_exact(&mut length).expect("the guest answers");
-        let mut answers = vec![0; u32::from_le_bytes(length) as usize];
-        self.from.read_exact(&mut answers).expect("the guest answers");
+        let Ok(answers) = self.receive() else { self.find_end(tally) };
         let mut at = 0;
         for (kind, call, expected) in self.sent.drain(..) {
             let (code, stray) = (answers[at], answers[at + 1]);
