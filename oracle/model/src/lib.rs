@@ -1,6 +1,6 @@
 //! The rules of the block format as plain small Rust, to be held side by side with the paper that gives them ("01"): its words
-//! stand in the comments, its numbers in `refusal`. Written from 01 alone, not from the Rust of slatedb nor from the proved
-//! code, so that all three can be compared.
+//! stand in the comments, its numbers in `refusal`. It follows 01 and the readings of it. Whoever wrote it had read the Rust of
+//! slatedb, but took no line from there; the proved code was not looked at.
 pub mod block;
 pub mod builder;
 #[cfg(test)]
