@@ -47,7 +47,6 @@ extern "C" {
 #define SLATEDB_KEY_BYTES 1024
 #define SLATEDB_FIELDS_WORDS 6
 #define SLATEDB_ROW_WORDS 13
-#define SLATEDB_SUM_WORDS 2
 
 #define SLATEDB_ASCENDING 0
 #define SLATEDB_DESCENDING 1
@@ -101,11 +100,6 @@ typedef struct {
     uint64_t has_create;
     int64_t create;
 } slatedb_row;
-
-typedef struct {
-    uint64_t rows;
-    uint64_t sum;          /* of each row's seq, key length, value length and last key byte, modulo 2^64 */
-} slatedb_sum;
 
 /* These words are lent as arrays; a struct above is such an array. */
 #define SLATEDB_WORDS(p) ((uint64_t *)(p)), (sizeof *(p) / sizeof(uint64_t))
@@ -175,10 +169,6 @@ uint8_t slatedb_seek(const uint8_t *block, size_t block_len, const uint8_t *targ
 
 /* Whether no row is left: 254, 14. *empty: 0 or 1. */
 uint8_t slatedb_is_empty(const uint8_t *block, size_t block_len, const uint64_t *cursor, size_t cursor_len, uint64_t *empty);
-
-/* Opens the block and steps at most `limit` times: 254, 14, 15, and a step's. Good: `limit` rows were met; done: fewer. */
-uint8_t slatedb_walk_by_value(const uint8_t *block, size_t block_len, uint64_t order, size_t limit, uint64_t *sum, size_t sum_len);
-uint8_t slatedb_walk_in_place(const uint8_t *block, size_t block_len, uint64_t order, size_t limit, uint64_t *sum, size_t sum_len);
 
 #ifdef __cplusplus
 }

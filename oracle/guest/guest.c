@@ -106,8 +106,6 @@ static uint8_t call(uint8_t function, const struct argument *a) {
     case 11: return slatedb_next_by_value(BYTES(0), WORDS(1), BYTES(2), BYTES(3), WORDS(4));
     case 12: return slatedb_seek(BYTES(0), BYTES(1), WORDS(2), BYTES(3), WORD(4));
     case 13: return slatedb_is_empty(BYTES(0), WORDS(1), WORD(2));
-    case 14: return slatedb_walk_by_value(BYTES(0), NUM(1), NUM(2), WORDS(3));
-    case 15: return slatedb_walk_in_place(BYTES(0), NUM(1), NUM(2), WORDS(3));
     default: fail("unknown function"); return 0;
     }
 }

@@ -12,7 +12,6 @@ const CURSOR_WORDS: usize = 5;
 const BUILDER_WORDS: usize = 6;
 const FIELDS_WORDS: usize = 6;
 const ROW_WORDS: usize = 13;
-const SUM_WORDS: usize = 2;
 
 /// As in guest/guest.c.
 #[derive(Clone, Copy, Debug, PartialEq, Eq, PartialOrd, Ord)]
@@ -32,8 +31,6 @@ pub enum Function {
     NextByValue,
     Seek,
     IsEmpty,
-    WalkByValue,
-    WalkInPlace,
 }
 
 #[derive(Clone, Debug)]
@@ -169,7 +166,6 @@ impl Call {
             Function::Next | Function::NextByValue => next(self, &mut memory),
             Function::Seek => seek(self, &mut memory),
             Function::IsEmpty => is_empty(self, &mut memory),
-            Function::WalkByValue | Function::WalkInPlace => walk(self, &mut memory),
         };
         match answer {
             Ok((code, key)) => Expected { code, memory, key },
@@ -278,23 +274,4 @@ fn is_empty(call: &Call, memory: &mut [Vec<u8>]) -> Answer {
     let cursor = cursor_of(&call.words(1), &[0; KEY_LIMIT]).ok_or(BAD_WORDS)?;
     memory[0] = bytes_of(&[cursor.is_empty(call.bytes(0))? as u64]);
     PLAIN
-}
-
-fn walk(call: &Call, memory: &mut [Vec<u8>]) -> Answer {
-    exactly(&call.words(3), SUM_WORDS)?;
-    let block = call.bytes(0);
-    let mut cursor = Cursor::open(block, order_of(call.number(1)).ok_or(BAD_WORDS)?)?;
-    let (mut rows, mut sum, mut key) = (0, 0u64, [0; KEY_LIMIT]);
-    let mut code = GOOD;
-    while rows < call.number(2) {
-        let Some(row) = cursor.next(block, &mut key)? else {
-            code = DONE;
-            break;
-        };
-        let key_len = row.shared + row.suffix_len;
-        rows += 1;
-        sum = sum.wrapping_add(row.fields.seq).wrapping_add((key_len + row.value_len) as u64).wrapping_add(key[key_len - 1] as u64);
-    }
-    memory[0] = bytes_of(&[rows, sum]);
-    Ok((code, None))
 }

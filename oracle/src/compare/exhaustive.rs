@@ -145,7 +145,6 @@ fn any_block(run: &mut Run, block: &[u8], targets: &[Vec<u8>]) {
         } else {
             reading::walk_any(run, block, order, &ops, KEY_LIMIT);
         }
-        reading::walks(run, block, order, u64::MAX);
     }
     if !accepted {
         refused::compare(run, block, targets);
@@ -157,9 +156,6 @@ fn accepted(run: &mut Run, block: &[u8], rows: usize, targets: &[Vec<u8>]) {
     for order in [0, 1] {
         let rest: Vec<Op> = (0..rows + 2).flat_map(|_| [Op::IsEmpty, Op::Next]).collect();
         reading::walk_accepted(run, "scan (Rust)", block, order, &rest);
-        for limit in 0..rows as u64 + 2 {
-            reading::walks(run, block, order, limit);
-        }
         for target in targets {
             let ops = [&[Op::Seek(target.clone())][..], &rest].concat();
             reading::walk_accepted(run, "seek (Rust)", block, order, &ops);

@@ -44,14 +44,6 @@ pub fn open(run: &mut Run, block: &[u8], order: u64) -> Result<Arrays, u8> {
     Ok(Arrays { cursor: answer.memory[0].clone(), key })
 }
 
-/// Both walks, with a limit of steps.
-pub fn walks(run: &mut Run, block: &[u8], order: u64, limit: u64) {
-    for function in [Function::WalkByValue, Function::WalkInPlace] {
-        let sum = run.pattern(2 * 8);
-        run.call("walk summed", function, vec![Arg::Read(block.to_vec()), Arg::Number(order), Arg::Number(limit), Arg::Written(sum)]);
-    }
-}
-
 impl Arrays {
     /// A step in both ways, with a lent key buffer of this length.
     pub fn next(&mut self, run: &mut Run, block: &[u8], out_len: usize) -> Word {

@@ -122,8 +122,6 @@ fn good_block(run: &mut Run, block: &[u8], keys: &[Vec<u8>]) {
         }
         let out_len = pick(&mut run.rng, &[0, 1, 2, 3, 4, 5, 1_023]);
         reading::walk_any(run, block, order, &mixed, out_len);
-        let limit = pick(&mut run.rng, &[0, 1, keys.len() as u64 - 1, keys.len() as u64, keys.len() as u64 + 1, u64::MAX]);
-        reading::walks(run, block, order, limit);
     }
     if !accepted {
         let targets = targets(run, keys, 4);
@@ -164,7 +162,6 @@ fn damaged_block(run: &mut Run, block: &[u8], keys: &[Vec<u8>]) {
             } else {
                 reading::walk_any(run, &damaged, order, &mixed, KEY_LIMIT);
             }
-            reading::walks(run, &damaged, order, u64::MAX);
         }
         if !accepted {
             refused::compare(run, &damaged, &targets);
@@ -247,7 +244,6 @@ fn most_restarts(run: &mut Run) {
     let block = builder.build().expect("a block");
     reading::check(run, &block);
     for order in [0, 1] {
-        reading::walks(run, &block, order, u64::MAX);
         let ops = [Op::Seek(vec![7]), Op::Next, Op::Seek(vec![251]), Op::Next, Op::Seek(vec![252, 1]), Op::Next, Op::IsEmpty];
         reading::walk_accepted(run, "mixed walk (Rust)", &block, order, &ops);
     }
@@ -277,7 +273,6 @@ fn most_offsets(run: &mut Run) {
     for order in [0, 1] {
         let mixed = ops(run, &keys, 12);
         reading::walk_any(run, &block, order, &mixed, KEY_LIMIT);
-        reading::walks(run, &block, order, 3);
     }
 }
 
