@@ -1,0 +1,466 @@
+/* Case 8 of the rules' paper ("01") through slatedb_block.h: the block is built, checked, walked and sought in, and what comes
+ * is held to the paper's numbers. Then the header's constants are held to the library, and damaged blocks are read. Every
+ * array that is lent ends where memory ends, or starts where it starts, so that a byte touched outside of it is a fault.
+ */
+#define _DEFAULT_SOURCE
+#include "slatedb_block.h"
+#include <stdio.h>
+#include <stdlib.h>
+#include <string.h>
+#include <sys/mman.h>
+
+/* PAGE is a multiple of every processor's page. */
+enum { PAGE = 65536, PIECES = 16, ROWS = 5, INTERVAL = 2, RESTARTS = 3, DATA = 64, BLOCK = 72, HALF = ROWS + 1, STATES = 2 * HALF };
+
+static const char *const KEYS[ROWS] = {"a", "b", "b", "b", "c"};
+static const uint64_t STARTS[ROWS] = {0, 13, 26, 39, 51};
+
+_Static_assert(sizeof(slatedb_cursor) == SLATEDB_CURSOR_WORDS * sizeof(uint64_t), "cursor");
+_Static_assert(sizeof(slatedb_builder) == SLATEDB_BUILDER_WORDS * sizeof(uint64_t), "builder");
+_Static_assert(sizeof(slatedb_fields) == SLATEDB_FIELDS_WORDS * sizeof(uint64_t), "fields");
+_Static_assert(sizeof(slatedb_row) == SLATEDB_ROW_WORDS * sizeof(uint64_t), "row");
+
+static uint8_t block[BLOCK];
+
+/* Every cursor of the two walks over it, and the one byte of its key. */
+static slatedb_cursor cursors[STATES];
+static uint8_t cursor_keys[STATES];
+
+static int differences;
+
+static void expect(const char *what, uint64_t got, uint64_t wanted) {
+    if (got == wanted) return;
+    printf("DIFFERENT: %s is %llu and should be %llu\n", what, (unsigned long long)got, (unsigned long long)wanted);
+    differences++;
+}
+
+/* ---- memory between two pages that can't be touched */
+
+static uint8_t *pieces[PIECES];
+static size_t used_pieces;
+static int at_start; /* lend the start of a page, else its end */
+
+static uint8_t *new_piece(void) {
+    uint8_t *at = mmap(NULL, 4 * PAGE, PROT_NONE, MAP_PRIVATE | MAP_ANONYMOUS, -1, 0);
+    if (at == MAP_FAILED) abort();
+    at += PAGE + (PAGE - (uintptr_t)at % PAGE) % PAGE;
+    if (mprotect(at, PAGE, PROT_READ | PROT_WRITE)) abort();
+    return at;
+}
+
+static void *lend(size_t bytes) {
+    if (used_pieces == PIECES || bytes > PAGE) abort();
+    if (!pieces[used_pieces]) pieces[used_pieces] = new_piece();
+    uint8_t *at = pieces[used_pieces++];
+    if (!at_start) at += PAGE - bytes;
+    memset(at, 0xA5, bytes);
+    return at;
+}
+
+static void *lend_copy(const void *from, size_t bytes) {
+    return memcpy(lend(bytes), from, bytes);
+}
+
+static void take_back(size_t mark) {
+    used_pieces = mark;
+}
+
+/* ---- building */
+
+struct desk {
+    slatedb_builder *builder;
+    uint8_t *last_key, *data;
+    uint16_t *restarts;
+    size_t data_len, restarts_len;
+};
+
+static struct desk new_desk(size_t data_len, size_t restarts_len) {
+    struct desk d = {lend(sizeof(slatedb_builder)), lend(SLATEDB_KEY_BYTES), lend(data_len),
+                     lend(restarts_len * sizeof(uint16_t)), data_len, restarts_len};
+    expect("a new builder", slatedb_builder_new(SLATEDB_WORDS(d.builder), 4096, INTERVAL), SLATEDB_GOOD);
+    return d;
+}
+
+static uint8_t add(struct desk *d, size_t row) {
+    size_t mark = used_pieces;
+    slatedb_fields *fields = lend(sizeof *fields);
+    *fields = (slatedb_fields){.kind = SLATEDB_VALUE, .seq = row + 1};
+    uint8_t *key = lend_copy(KEYS[row], 1);
+    uint8_t code = slatedb_builder_add(SLATEDB_WORDS(d->builder), d->last_key, SLATEDB_KEY_BYTES, d->data, d->data_len,
+                                       d->restarts, d->restarts_len, key, 1, lend(0), 0, SLATEDB_WORDS(fields));
+    take_back(mark);
+    return code;
+}
+
+/* The first refusal, else good. */
+static uint8_t add_rows(struct desk *d) {
+    uint8_t code = SLATEDB_GOOD;
+    for (size_t row = 0; row < ROWS && code == SLATEDB_GOOD; row++) code = add(d, row);
+    return code;
+}
+
+static uint8_t build(struct desk *d, uint64_t *count) {
+    return slatedb_builder_build(SLATEDB_WORDS(d->builder), d->data, d->data_len, d->restarts, d->restarts_len, count);
+}
+
+static void build_case(void) {
+    struct desk d = new_desk(BLOCK, RESTARTS);
+    uint64_t *count = lend(sizeof *count);
+    expect("the rows added", add_rows(&d), SLATEDB_GOOD);
+    expect("the building", build(&d, count), SLATEDB_GOOD);
+    expect("the block's length", *count, BLOCK);
+    memcpy(block, d.data, BLOCK);
+    printf("%d bytes:", BLOCK);
+    for (size_t i = 0; i < BLOCK; i++) printf(" %02x", block[i]);
+    printf("\n");
+    take_back(0);
+}
+
+/* Buffers too short for the rows and their trailer are refused with 6 by an add. */
+static void short_buffers(void) {
+    for (size_t data_len = 0; data_len <= BLOCK; data_len++)
+        for (size_t restarts_len = 0; restarts_len <= RESTARTS; restarts_len++) {
+            struct desk d = new_desk(data_len, restarts_len);
+            int enough = data_len == BLOCK && restarts_len == RESTARTS;
+            expect("rows added to short buffers", add_rows(&d), enough ? SLATEDB_GOOD : SLATEDB_BUFFER_TOO_SMALL);
+            take_back(0);
+        }
+}
+
+/* And by the building, where the rows came into a longer buffer. */
+static void short_trailers(void) {
+    for (size_t len = DATA; len <= BLOCK; len++) {
+        struct desk d = new_desk(BLOCK, RESTARTS);
+        uint64_t *count = lend(sizeof *count);
+        expect("the rows added", add_rows(&d), SLATEDB_GOOD);
+        d.data = lend_copy(d.data, len);
+        d.data_len = len;
+        expect("building in a short buffer", build(&d, count), len == BLOCK ? SLATEDB_GOOD : SLATEDB_BUFFER_TOO_SMALL);
+        take_back(0);
+    }
+}
+
+/* ---- reading */
+
+struct reader {
+    const uint8_t *block;
+    size_t len;
+    slatedb_cursor *cursor;
+    uint8_t *key, *out;
+    size_t out_len;
+    slatedb_row *row;
+    uint64_t *reads;
+};
+
+static struct reader new_reader(const uint8_t *from, size_t len, size_t out_len) {
+    return (struct reader){.block = lend_copy(from, len), .len = len, .cursor = lend(sizeof(slatedb_cursor)),
+                           .key = lend(SLATEDB_KEY_BYTES), .out = lend(out_len), .out_len = out_len,
+                           .row = lend(sizeof(slatedb_row)), .reads = lend(sizeof(uint64_t))};
+}
+
+static uint8_t reopen(struct reader *r, uint64_t order) {
+    return slatedb_open(r->block, r->len, order, SLATEDB_WORDS(r->cursor));
+}
+
+static int refused(uint8_t code) {
+    return code != SLATEDB_GOOD && code != SLATEDB_DONE;
+}
+
+/* A step that is refused has changed nothing. */
+static uint8_t step(struct reader *r) {
+    static uint8_t key[SLATEDB_KEY_BYTES], out[SLATEDB_KEY_BYTES];
+    slatedb_cursor cursor = *r->cursor;
+    slatedb_row row = *r->row;
+    memcpy(key, r->key, sizeof key);
+    memcpy(out, r->out, r->out_len);
+    uint8_t code = slatedb_next(r->block, r->len, SLATEDB_WORDS(r->cursor), r->key, SLATEDB_KEY_BYTES, r->out, r->out_len,
+                                SLATEDB_WORDS(r->row));
+    if (refused(code)) {
+        int same = !memcmp(&cursor, r->cursor, sizeof cursor) && !memcmp(&row, r->row, sizeof row) &&
+                   !memcmp(key, r->key, sizeof key) && !memcmp(out, r->out, r->out_len);
+        expect("what a refused step leaves", same, 1);
+    }
+    return code;
+}
+
+static uint8_t seek(struct reader *r, const char *target) {
+    static uint8_t key[SLATEDB_KEY_BYTES];
+    size_t mark = used_pieces;
+    slatedb_cursor cursor = *r->cursor;
+    memcpy(key, r->key, sizeof key);
+    uint8_t *lent = lend_copy(target, strlen(target));
+    uint8_t code = slatedb_seek(r->block, r->len, lent, strlen(target), SLATEDB_WORDS(r->cursor), r->key, SLATEDB_KEY_BYTES, r->reads);
+    if (refused(code)) {
+        int same = !memcmp(&cursor, r->cursor, sizeof cursor) && !memcmp(key, r->key, sizeof key);
+        expect("what a refused seek leaves", same, 1);
+    }
+    take_back(mark);
+    return code;
+}
+
+static const char *name_of(uint64_t order) {
+    return order == SLATEDB_ASCENDING ? "ascending" : "descending";
+}
+
+static void expect_row(const struct reader *r, size_t row) {
+    printf(" row %llu", (unsigned long long)r->row->seq - 1);
+    expect("the row's start", r->row->start, STARTS[row]);
+    expect("the row's number", r->row->seq, row + 1);
+    expect("the row's kind", r->row->kind, SLATEDB_VALUE);
+    expect("the row's value", r->row->value_len, 0);
+    expect("the row's key length", r->row->shared + r->row->suffix_len, 1);
+    expect("the row's key", r->out[0], (uint8_t)KEYS[row][0]);
+}
+
+/* Walks the whole block, and keeps the cursor before each step. */
+static void walk(struct reader *r, uint64_t order) {
+    uint64_t empty;
+    printf("%s:", name_of(order));
+    expect("the opening", reopen(r, order), SLATEDB_GOOD);
+    for (size_t i = 0; i <= ROWS; i++) {
+        cursors[order * HALF + i] = *r->cursor;
+        cursor_keys[order * HALF + i] = r->key[0];
+        uint8_t code = step(r);
+        expect("the step", code, i < ROWS ? SLATEDB_GOOD : SLATEDB_DONE);
+        if (code == SLATEDB_GOOD && i < ROWS) expect_row(r, order == SLATEDB_ASCENDING ? i : ROWS - 1 - i);
+        if (code == SLATEDB_DONE) printf(" done\n");
+    }
+    expect("is_empty", slatedb_is_empty(r->block, r->len, SLATEDB_WORDS(r->cursor), &empty), SLATEDB_GOOD);
+    expect("empty", empty, 1);
+    expect("a step after the last one", step(r), SLATEDB_DONE);
+}
+
+/* `row` is the row that the paper names, ROWS for "done"; the search has read two restart keys. */
+static void find(struct reader *r, uint64_t order, const char *target, size_t row) {
+    uint8_t wanted = row < ROWS ? SLATEDB_GOOD : SLATEDB_DONE;
+    printf("%s to \"%s\":", name_of(order), target);
+    expect("the opening", reopen(r, order), SLATEDB_GOOD);
+    expect("the seek", seek(r, target), wanted);
+    uint8_t code = step(r);
+    expect("the step after the seek", code, wanted);
+    if (code == SLATEDB_GOOD && row < ROWS) expect_row(r, row);
+    if (code == SLATEDB_DONE) printf(" done");
+    printf(", %llu restart keys read\n", (unsigned long long)*r->reads);
+    expect("the restart keys read", *r->reads, 2);
+}
+
+static void read_case(void) {
+    struct reader r = new_reader(block, BLOCK, 1);
+    uint64_t *count = lend(sizeof *count);
+    expect("the check", slatedb_check(r.block, r.len, count), SLATEDB_GOOD);
+    expect("the rows that the check counts", *count, ROWS);
+    printf("checked, %llu rows\n", (unsigned long long)*count);
+    walk(&r, SLATEDB_ASCENDING);
+    walk(&r, SLATEDB_DESCENDING);
+    find(&r, SLATEDB_ASCENDING, "b", 1); /* case 8 */
+    find(&r, SLATEDB_DESCENDING, "b", 3);
+    find(&r, SLATEDB_ASCENDING, "bb", 4); /* case 9 */
+    find(&r, SLATEDB_DESCENDING, "bb", 3);
+    find(&r, SLATEDB_ASCENDING, "d", ROWS); /* case 10 */
+    find(&r, SLATEDB_DESCENDING, "", ROWS);
+    find(&r, SLATEDB_ASCENDING, "", 0);
+    take_back(0);
+}
+
+/* ---- one row */
+
+/* Case 1's row, in a buffer that it fills, and in all shorter ones. */
+static void one_row(void) {
+    static const uint8_t row[] = {0, 1, 0, 'a', 0, 0, 0, 0, 0, 0, 0, 1, 0};
+    for (size_t len = 0; len <= sizeof row; len++) {
+        slatedb_fields *fields = lend(sizeof *fields);
+        *fields = (slatedb_fields){.kind = SLATEDB_VALUE, .seq = 1};
+        uint8_t *output = lend(len);
+        uint64_t *count = lend(sizeof *count);
+        uint8_t code = slatedb_encode(output, len, 0, 0, lend_copy("a", 1), 1, lend(0), 0, SLATEDB_WORDS(fields), count);
+        expect("a row written", code, len == sizeof row ? SLATEDB_GOOD : SLATEDB_BUFFER_TOO_SMALL);
+        if (code == SLATEDB_GOOD) expect("the row's bytes", *count == len && !memcmp(output, row, len), 1);
+        slatedb_row *read = lend(sizeof *read);
+        code = slatedb_decode(lend_copy(row, len), len, 0, SLATEDB_WORDS(read));
+        expect("a row read", code, len == sizeof row ? SLATEDB_GOOD : SLATEDB_INPUT_ENDS);
+        take_back(0);
+    }
+}
+
+/* ---- the header's constants: each call with n[0] words or key bytes in its first array, n[1] in its second, and so on */
+
+static uint64_t *words(size_t n) {
+    return memset(lend(n * sizeof(uint64_t)), 0, n * sizeof(uint64_t));
+}
+
+static uint8_t try_encode(const size_t *n) {
+    return slatedb_encode(lend(64), 64, 0, 0, lend(1), 1, lend(0), 0, words(n[0]), n[0], words(1));
+}
+
+static uint8_t try_decode(const size_t *n) {
+    return slatedb_decode(block, BLOCK, 0, words(n[0]), n[0]);
+}
+
+static uint8_t try_builder_new(const size_t *n) {
+    return slatedb_builder_new(words(n[0]), n[0], 4096, INTERVAL);
+}
+
+static uint8_t try_builder_would_fit(const size_t *n) {
+    return slatedb_builder_would_fit(words(n[0]), n[0], lend(n[1]), n[1], 64, 1, lend(1), 1, lend(0), 0, words(n[2]), n[2]);
+}
+
+static uint8_t try_builder_add(const size_t *n) {
+    return slatedb_builder_add(words(n[0]), n[0], lend(n[1]), n[1], lend(64), 64, lend(2), 1, lend(1), 1, lend(0), 0,
+                               words(n[2]), n[2]);
+}
+
+static uint8_t try_builder_add_by_value(const size_t *n) {
+    return slatedb_builder_add_by_value(words(n[0]), n[0], lend(n[1]), n[1], lend(64), 64, lend(2), 1, lend(1), 1, lend(0), 0,
+                                        words(n[2]), n[2]);
+}
+
+static uint8_t try_builder_is_empty(const size_t *n) {
+    return slatedb_builder_is_empty(words(n[0]), n[0], words(1));
+}
+
+static uint8_t try_builder_build(const size_t *n) {
+    return slatedb_builder_build(words(n[0]), n[0], lend(64), 64, lend(2), 1, words(1));
+}
+
+static uint8_t try_open(const size_t *n) {
+    return slatedb_open(block, BLOCK, SLATEDB_ASCENDING, words(n[0]), n[0]);
+}
+
+static uint8_t try_next(const size_t *n) {
+    return slatedb_next(block, BLOCK, words(n[0]), n[0], lend(n[1]), n[1], lend(1), 1, words(n[2]), n[2]);
+}
+
+static uint8_t try_next_by_value(const size_t *n) {
+    return slatedb_next_by_value(block, BLOCK, words(n[0]), n[0], lend(n[1]), n[1], lend(1), 1, words(n[2]), n[2]);
+}
+
+static uint8_t try_seek(const size_t *n) {
+    return slatedb_seek(block, BLOCK, lend(1), 1, words(n[0]), n[0], lend(n[1]), n[1], words(1));
+}
+
+static uint8_t try_is_empty(const size_t *n) {
+    return slatedb_is_empty(block, BLOCK, words(n[0]), n[0], words(1));
+}
+
+enum { MOST = 3 }; /* such arrays in a call */
+enum { CURSOR = SLATEDB_CURSOR_WORDS, BUILDER = SLATEDB_BUILDER_WORDS, KEY = SLATEDB_KEY_BYTES };
+enum { FIELDS = SLATEDB_FIELDS_WORDS, ROW = SLATEDB_ROW_WORDS };
+
+static const struct {
+    const char *name;
+    uint8_t (*call)(const size_t *n);
+    size_t right[MOST];
+} CALLS[] = {
+    {"encode", try_encode, {FIELDS}},
+    {"decode", try_decode, {ROW}},
+    {"builder_new", try_builder_new, {BUILDER}},
+    {"builder_would_fit", try_builder_would_fit, {BUILDER, KEY, FIELDS}},
+    {"builder_add", try_builder_add, {BUILDER, KEY, FIELDS}},
+    {"builder_add_by_value", try_builder_add_by_value, {BUILDER, KEY, FIELDS}},
+    {"builder_is_empty", try_builder_is_empty, {BUILDER}},
+    {"builder_build", try_builder_build, {BUILDER}},
+    {"open", try_open, {CURSOR}},
+    {"next", try_next, {CURSOR, KEY, ROW}},
+    {"next_by_value", try_next_by_value, {CURSOR, KEY, ROW}},
+    {"seek", try_seek, {CURSOR, KEY}},
+    {"is_empty", try_is_empty, {CURSOR}},
+};
+
+static int bad_words(size_t call, const size_t *n) {
+    uint8_t code = CALLS[call].call(n);
+    take_back(0);
+    return code == SLATEDB_BAD_WORDS;
+}
+
+static void constants(void) {
+    for (size_t call = 0; call < sizeof CALLS / sizeof *CALLS; call++) {
+        const size_t *right = CALLS[call].right;
+        expect(CALLS[call].name, bad_words(call, right), 0);
+        for (size_t i = 0; i < MOST && right[i]; i++) {
+            size_t shorter[MOST], longer[MOST];
+            memcpy(shorter, right, sizeof shorter);
+            memcpy(longer, right, sizeof longer);
+            shorter[i]--;
+            longer[i]++;
+            expect(CALLS[call].name, bad_words(call, shorter), 1);
+            expect(CALLS[call].name, bad_words(call, longer), 1);
+        }
+    }
+}
+
+/* ---- damaged blocks */
+
+static uint64_t tried, accepted;
+
+/* An accepted block gives as many rows as the check counts; any block ends, since a step moves on. */
+static void walk_damaged(struct reader *r, uint64_t order, uint8_t verdict, uint64_t rows) {
+    uint8_t code = reopen(r, order);
+    uint64_t steps = 0;
+    while (code == SLATEDB_GOOD && steps <= BLOCK) {
+        code = step(r);
+        if (code == SLATEDB_GOOD) steps++;
+    }
+    expect("a walk's end", code != SLATEDB_GOOD, 1);
+    if (verdict != SLATEDB_GOOD || r->out_len < SLATEDB_KEY_BYTES) return;
+    expect("the end of an accepted block", code, SLATEDB_DONE);
+    expect("the rows of an accepted block", steps, rows);
+}
+
+static void seek_damaged(struct reader *r, uint64_t order) {
+    static const char *const targets[] = {"", "a", "b", "bb", "d"};
+    for (size_t i = 0; i < sizeof targets / sizeof *targets; i++) {
+        *r->cursor = (slatedb_cursor){.order = order};
+        uint8_t code = seek(r, targets[i]);
+        expect("a seek's 18 or 19", code == SLATEDB_BAD_STATE || code == SLATEDB_KEY_BUFFER_TOO_SHORT, 0);
+        if (code == SLATEDB_GOOD) step(r);
+    }
+}
+
+static void read_damaged(const uint8_t *damaged, size_t len, size_t out_len) {
+    struct reader r = new_reader(damaged, len, out_len);
+    uint64_t *rows = lend(sizeof *rows);
+    uint8_t verdict = slatedb_check(r.block, r.len, rows);
+    tried++;
+    accepted += verdict == SLATEDB_GOOD;
+    for (uint64_t order = SLATEDB_ASCENDING; order <= SLATEDB_DESCENDING; order++) {
+        walk_damaged(&r, order, verdict, *rows);
+        seek_damaged(&r, order);
+    }
+    /* the cursors of the undamaged block, also where opening is refused */
+    for (size_t i = 0; i < STATES; i++) {
+        *r.cursor = cursors[i];
+        r.key[0] = cursor_keys[i];
+        step(&r);
+    }
+    take_back(0);
+}
+
+static void damage(size_t out_len) {
+    static const uint8_t values[] = {0, 1, 2, 9, 15, 16, 127, 128, 255};
+    uint8_t damaged[BLOCK];
+    memcpy(damaged, block, BLOCK);
+    for (size_t i = 0; i < BLOCK; i++) {
+        for (size_t v = 0; v < sizeof values; v++) {
+            damaged[i] = values[v];
+            read_damaged(damaged, BLOCK, out_len);
+        }
+        damaged[i] = block[i];
+    }
+    for (size_t cut = 0; cut < BLOCK; cut++) read_damaged(block, cut, out_len);
+}
+
+int main(void) {
+    build_case();
+    read_case();
+    for (at_start = 0; at_start <= 1; at_start++) {
+        short_buffers();
+        short_trailers();
+        one_row();
+        constants();
+        damage(1);
+        damage(SLATEDB_KEY_BYTES);
+    }
+    printf("damaged blocks: %llu read, %llu of them accepted\n", (unsigned long long)tried, (unsigned long long)accepted);
+    printf("%d differences\n", differences);
+    return differences != 0;
+}
