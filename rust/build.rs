@@ -1,0 +1,40 @@
+//! Finds libslatedb_block.a, or says how to make it.
+
+use std::env;
+use std::path::{Path, PathBuf};
+use std::process::exit;
+
+const FOLDER: &str = "SLATEDB_BLOCK_LIB";
+
+fn fail(why: String) -> ! {
+    eprintln!("slatedb_block: {why}");
+    exit(1)
+}
+
+fn folder() -> PathBuf {
+    let crate_folder = env::var_os("CARGO_MANIFEST_DIR").unwrap_or_default();
+    // a relative name starts at the crate's folder, where a build script runs
+    let named = env::var_os(FOLDER).map(PathBuf::from);
+    Path::new(&crate_folder).join(named.unwrap_or_else(|| Path::new("..").join("target").join("staticlib")))
+}
+
+fn main() {
+    println!("cargo:rerun-if-env-changed={FOLDER}");
+    println!("cargo:rerun-if-changed=build.rs");
+    if env::var("CARGO_CFG_TARGET_ARCH").as_deref() != Ok("x86_64") {
+        fail(
+            "the library is for x86-64: give --target x86_64-unknown-linux-gnu (README.md says what that needs)".into(),
+        );
+    }
+    let folder = folder();
+    let library = folder.join("libslatedb_block.a");
+    if !library.is_file() {
+        fail(format!(
+            "{} is missing: run `rt staticlib slatedb_block` in the project's folder, or name the library's folder in {FOLDER}",
+            library.display()
+        ));
+    }
+    println!("cargo:rerun-if-changed={}", library.display());
+    println!("cargo:rustc-link-search=native={}", folder.display());
+    println!("cargo:rustc-link-lib=static=slatedb_block");
+}

@@ -1,0 +1,94 @@
+use crate::ffi;
+use crate::iter::IterationOrder;
+use crate::refusal::{good, good_or_done, Refusal};
+use crate::types::RowEntry;
+
+/// Iterator over a V2 block, which uses its restart points to seek.
+///
+/// The block may be owned or borrowed: anything that lends its bytes. It need not be checked before.
+pub struct BlockIteratorV2<B: AsRef<[u8]>> {
+    block: B,
+    cursor: [u64; ffi::CURSOR_WORDS],
+    // the key before, which the next row shares bytes with
+    key: Box<[u8; ffi::KEY_BYTES]>,
+    // the key of the row that is given
+    row_key: Box<[u8; ffi::KEY_BYTES]>,
+    refused: bool,
+}
+
+impl<B: AsRef<[u8]>> BlockIteratorV2<B> {
+    /// Before the first row, or descending after the last. Refuses a block with a bad trailer or bad offsets.
+    pub fn new(block: B, ordering: IterationOrder) -> Result<Self, Refusal> {
+        let mut cursor = [0; ffi::CURSOR_WORDS];
+        good(ffi::open(block.as_ref(), ordering.word(), &mut cursor))?;
+        Ok(Self {
+            block,
+            cursor,
+            key: Box::new([0; ffi::KEY_BYTES]),
+            row_key: Box::new([0; ffi::KEY_BYTES]),
+            refused: false,
+        })
+    }
+
+    pub fn new_ascending(block: B) -> Result<Self, Refusal> {
+        Self::new(block, IterationOrder::Ascending)
+    }
+
+    /// The next row; None when no row is left, and then again and again. A refused step moves nothing, so that the next one is
+    /// refused too; `for` loops end after it.
+    #[allow(clippy::should_implement_trait)] // slatedb's shape; Iterator is implemented too
+    pub fn next(&mut self) -> Result<Option<RowEntry>, Refusal> {
+        let block = self.block.as_ref();
+        let mut row = [0; ffi::ROW_WORDS];
+        let code = ffi::next(
+            block,
+            &mut self.cursor,
+            &mut self.key[..],
+            &mut self.row_key[..],
+            &mut row,
+        );
+        Ok(if good_or_done(code)? {
+            Some(RowEntry::read(row, &self.row_key[..], block))
+        } else {
+            None
+        })
+    }
+
+    /// Moves to the first row at or above the key, or descending to the last at or below it, from wherever the iterator stands.
+    /// Answers how many restart keys the search has read.
+    pub fn seek(&mut self, next_key: &[u8]) -> Result<usize, Refusal> {
+        let mut reads = 0;
+        let code = ffi::seek(
+            self.block.as_ref(),
+            next_key,
+            &mut self.cursor,
+            &mut self.key[..],
+            &mut reads,
+        );
+        good_or_done(code)?;
+        self.refused = false;
+        Ok(reads as usize)
+    }
+
+    /// As slatedb's: ascending, true as soon as the last row was given; descending, once `next` or `seek` found no row.
+    pub fn is_empty(&self) -> bool {
+        let mut empty = 0;
+        // only a bad trailer is refused, and such a block was not opened
+        let code = ffi::is_empty(self.block.as_ref(), &self.cursor, &mut empty);
+        good(code).is_err() || empty == 1
+    }
+}
+
+/// The rows that are left; a refusal is the last item.
+impl<B: AsRef<[u8]>> Iterator for BlockIteratorV2<B> {
+    type Item = Result<RowEntry, Refusal>;
+
+    fn next(&mut self) -> Option<Self::Item> {
+        if self.refused {
+            return None;
+        }
+        let answer = BlockIteratorV2::next(self);
+        self.refused = answer.is_err();
+        answer.transpose()
+    }
+}

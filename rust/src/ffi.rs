@@ -1,0 +1,118 @@
+//! The static library's functions (`include/slatedb_block.h`) on slices, and its constants. All that is unsafe is here.
+//!
+//! Why each call is safe: the library takes any arguments that are as long as the length beside them says, which is how
+//! slices are given here; it writes only to what is lent by `&mut`, which nothing else can be lent with; it keeps no pointer.
+
+#![allow(unsafe_code)]
+
+pub(crate) const GOOD: u8 = 0;
+pub(crate) const DONE: u8 = 255;
+
+pub(crate) const CURSOR_WORDS: usize = 5;
+pub(crate) const BUILDER_WORDS: usize = 6;
+pub(crate) const KEY_BYTES: usize = 1024;
+pub(crate) const FIELDS_WORDS: usize = 6;
+pub(crate) const ROW_WORDS: usize = 13;
+
+pub(crate) const ASCENDING: u64 = 0;
+pub(crate) const DESCENDING: u64 = 1;
+
+pub(crate) const VALUE: u64 = 0;
+pub(crate) const TOMBSTONE: u64 = 1;
+pub(crate) const MERGE: u64 = 2;
+
+#[rustfmt::skip]
+extern "C" {
+    fn slatedb_builder_new(builder: *mut u64, builder_len: usize, block_size: usize, restart_interval: usize) -> u8;
+    fn slatedb_builder_would_fit(builder: *const u64, builder_len: usize, last_key: *const u8, last_key_len: usize,
+        data_len: usize, restarts_len: usize, key: *const u8, key_len: usize, value: *const u8, value_len: usize,
+        fields: *const u64, fields_len: usize) -> u8;
+    fn slatedb_builder_add(builder: *mut u64, builder_len: usize, last_key: *mut u8, last_key_len: usize,
+        data: *mut u8, data_len: usize, restarts: *mut u16, restarts_len: usize, key: *const u8, key_len: usize,
+        value: *const u8, value_len: usize, fields: *const u64, fields_len: usize) -> u8;
+    fn slatedb_builder_is_empty(builder: *const u64, builder_len: usize, empty: *mut u64) -> u8;
+    fn slatedb_builder_build(builder: *const u64, builder_len: usize, data: *mut u8, data_len: usize,
+        restarts: *const u16, restarts_len: usize, count: *mut u64) -> u8;
+    fn slatedb_check(block: *const u8, block_len: usize, count: *mut u64) -> u8;
+    fn slatedb_open(block: *const u8, block_len: usize, order: u64, cursor: *mut u64, cursor_len: usize) -> u8;
+    fn slatedb_next(block: *const u8, block_len: usize, cursor: *mut u64, cursor_len: usize, key: *mut u8, key_len: usize,
+        out: *mut u8, out_len: usize, row: *mut u64, row_len: usize) -> u8;
+    fn slatedb_seek(block: *const u8, block_len: usize, target: *const u8, target_len: usize,
+        cursor: *mut u64, cursor_len: usize, key: *mut u8, key_len: usize, reads: *mut u64) -> u8;
+    fn slatedb_is_empty(block: *const u8, block_len: usize, cursor: *const u64, cursor_len: usize, empty: *mut u64) -> u8;
+}
+
+/// What is offered to a builder.
+#[derive(Clone, Copy)]
+pub(crate) struct Offer<'a> {
+    pub key: &'a [u8],
+    pub value: &'a [u8],
+    pub fields: &'a [u64],
+}
+
+pub(crate) fn builder_new(builder: &mut [u64], block_size: usize, restart_interval: usize) -> u8 {
+    unsafe { slatedb_builder_new(builder.as_mut_ptr(), builder.len(), block_size, restart_interval) }
+}
+
+#[rustfmt::skip]
+pub(crate) fn builder_would_fit(builder: &[u64], last_key: &[u8], data_len: usize, restarts_len: usize, offer: Offer<'_>) -> u8 {
+    let Offer { key, value, fields } = offer;
+    unsafe {
+        slatedb_builder_would_fit(builder.as_ptr(), builder.len(), last_key.as_ptr(), last_key.len(), data_len, restarts_len,
+            key.as_ptr(), key.len(), value.as_ptr(), value.len(), fields.as_ptr(), fields.len())
+    }
+}
+
+#[rustfmt::skip]
+pub(crate) fn builder_add(builder: &mut [u64], last_key: &mut [u8], data: &mut [u8], restarts: &mut [u16], offer: Offer<'_>) -> u8 {
+    let Offer { key, value, fields } = offer;
+    unsafe {
+        slatedb_builder_add(builder.as_mut_ptr(), builder.len(), last_key.as_mut_ptr(), last_key.len(),
+            data.as_mut_ptr(), data.len(), restarts.as_mut_ptr(), restarts.len(),
+            key.as_ptr(), key.len(), value.as_ptr(), value.len(), fields.as_ptr(), fields.len())
+    }
+}
+
+pub(crate) fn builder_is_empty(builder: &[u64], empty: &mut u64) -> u8 {
+    unsafe { slatedb_builder_is_empty(builder.as_ptr(), builder.len(), empty) }
+}
+
+#[rustfmt::skip]
+pub(crate) fn builder_build(builder: &[u64], data: &mut [u8], restarts: &[u16], count: &mut u64) -> u8 {
+    unsafe {
+        slatedb_builder_build(builder.as_ptr(), builder.len(), data.as_mut_ptr(), data.len(),
+            restarts.as_ptr(), restarts.len(), count)
+    }
+}
+
+pub(crate) fn check(block: &[u8], count: &mut u64) -> u8 {
+    unsafe { slatedb_check(block.as_ptr(), block.len(), count) }
+}
+
+pub(crate) fn open(block: &[u8], order: u64, cursor: &mut [u64]) -> u8 {
+    unsafe { slatedb_open(block.as_ptr(), block.len(), order, cursor.as_mut_ptr(), cursor.len()) }
+}
+
+#[rustfmt::skip]
+pub(crate) fn next(block: &[u8], cursor: &mut [u64], key: &mut [u8], out: &mut [u8], row: &mut [u64]) -> u8 {
+    unsafe {
+        slatedb_next(block.as_ptr(), block.len(), cursor.as_mut_ptr(), cursor.len(), key.as_mut_ptr(), key.len(),
+            out.as_mut_ptr(), out.len(), row.as_mut_ptr(), row.len())
+    }
+}
+
+#[rustfmt::skip]
+pub(crate) fn seek(block: &[u8], target: &[u8], cursor: &mut [u64], key: &mut [u8], reads: &mut u64) -> u8 {
+    unsafe {
+        slatedb_seek(block.as_ptr(), block.len(), target.as_ptr(), target.len(), cursor.as_mut_ptr(), cursor.len(),
+            key.as_mut_ptr(), key.len(), reads)
+    }
+}
+
+pub(crate) fn is_empty(block: &[u8], cursor: &[u64], empty: &mut u64) -> u8 {
+    unsafe { slatedb_is_empty(block.as_ptr(), block.len(), cursor.as_ptr(), cursor.len(), empty) }
+}
+
+#[cfg(test)]
+#[path = "ffi_tests.rs"]
+mod tests;

@@ -1,0 +1,146 @@
+use super::*;
+use crate::refusal::Refusal;
+use std::path::Path;
+
+fn header() -> String {
+    let path = Path::new(env!("CARGO_MANIFEST_DIR")).join("../include/slatedb_block.h");
+    std::fs::read_to_string(path).unwrap()
+}
+
+/// The header's numbers, by name without SLATEDB_.
+fn defined(header: &str, name: &str) -> u64 {
+    let start = format!("#define SLATEDB_{name} ");
+    let line = header
+        .lines()
+        .find(|line| line.starts_with(&start))
+        .unwrap_or_else(|| panic!("no {name}"));
+    line[start.len()..].split(' ').next().unwrap().parse().unwrap()
+}
+
+#[test]
+fn constants_are_the_headers() {
+    let header = header();
+    let constants = [
+        ("GOOD", GOOD as u64),
+        ("DONE", DONE as u64),
+        ("BAD_WORDS", BAD_WORDS as u64),
+        ("CURSOR_WORDS", CURSOR_WORDS as u64),
+        ("BUILDER_WORDS", BUILDER_WORDS as u64),
+        ("KEY_BYTES", KEY_BYTES as u64),
+        ("FIELDS_WORDS", FIELDS_WORDS as u64),
+        ("ROW_WORDS", ROW_WORDS as u64),
+        ("ASCENDING", ASCENDING),
+        ("DESCENDING", DESCENDING),
+        ("VALUE", VALUE),
+        ("TOMBSTONE", TOMBSTONE),
+        ("MERGE", MERGE),
+    ];
+    for (name, number) in constants {
+        assert_eq!(defined(&header, name), number, "{name}");
+    }
+    let numbers = header
+        .lines()
+        .filter(|line| line.starts_with("#define SLATEDB_") && !line.contains('('))
+        .count();
+    // and the header's own guard
+    assert_eq!(numbers, constants.len() + Refusal::ALL.len() + 1);
+}
+
+/// EmptyKey is EMPTY_KEY.
+fn spelled_out(refusal: Refusal) -> String {
+    let mut name = String::new();
+    for letter in format!("{refusal:?}").chars() {
+        if letter.is_uppercase() && !name.is_empty() {
+            name.push('_');
+        }
+        name.push(letter.to_ascii_uppercase());
+    }
+    name
+}
+
+#[test]
+fn refusals_are_the_headers() {
+    let header = header();
+    for refusal in Refusal::ALL {
+        assert_eq!(
+            defined(&header, &spelled_out(refusal)),
+            refusal.number() as u64,
+            "{refusal:?}"
+        );
+    }
+}
+
+const BAD_WORDS: u8 = 254;
+const FIELDS: [u64; FIELDS_WORDS] = [VALUE, 1, 0, 0, 0, 0];
+
+fn offer<'a>() -> Offer<'a> {
+    Offer {
+        key: b"a",
+        value: b"",
+        fields: &FIELDS,
+    }
+}
+
+#[test]
+fn arrays_of_another_length_are_refused() {
+    let block = [0, 1, 0, b'a', 0, 0, 0, 0, 0, 0, 0, 1, 0, 0, 0, 0, 1];
+    for longer in [false, true] {
+        let other = |right: usize| if longer { right + 1 } else { right - 1 };
+        let (mut key, mut row, mut number) = ([0; KEY_BYTES], [0; ROW_WORDS], 0);
+        let mut cursor = vec![0; other(CURSOR_WORDS)];
+        let mut builder = vec![0; other(BUILDER_WORDS)];
+        assert_eq!(open(&block, ASCENDING, &mut cursor), BAD_WORDS);
+        assert_eq!(next(&block, &mut cursor, &mut key, &mut [0], &mut row), BAD_WORDS);
+        assert_eq!(seek(&block, b"a", &mut cursor, &mut key, &mut number), BAD_WORDS);
+        assert_eq!(is_empty(&block, &cursor, &mut number), BAD_WORDS);
+        assert_eq!(builder_new(&mut builder, 4096, 16), BAD_WORDS);
+        assert_eq!(builder_is_empty(&builder, &mut number), BAD_WORDS);
+        assert_eq!(builder_would_fit(&builder, &key, 0, 0, offer()), BAD_WORDS);
+        assert_eq!(
+            builder_add(&mut builder, &mut key, &mut [], &mut [], offer()),
+            BAD_WORDS
+        );
+        assert_eq!(builder_build(&builder, &mut [], &[], &mut number), BAD_WORDS);
+    }
+}
+
+/// The refusals of lent buffers, which the rest of this crate keeps from happening.
+#[test]
+fn buffers_and_states_6_18_19() {
+    let (mut builder, mut key, mut data, mut restarts, mut count) =
+        ([0; BUILDER_WORDS], [0; KEY_BYTES], [0; 17], [0; 1], 0);
+    assert_eq!(builder_new(&mut builder, 4096, 16), GOOD);
+    assert_eq!(
+        builder_add(&mut builder, &mut key, &mut data[..16], &mut restarts, offer()),
+        Refusal::BufferTooSmall.number()
+    );
+    assert_eq!(
+        builder_add(&mut builder, &mut key, &mut data, &mut [], offer()),
+        Refusal::BufferTooSmall.number()
+    );
+    assert_eq!(
+        builder_add(&mut builder, &mut key, &mut data, &mut restarts, offer()),
+        GOOD
+    );
+    assert_eq!(
+        builder_build(&builder, &mut data[..16], &restarts, &mut count),
+        Refusal::BufferTooSmall.number()
+    );
+    assert_eq!(
+        builder_build(&builder, &mut data[..12], &restarts, &mut count),
+        Refusal::BadState.number()
+    );
+    assert_eq!(builder_build(&builder, &mut data, &restarts, &mut count), GOOD);
+
+    let (mut cursor, mut row) = ([0; CURSOR_WORDS], [0; ROW_WORDS]);
+    assert_eq!(open(&data, ASCENDING, &mut cursor), GOOD);
+    assert_eq!(
+        next(&data, &mut cursor, &mut key, &mut [], &mut row),
+        Refusal::KeyBufferTooShort.number()
+    );
+    cursor[1] = 1;
+    assert_eq!(
+        next(&data, &mut cursor, &mut key, &mut [0], &mut row),
+        Refusal::BadState.number()
+    );
+}

@@ -1,0 +1,116 @@
+//! Seeks, held to a plain search over the rows.
+
+mod common;
+
+use common::{build, open, rows_of, walk, BOTH};
+use slatedb_block::{IterationOrder, RowEntry};
+
+/// The rows that have to follow a seek.
+fn expected(rows: &[RowEntry], order: IterationOrder, target: &[u8]) -> Vec<RowEntry> {
+    match order {
+        IterationOrder::Ascending => rows.iter().filter(|row| &row.key[..] >= target).cloned().collect(),
+        IterationOrder::Descending => rows
+            .iter()
+            .rev()
+            .filter(|row| &row.key[..] <= target)
+            .cloned()
+            .collect(),
+    }
+}
+
+fn rest(block: &[u8], order: IterationOrder, target: &[u8]) -> Vec<RowEntry> {
+    let mut iterator = open(block, order);
+    iterator.seek(target).unwrap();
+    iterator.collect::<Result<_, _>>().unwrap()
+}
+
+const KEYS: [&str; 14] = [
+    "b", "bb", "bb", "bbc", "d", "d", "d", "d", "d", "da", "f", "fff", "h", "hz",
+];
+
+#[test]
+fn present_absent_below_and_above() {
+    let rows = rows_of(&KEYS);
+    let targets = [
+        "", "a", "b", "ba", "bb", "bba", "bbc", "c", "d", "d\0", "da", "e", "fff", "g", "hz", "hzz", "z",
+    ];
+    for interval in [1, 2, 3, 5, 16] {
+        let block = build(&rows, interval);
+        for target in targets {
+            for order in BOTH {
+                let target = target.as_bytes();
+                assert_eq!(
+                    rest(&block, order, target),
+                    expected(&rows, order, target),
+                    "{interval} {order:?} {target:?}"
+                );
+            }
+        }
+    }
+}
+
+#[test]
+fn a_target_may_be_longer_than_any_key() {
+    let rows = rows_of(&KEYS);
+    let block = build(&rows, 2);
+    let target = [b'd'; 5000];
+    for order in BOTH {
+        assert_eq!(rest(&block, order, &target), expected(&rows, order, &target));
+    }
+}
+
+#[test]
+fn cases_8_to_10() {
+    let block = build(&rows_of(&["a", "b", "b", "b", "c"]), 2);
+    let answer = |order, target: &[u8]| {
+        let mut iterator = open(&block, order);
+        assert_eq!(iterator.seek(target), Ok(2));
+        iterator.next().unwrap().map(|row| row.seq)
+    };
+    assert_eq!(answer(IterationOrder::Ascending, b"b"), Some(1));
+    assert_eq!(answer(IterationOrder::Descending, b"b"), Some(3));
+    assert_eq!(answer(IterationOrder::Ascending, b"bb"), Some(4));
+    assert_eq!(answer(IterationOrder::Descending, b"bb"), Some(3));
+    assert_eq!(answer(IterationOrder::Ascending, b"d"), None);
+    assert_eq!(answer(IterationOrder::Descending, b""), None);
+    assert_eq!(answer(IterationOrder::Ascending, b""), Some(0));
+}
+
+#[test]
+fn a_seek_starts_afresh() {
+    let rows = rows_of(&KEYS);
+    let block = build(&rows, 3);
+    for order in BOTH {
+        let mut iterator = open(&block, order);
+        for target in ["h", "b", "zz", "", "d", "d"] {
+            iterator.seek(target.as_bytes()).unwrap();
+            let first = expected(&rows, order, target.as_bytes()).first().cloned();
+            assert_eq!(iterator.next(), Ok(first), "{order:?} {target:?}");
+        }
+    }
+}
+
+#[test]
+fn a_seek_brings_an_ended_iterator_back() {
+    let rows = rows_of(&KEYS);
+    let block = build(&rows, 3);
+    for order in BOTH {
+        let mut iterator = open(&block, order);
+        assert_eq!(iterator.by_ref().count(), rows.len());
+        assert!(iterator.is_empty());
+        iterator.seek(b"d").unwrap();
+        assert!(!iterator.is_empty());
+        assert!(iterator.count() < walk(&block, order).unwrap().len());
+    }
+}
+
+#[test]
+fn a_seek_that_finds_nothing_leaves_nothing() {
+    let block = build(&rows_of(&KEYS), 3);
+    for (order, target) in [(IterationOrder::Ascending, "z"), (IterationOrder::Descending, "a")] {
+        let mut iterator = open(&block, order);
+        iterator.seek(target.as_bytes()).unwrap();
+        assert!(iterator.is_empty());
+        assert_eq!(iterator.next(), Ok(None));
+    }
+}
