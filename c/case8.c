@@ -366,8 +366,11 @@ static const struct {
     {"is_empty", try_is_empty, {CURSOR}},
 };
 
+static uint64_t lengths_tried;
+
 static int bad_words(size_t call, const size_t *n) {
     uint8_t code = CALLS[call].call(n);
+    lengths_tried++;
     take_back(0);
     return code == SLATEDB_BAD_WORDS;
 }
@@ -460,6 +463,7 @@ int main(void) {
         damage(1);
         damage(SLATEDB_KEY_BYTES);
     }
+    printf("lengths of lent arrays: %llu tried\n", (unsigned long long)lengths_tried);
     printf("damaged blocks: %llu read, %llu of them accepted\n", (unsigned long long)tried, (unsigned long long)accepted);
     printf("%d differences\n", differences);
     return differences != 0;
