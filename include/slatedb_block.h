@@ -1,8 +1,8 @@
 /* Blocks of slatedb's format V2: rows written and read, blocks built, checked, walked and sought in.
  *
  * The functions are those of the static library slatedb_block. They are proved for all arguments that these declarations
- * allow: pointers to as many elements as the length beside them says, none of them lent twice in one call. Nothing here
- * allocates, keeps a pointer or has a state of its own.
+ * allow: pointers to as many elements as the length beside them says, where nothing that a call may write is lent to it
+ * twice. Nothing here allocates, keeps a pointer or has a state of its own.
  *
  * Every function answers a code: 0 for good, the number of a refusal, 255 for "done". A call that answers a number from 1
  * to 254 has changed no memory that was lent to it.

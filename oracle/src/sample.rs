@@ -1,4 +1,4 @@
-//! Prints the command lines of sample.txt: some of every kind, the same at each run, all inside the limits and on blocks that
+//! Prints the command lines of the program `replay`: some of every kind, the same at each run, all inside the limits and on blocks that
 //! the check accepts, so that the Rust and the proved code must answer the same.
 #![allow(explicit_builtin_cfgs_in_flags)]
 use slate_oracle::driver::{command, hex};
