@@ -1,0 +1,102 @@
+-- Each promise admits one outcome: two codes, with the words, numbers and bytes that they leave, that both keep it are equal; but for the key bytes past the length of
+-- the key that a moved cursor carries. The functions by value keep the promises of the others, so one law is for both.
+use Prim.Native.Nat.{ℕ}
+use mathlib.Core.Path.{_≡_, sym, _∙_}
+use mathlib.Core.List.{List}
+use lib.ListN.{length, take}
+use Rattle.layout.specs.Answer.{Res, ok, refuse, bind}
+use Rattle.layout.specs.Cursor.{Cursor, next}
+use Rattle.layout.specs.Key.{Key}
+use Rattle.layout.specs.Limits.{maxKey}
+use Rattle.layout.specs.Seek.{seek}
+use Rattle.slatedb_block.specs.Words.{counted, cursorIn}
+use Rattle.slatedb_block.specs.Promise.{Tells, Sets, EncodesFlat, DecodesFlat, MakesFlat, FitsFlat, AddsFlat, EmptiesFlat, BuildsFlat, ChecksFlat, OpensFlat, TellsFlat, KeyLeft, StepsFlat, SeeksFlat}
+
+tells-settled : {want : Res ℕ} {n c d x y : ℕ} → Tells want n c x → Tells want n d y → (c ≡ d) × (x ≡ y)
+tells-settled a b = (a .answer ∙ sym (b .answer), a .number ∙ sym (b .number))
+
+sets-settled : {A : Type 0} {want : Res A} {words : A → List ℕ} {ws xs ys : List ℕ} {c d : ℕ} → Sets want words ws c xs → Sets want words ws d ys → (c ≡ d) × (xs ≡ ys)
+sets-settled a b = (a .answer ∙ sym (b .answer), a .state ∙ sym (b .state))
+
+-- ---- one row
+
+pub encode-settled : (prevLen shared : ℕ) (suffix value fs out : List ℕ) (n c d : ℕ) (ys zs : List ℕ) (x y : ℕ)
+    → EncodesFlat prevLen shared suffix value fs out n c ys x → EncodesFlat prevLen shared suffix value fs out n d zs y → (c ≡ d) × (ys ≡ zs) × (x ≡ y)
+encode-settled prevLen shared suffix value fs out n c d ys zs x y a b = (a .answer ∙ sym (b .answer), a .bytes ∙ sym (b .bytes), a .number ∙ sym (b .number))
+
+pub decode-settled : (s : List ℕ) (prevLen : ℕ) (row : List ℕ) (c d : ℕ) (ys zs : List ℕ) → DecodesFlat s prevLen row c ys → DecodesFlat s prevLen row d zs → (c ≡ d) × (ys ≡ zs)
+decode-settled s prevLen row c d ys zs a b = sets-settled a b
+
+-- ---- building a block
+
+pub builder-new-settled : (ws : List ℕ) (size interval c d : ℕ) (ys zs : List ℕ) → MakesFlat ws size interval c ys → MakesFlat ws size interval d zs → (c ≡ d) × (ys ≡ zs)
+builder-new-settled ws size interval c d ys zs a b = sets-settled a b
+
+pub builder-would-fit-settled : (ws last : List ℕ) (dataLen placesLen : ℕ) (key : Key) (value fs : List ℕ) (c d : ℕ)
+    → FitsFlat ws last dataLen placesLen key value fs c → FitsFlat ws last dataLen placesLen key value fs d → c ≡ d
+builder-would-fit-settled ws last dataLen placesLen key value fs c d a b = a ∙ sym b
+
+-- slatedb_builder_add and slatedb_builder_add_by_value
+pub builder-add-settled : (ws last bytes places : List ℕ) (key : Key) (value fs : List ℕ) (c d : ℕ) (vs ws′ ks ls ys zs os ps : List ℕ)
+    → AddsFlat ws last bytes places key value fs c vs ks ys os → AddsFlat ws last bytes places key value fs d ws′ ls zs ps
+    → (c ≡ d) × (vs ≡ ws′) × (ks ≡ ls) × (ys ≡ zs) × (os ≡ ps)
+builder-add-settled ws last bytes places key value fs c d vs ws′ ks ls ys zs os ps a b = (
+  a .answer ∙ sym (b .answer),
+  a .state ∙ sym (b .state),
+  a .last-after ∙ sym (b .last-after),
+  a .bytes-after ∙ sym (b .bytes-after),
+  a .places-after ∙ sym (b .places-after),
+)
+
+pub builder-is-empty-settled : (ws : List ℕ) (n c d x y : ℕ) → EmptiesFlat ws n c x → EmptiesFlat ws n d y → (c ≡ d) × (x ≡ y)
+builder-is-empty-settled ws n c d x y a b = tells-settled a b
+
+pub builder-build-settled : (ws bytes places : List ℕ) (n c d : ℕ) (ys zs : List ℕ) (x y : ℕ) → BuildsFlat ws bytes places n c ys x → BuildsFlat ws bytes places n d zs y
+    → (c ≡ d) × (ys ≡ zs) × (x ≡ y)
+builder-build-settled ws bytes places n c d ys zs x y a b = (
+  a .told .answer ∙ sym (b .told .answer),
+  a .bytes-after ∙ sym (b .bytes-after),
+  a .told .number ∙ sym (b .told .number),
+)
+
+-- ---- reading a block
+
+pub check-settled : (b : List ℕ) (n c d x y : ℕ) → ChecksFlat b n c x → ChecksFlat b n d y → (c ≡ d) × (x ≡ y)
+check-settled b n c d x y m l = tells-settled m l
+
+pub open-settled : (b : List ℕ) (order : ℕ) (ws : List ℕ) (c d : ℕ) (ys zs : List ℕ) → OpensFlat b order ws c ys → OpensFlat b order ws d zs → (c ≡ d) × (ys ≡ zs)
+open-settled b order ws c d ys zs m l = sets-settled m l
+
+pub is-empty-settled : (b ws : List ℕ) (n c d x y : ℕ) → TellsFlat b ws n c x → TellsFlat b ws n d y → (c ≡ d) × (x ≡ y)
+is-empty-settled b ws n c d x y m l = tells-settled m l
+
+-- key bytes that agree: as far as the cursor's key goes, and after a refusal whole
+abbrev pub SameKey : {A : Type 0} → Res A → (A → Cursor) → List ℕ → List ℕ → Type 0
+SameKey (ok a) left ks ls = take (left a .keyLen) ks ≡ take (left a .keyLen) ls
+SameKey (refuse n) left ks ls = ks ≡ ls
+
+same-key : {A : Type 0} (want : Res A) (left : A → Cursor) (key ks ls : List ℕ) → KeyLeft want left key ks → KeyLeft want left key ls → SameKey want left ks ls
+same-key (ok a) left key ks ls m l = m ∙ sym l
+same-key (refuse n) left key ks ls m l = m ∙ sym l
+
+-- slatedb_next and slatedb_next_by_value
+pub next-settled : (b ws key out row : List ℕ) (c d : ℕ) (vs us ks ls ys zs rs qs : List ℕ)
+    → StepsFlat b ws key out row c vs ks ys rs → StepsFlat b ws key out row d us ls zs qs
+    → (c ≡ d) × (vs ≡ us) × SameKey (counted row 13 (counted key maxKey (bind (cursorIn ws key) λ k. next k b (length out)))) (λ s. s .cursor) ks ls × (ys ≡ zs) × (rs ≡ qs)
+next-settled b ws key out row c d vs us ks ls ys zs rs qs m l = (
+  m .answer ∙ sym (l .answer),
+  m .state ∙ sym (l .state),
+  same-key (counted row 13 (counted key maxKey (bind (cursorIn ws key) λ k. next k b (length out)))) (λ s. s .cursor) key ks ls (m .key-bytes) (l .key-bytes),
+  m .lent ∙ sym (l .lent),
+  m .row-words ∙ sym (l .row-words),
+)
+
+pub seek-settled : (b target ws key : List ℕ) (n c d : ℕ) (vs us ks ls : List ℕ) (x y : ℕ)
+    → SeeksFlat b target ws key n c vs ks x → SeeksFlat b target ws key n d us ls y
+    → (c ≡ d) × (vs ≡ us) × SameKey (counted key maxKey (bind (cursorIn ws key) λ k. seek (k .direction) b target)) (λ s. s .cursor) ks ls × (x ≡ y)
+seek-settled b target ws key n c d vs us ks ls x y m l = (
+  m .answer ∙ sym (l .answer),
+  m .state ∙ sym (l .state),
+  same-key (counted key maxKey (bind (cursorIn ws key) λ k. seek (k .direction) b target)) (λ s. s .cursor) key ks ls (m .key-bytes) (l .key-bytes),
+  m .number ∙ sym (l .number),
+)
