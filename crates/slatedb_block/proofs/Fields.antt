@@ -1,16 +1,15 @@
 -- The words of a row's fields, read and written: each exit of the functions that do it is one of these laws.
 use Prim.Native.Nat.{ℕ}
-use mathlib.Core.Bool.{Bool, true, false}
+use mathlib.Core.Bool.{true, false}
 use mathlib.Core.Path.{_≡_, refl, ap, sym, _∙_}
 use mathlib.Core.List.{List, [], _∷_}
 use lib.IntN.{ℤ}
 use lib.ListN.{length, set}
 use borrow.Author.Tests.{ne-eqb}
-use Rattle.layout.specs.Answer.{Res, ok, refuse}
+use Rattle.layout.specs.Answer.{ok, refuse}
 use Rattle.layout.specs.Fixed.{bits, unbits}
 use Rattle.layout.specs.Row.{Kind as KindL, value, tombstone, Time as TimeL, Absent as absent, At as at-time}
 use Rattle.types.specs.Says.{saysKind, saysTime, saysHeld}
-use Rattle.types.specs.declared.Kind.{Kind}
 use Rattle.types.specs.declared.Time.{Time}
 use Rattle.types.specs.declared.Time.the-variants.{Absent, At}
 use Rattle.types.specs.declared.ValueDeletable.{ValueDeletable}

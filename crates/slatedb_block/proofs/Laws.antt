@@ -8,7 +8,7 @@ use lib.ListN.{length, take, drop-of-length-le}
 use native.Mathlib.Omega.{arith}
 use borrow.Author.Tests.{eq-eqb, ne-eqb, eqb-true, not-false}
 use Rattle.layout.specs.Answer.{Res, ok, refuse, bind}
-use Rattle.layout.specs.Builder.{Builder, newBuilder, built, isEmpty as isEmptyBuilder, stateTests, build, blockAfter}
+use Rattle.layout.specs.Builder.{newBuilder, built, isEmpty as isEmptyBuilder, stateTests, build}
 use Rattle.layout.specs.Cursor.{Direction, ascending, descending, Cursor, cursorOr, openBlock, isEmpty}
 use Rattle.layout.specs.Seek.{Sought, seek, soughtAfter}
 use Rattle.layout.specs.Limits.{maxKey}
@@ -38,12 +38,11 @@ use Rattle.block_iterator_v2.specs.declared.Sought.{Sought as SoughtC}
 use Rattle.block_iterator_v2.specs.declared.SeekAnswer.the-variants.{Landed, Done as SeekDone, Refused as SeekRefused}
 use Rattle.block_iterator_v2.specs.declared.BlockIteratorV2.{BlockIteratorV2}
 use Rattle.slatedb_block.specs.Words.{badWords, doneCode, codeOf, counted, oneOf, truthIn, truthWord, orderIn, wordAt, cursorFrom, cursorIn, cursorWords, builderFrom, builderWords}
-use Rattle.slatedb_block.specs.Says.{saysCursor, LoadsCursor, iteratorFrom, builderFromWords}
+use Rattle.slatedb_block.specs.Says.{saysCursor, iteratorFrom, builderFromWords}
 use Rattle.block_step_v2.specs.declared.Place.{Place}
 use Rattle.block_step_v2.specs.Says.{viewIn}
-use Rattle.slatedb_block.specs.declared.CursorRead.{CursorRead}
 use Rattle.slatedb_block.specs.declared.CursorRead.the-variants.{Is as IsCursor}
-use Rattle.slatedb_block.specs.Promise.{Tells, Sets, MakesFlat, EmptiesFlat, BuildsFlat, OpensFlat, TellsFlat, seekCode, SeeksAs, SeeksFlat}
+use Rattle.slatedb_block.specs.Promise.{Tells, Sets, MakesFlat, EmptiesFlat, BuildsFlat, OpensFlat, TellsFlat, SeeksAs, SeeksFlat}
 
 -- ---- words
 

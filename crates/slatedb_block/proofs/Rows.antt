@@ -2,15 +2,15 @@
 use Prim.Native.Nat.{ℕ}
 use mathlib.Core.Path.{_≡_, refl, ap, sym, _∙_}
 use mathlib.Core.List.{List, []}
-use lib.ListN.{length, take}
+use lib.ListN.{length}
 use borrow.Author.Tests.{eq-eqb, ne-eqb}
 use Rattle.layout.specs.Answer.{Res, ok, refuse, bind}
-use Rattle.layout.specs.Builder.{Builder, wouldFit, add, dataAfter, placesAfter}
+use Rattle.layout.specs.Builder.{Builder, add, dataAfter, placesAfter}
 use Rattle.layout.specs.Key.{Key}
 use Rattle.layout.specs.Limits.{maxKey}
 use Rattle.layout.specs.Place.{splice}
 use Rattle.layout.specs.Row.{Fields, encodeRow, written}
-use Rattle.layout.specs.RowRead.{RowRead as RowReadL, decodeRow}
+use Rattle.layout.specs.RowRead.{decodeRow}
 use Rattle.layout.specs.Laws.Answer.{ok-inj}
 use Rattle.types.specs.Answers.{apart, yes}
 use Rattle.types.specs.Number.{number}
@@ -24,7 +24,7 @@ use Rattle.row_codec_v2.specs.declared.RowFields.{RowFields}
 use Rattle.row_codec_v2.specs.declared.RowRead.{RowRead}
 use Rattle.row_codec_v2.specs.declared.RowRead.the-variants.{Read as ReadRow, Refused as RowRefused}
 use Rattle.block_v2.specs.Promise.{Fits, Adds, AddsInPlace, lastAfter, builderAfter}
-use Rattle.block_v2.specs.Says.{stateFrom, viewFrom, viewOf, saysFit, saysAdd, saysGrown}
+use Rattle.block_v2.specs.Says.{stateFrom, builderFrom as builderOver, viewFrom, viewOf, saysFit, saysAdd, saysGrown}
 use Rattle.block_v2.specs.declared.AddAnswer.the-variants.{Good as GoodAdd, Refused as AddRefused}
 use Rattle.block_v2.specs.declared.Added.{Added}
 use Rattle.block_v2.specs.declared.BlockBuilderV2.{BlockBuilderV2}
@@ -33,9 +33,9 @@ use Rattle.block_v2.specs.declared.Fit.the-variants.{Yes, Refused as FitRefused
 use Rattle.block_v2.specs.declared.Grown.{Grown}
 use Rattle.block_v2.specs.declared.Grown.the-variants.{Row as GrownRow, Refused as GrownRefused}
 use Rattle.block_v2.specs.declared.State.{State}
-use Rattle.slatedb_block.specs.Words.{badWords, codeOf, counted, builderFrom, builderWords, fieldsIn, rowWords}
-use Rattle.slatedb_block.specs.Says.{stateIn, builderOver}
-use Rattle.slatedb_block.specs.Promise.{Lays, EncodesFlat, DecodesFlat, FitsFlat, Gain, gain, AddsAs, AddsFlat}
+use Rattle.slatedb_block.specs.Words.{badWords, codeOf, builderFrom, builderWords, fieldsIn, rowWords}
+use Rattle.slatedb_block.specs.Says.{stateIn}
+use Rattle.slatedb_block.specs.Promise.{Lays, EncodesFlat, DecodesFlat, FitsFlat, Gain, AddsAs, AddsFlat}
 use Rattle.slatedb_block.proofs.Laws.{counted-not, counted-so, sets-good, sets-refused, only, stayed}
 
 -- ---- encode

@@ -1,7 +1,7 @@
 -- A step: what each of its exits leaves, in place and by value alike, from the answer, the cursor and the buffer that the step below promised.
 use Prim.Native.Nat.{ℕ}
 use mathlib.Core.Path.{_≡_, refl, ap, subst, sym, _∙_}
-use mathlib.Core.List.{List, []}
+use mathlib.Core.List.{List}
 use lib.ListN.{length, take}
 use borrow.Author.Tests.{eq-eqb, ne-eqb}
 use Rattle.layout.specs.Answer.{Res, ok, refuse, bind}
@@ -14,9 +14,9 @@ use Rattle.types.specs.Number.{number}
 use Rattle.types.specs.declared.Refusal.{Refusal}
 use Rattle.row_codec_v2.specs.Says.{rowFrom}
 use Rattle.row_codec_v2.specs.declared.Row.{Row}
-use Rattle.block_step_v2.specs.Lent.{nextIn, lent-whole}
+use Rattle.block_step_v2.specs.Lent.{lent-whole}
 use Rattle.block_step_v2.specs.Promise.{StepsInPlace, Moves}
-use Rattle.block_step_v2.specs.Says.{viewIn, Told, row as row-told, none, toldOf, told, saysMoved, placeAfter, told-row, told-apart}
+use Rattle.block_step_v2.specs.Says.{viewIn, row as row-told, none, toldOf, told, saysMoved, placeAfter, told-row, told-apart}
 use Rattle.block_step_v2.specs.declared.Moved.{Moved}
 use Rattle.block_step_v2.specs.declared.Moved.the-variants.{Found, Done, Refused}
 use Rattle.block_step_v2.specs.declared.Place.{Place}
@@ -24,7 +24,7 @@ use Rattle.block_iterator_v2.specs.Promise.{StepsNext}
 use Rattle.block_iterator_v2.specs.Says.{viewOf, saysNext}
 use Rattle.block_iterator_v2.specs.declared.Next.{Next}
 use Rattle.block_iterator_v2.specs.declared.NextAnswer.the-variants.{Found as NextFound, Done as NextDone, Refused as NextRefused}
-use Rattle.slatedb_block.specs.Words.{badWords, doneCode, codeOf, counted, cursorIn, cursorWords, rowWords}
+use Rattle.slatedb_block.specs.Words.{badWords, doneCode, codeOf, cursorIn, cursorWords, rowWords}
 use Rattle.slatedb_block.specs.Says.{iteratorOver}
 use Rattle.slatedb_block.specs.Promise.{StepsAs, StepsFlat}
 

@@ -1,6 +1,6 @@
 -- What each function promises: the code that it answers, and what each lent word and byte is after it, as equations to the definitions of `layout`.
 use Prim.Native.Nat.{ℕ}
-use mathlib.Core.Bool.{Bool, cond}
+use mathlib.Core.Bool.{cond}
 use mathlib.Core.Path.{_≡_}
 use mathlib.Core.List.{List, []}
 use lib.ListN.{length, take}

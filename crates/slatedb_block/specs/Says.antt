@@ -1,9 +1,9 @@
 -- What the private functions answer: words as the cases and structs of the crates below.
 use Prim.Native.Nat.{ℕ}
 use mathlib.Core.Bool.{Bool}
-use mathlib.Core.List.{List, []}
+use mathlib.Core.List.{List}
 use mathlib.Core.Path.{_≡_}
-use lib.ListN.{take, replicate}
+use lib.ListN.{replicate}
 use Rattle.layout.specs.Answer.{Res, ok, refuse}
 use Rattle.layout.specs.Cursor.{Direction, Cursor}
 use Rattle.layout.specs.Limits.{maxKey}
@@ -16,15 +16,11 @@ use Rattle.block_v2.specs.Says.{builderFrom, viewOf as viewOfBuilder}
 use Rattle.layout.specs.Fixed.{bits}
 use Rattle.layout.specs.Row.{Kind as KindL, Time as TimeL, Fields}
 use Rattle.types.specs.Says.{saysKind, saysTime}
-use Rattle.types.specs.declared.Kind.{Kind}
 use Rattle.types.specs.declared.Time.{Time}
 use Rattle.types.specs.declared.Time.the-variants.{Absent, At}
 use Rattle.types.specs.declared.ValueDeletable.{ValueDeletable}
 use Rattle.types.specs.declared.ValueDeletable.the-variants.{Value, Tombstone, Merge}
 use Rattle.row_codec_v2.specs.Says.{fieldsFrom}
-use Rattle.row_codec_v2.specs.declared.RowFields.{RowFields}
-use Rattle.block_v2.specs.declared.New.{New}
-use Rattle.block_v2.specs.Promise.{Makes}
 use Rattle.block_step_v2.specs.declared.Place.{Place}
 use Rattle.block_step_v2.specs.Says.{viewIn}
 use Rattle.slatedb_block.specs.declared.TruthRead.{TruthRead}
@@ -62,23 +58,12 @@ LoadsCursor ws r = (key : List ℕ) → saysCursor key r ≡ cursorIn ws key
 abbrev pub placeOf : BlockIteratorV2 → Place
 placeOf c = record { order = c .order; region = c .region; at = c .at; «key_len» = c .«key_len»; done = c .done }
 
-abbrev pub iteratorFrom : Place → BlockIteratorV2
-iteratorFrom p = record { order = p .order; region = p .region; at = p .at; key = replicate maxKey 0; «key_len» = p .«key_len»; done = p .done }
-
-abbrev pub builderFromWords : List ℕ → BlockBuilderV2
-builderFromWords ws =
-    record {
-      «block_size» = wordAt ws 0;
-      «restart_interval» = wordAt ws 1;
-      used = wordAt ws 2;
-      restarts = wordAt ws 3;
-      counter = wordAt ws 4;
-      «last_key» = replicate maxKey 0;
-      «last_key_len» = wordAt ws 5;
-    }
-
 abbrev pub iteratorOver : Place → List ℕ → BlockIteratorV2
 iteratorOver p key = record { order = p .order; region = p .region; at = p .at; key = key; «key_len» = p .«key_len»; done = p .done }
+
+-- its key's bytes tell nothing
+abbrev pub iteratorFrom : Place → BlockIteratorV2
+iteratorFrom p = iteratorOver p (replicate maxKey 0)
 
 abbrev pub stateIn : List ℕ → State
 stateIn ws =
@@ -91,11 +76,9 @@ stateIn ws =
       «last_key_len» = wordAt ws 5;
     }
 
-abbrev pub builderOver : State → List ℕ → BlockBuilderV2
-builderOver s last = builderFrom s last
-
-abbrev pub made : ℕ → ℕ → New → Type 0
-made size interval r = Makes size interval r
+-- its last key's bytes tell nothing
+abbrev pub builderFromWords : List ℕ → BlockBuilderV2
+builderFromWords ws = builderFrom (stateIn ws) (replicate maxKey 0)
 
 pub record PutsBuilder (b : BlockBuilderV2) (ws last : List ℕ) : Type 0 where
   pub words : ws ≡ builderWords (viewOfBuilder b)

@@ -2,15 +2,16 @@
 // Follows the methods of slatedb 0.16.0's SstRowCodecV2, BlockBuilderV2 and BlockIteratorV2 (Apache License 2.0), and is changed: each answers a code, 0 for good,
 // the number of a refusal, 254 for words that mean nothing, which is tested first, and 255 for "done"; what else it answers goes to lent words.
 ghost use mathlib.Core.Path.{_≡_};
-ghost use mathlib.Core.List.{[], _∷_};
+ghost use mathlib.Core.List.{[]};
 ghost use lib.ListN.{length};
 ghost use Rattle.layout.specs.Limits.{maxKey};
 ghost use Rattle.types.specs.Says.{saysOrder};
-ghost use Rattle.block_v2.specs.Says.{stateOf, viewFrom};
+ghost use Rattle.block_v2.specs.Promise.{Makes};
+ghost use Rattle.block_v2.specs.Says.{stateOf, viewFrom, builderFrom};
 ghost use Rattle.row_codec_v2.specs.Says.{rowFrom};
 ghost use Rattle.block_step_v2.specs.Says.{viewIn};
 ghost use Rattle.slatedb_block.specs.Words.{truthIn, truthWord, orderIn, orderWord, cursorWords, builderWords, kindIn, timeIn, rowWords};
-ghost use Rattle.slatedb_block.specs.Says.{saysTruth, saysOrdered, LoadsCursor, saysKindRead, saysTimeRead, LoadsFields, heldFrom, timeWordsOf, placeOf, iteratorFrom, iteratorOver, builderFromWords, stateIn, builderOver, made, PutsIterator, PutsBuilder};
+ghost use Rattle.slatedb_block.specs.Says.{saysTruth, saysOrdered, LoadsCursor, saysKindRead, saysTimeRead, LoadsFields, heldFrom, timeWordsOf, placeOf, iteratorFrom, iteratorOver, builderFromWords, stateIn, PutsIterator, PutsBuilder};
 ghost use Rattle.slatedb_block.specs.Promise.{EncodesFlat, DecodesFlat, MakesFlat, FitsFlat, AddsFlat, EmptiesFlat, BuildsFlat, ChecksFlat, OpensFlat, TellsFlat, StepsFlat, SeeksFlat};
 use block_check_v2::Checked;
 use block_iterator_v2::BlockIteratorV2;
@@ -204,20 +205,51 @@ fn iterator_of(p: Place) -> BlockIteratorV2
     }
 }
 
-// A builder by value whose last key's bytes tell nothing here.
-fn builder_in(words: &[u64]) -> BlockBuilderV2
+fn state_in(words: &[u64]) -> State
     requires { ⌜ length (now words) ≡ 6 ⌝ }
-    ensures { λ r. ⌜ r ≡ builderFromWords (now (words .entry)) ⌝ }
+    ensures { λ r. ⌜ r ≡ stateIn (now (words .entry)) ⌝ }
 {
-    BlockBuilderV2 {
+    State {
         block_size: size(words[0]),
         restart_interval: size(words[1]),
         used: size(words[2]),
         restarts: size(words[3]),
         counter: size(words[4]),
-        last_key: [0; 1024],
         last_key_len: size(words[5]),
     }
+}
+
+fn builder_from(s: State, last_key: [u8; 1024]) -> BlockBuilderV2
+    ensures { λ r. ⌜ r ≡ builderFrom s «last_key» ⌝ }
+{
+    BlockBuilderV2 {
+        block_size: s.block_size,
+        restart_interval: s.restart_interval,
+        used: s.used,
+        restarts: s.restarts,
+        counter: s.counter,
+        last_key,
+        last_key_len: s.last_key_len,
+    }
+}
+
+// A builder by value whose last key's bytes tell nothing here.
+fn builder_in(words: &[u64]) -> BlockBuilderV2
+    requires { ⌜ length (now words) ≡ 6 ⌝ }
+    ensures { λ r. ⌜ r ≡ builderFromWords (now (words .entry)) ⌝ }
+{
+    builder_from(state_in(words), [0; 1024])
+}
+
+// A builder by value, with a copy of its last key.
+fn builder_over(words: &[u64], last_key: &[u8]) -> BlockBuilderV2
+    requires { ⌜ (length (now words) ≡ 6) × (length (now «last_key») ≡ maxKey) ⌝ }
+    ensures { λ r. ⌜ r ≡ builderFrom (stateIn (now (words .entry))) (now («last_key» .entry)) ⌝ }
+{
+    let s = state_in(words);
+    let mut key = [0; 1024];
+    utils::copy_in(&mut key, 0, last_key);
+    builder_from(s, key)
 }
 
 fn put_state(words: &mut [u64], s: State)
@@ -369,6 +401,7 @@ fn put_row(words: &mut [u64], row: Row)
 
 // ---- one row
 
+// Writes a row after a key of `previous_len` bytes, of which it shares the first `shared`: 254, 13, 1, 2, 3, 6. Good sets `count` to its bytes.
 #[no_mangle]
 pub extern "C" fn slatedb_encode(
     output: &mut [u8],
@@ -395,6 +428,7 @@ pub extern "C" fn slatedb_encode(
     }
 }
 
+// Reads the row that starts the input, after a key of `previous_len` bytes: 254, 9, 10, 13, 1, 2, 3, 11, 12.
 #[no_mangle]
 pub extern "C" fn slatedb_decode(input: &[u8], previous_len: usize, row: &mut [u64]) -> u8
     ensures { λ r. ⌜ DecodesFlat (now (input .entry)) «previous_len» (now (row .entry)) r (now (row .exit)) ⌝ }
@@ -416,7 +450,7 @@ pub extern "C" fn slatedb_decode(input: &[u8], previous_len: usize, row: &mut [u
 
 // The default interval goes through the constructor that has it.
 fn make(block_size: usize, restart_interval: usize) -> New
-    ensures { λ r. ⌜ made «block_size» «restart_interval» r ⌝ }
+    ensures { λ r. ⌜ Makes «block_size» «restart_interval» r ⌝ }
 {
     if restart_interval == types::DEFAULT_INTERVAL {
         return BlockBuilderV2::new(block_size);
@@ -424,6 +458,7 @@ fn make(block_size: usize, restart_interval: usize) -> New
     BlockBuilderV2::new_with_restart_interval(block_size, restart_interval)
 }
 
+// A new builder: 254, 8.
 #[no_mangle]
 pub extern "C" fn slatedb_builder_new(
     builder: &mut [u64],
@@ -446,39 +481,7 @@ pub extern "C" fn slatedb_builder_new(
     }
 }
 
-fn state_in(words: &[u64]) -> State
-    requires { ⌜ length (now words) ≡ 6 ⌝ }
-    ensures { λ r. ⌜ r ≡ stateIn (now (words .entry)) ⌝ }
-{
-    State {
-        block_size: size(words[0]),
-        restart_interval: size(words[1]),
-        used: size(words[2]),
-        restarts: size(words[3]),
-        counter: size(words[4]),
-        last_key_len: size(words[5]),
-    }
-}
-
-// A builder by value, with a copy of its last key.
-fn builder_over(words: &[u64], last_key: &[u8]) -> BlockBuilderV2
-    requires { ⌜ (length (now words) ≡ 6) × (length (now «last_key») ≡ maxKey) ⌝ }
-    ensures { λ r. ⌜ r ≡ builderOver (stateIn (now (words .entry))) (now («last_key» .entry)) ⌝ }
-{
-    let s = state_in(words);
-    let mut key = [0; 1024];
-    utils::copy_in(&mut key, 0, last_key);
-    BlockBuilderV2 {
-        block_size: s.block_size,
-        restart_interval: s.restart_interval,
-        used: s.used,
-        restarts: s.restarts,
-        counter: s.counter,
-        last_key: key,
-        last_key_len: s.last_key_len,
-    }
-}
-
+// Whether the row would fit: 254, 18, 1, 2, 3, and 4 for "no".
 #[no_mangle]
 pub extern "C" fn slatedb_builder_would_fit(
     builder: &[u64],
@@ -509,6 +512,7 @@ pub extern "C" fn slatedb_builder_would_fit(
     }
 }
 
+// Adds a row, in place: 254, 18, 1, 2, 3, 4, 5, 6.
 #[no_mangle]
 pub extern "C" fn slatedb_builder_add(
     builder: &mut [u64],
@@ -542,6 +546,7 @@ pub extern "C" fn slatedb_builder_add(
     }
 }
 
+// The same through the method that takes the builder by value.
 #[no_mangle]
 pub extern "C" fn slatedb_builder_add_by_value(
     builder: &mut [u64],
@@ -575,6 +580,7 @@ pub extern "C" fn slatedb_builder_add_by_value(
     }
 }
 
+// Whether there is no row: 254.
 #[no_mangle]
 pub extern "C" fn slatedb_builder_is_empty(builder: &[u64], empty: &mut u64) -> u8
     ensures { λ r. ⌜ EmptiesFlat (now (builder .entry)) (now (empty .entry)) r (now (empty .exit)) ⌝ }
@@ -587,6 +593,7 @@ pub extern "C" fn slatedb_builder_is_empty(builder: &[u64], empty: &mut u64) -> 
     GOOD
 }
 
+// Puts the trailer after the rows: 254, 18, 7, 6. The block is the first `count` bytes of `data`.
 #[no_mangle]
 pub extern "C" fn slatedb_builder_build(
     builder: &[u64],
@@ -603,8 +610,8 @@ pub extern "C" fn slatedb_builder_build(
     let built = b.build(data, restarts);
     let answer = built.answer;
     match answer {
-        BuildAnswer::Block(n) => {
-            *count = n as u64;
+        BuildAnswer::Block(len) => {
+            *count = len as u64;
             GOOD
         }
         BuildAnswer::Refused(refusal) => types::number(refusal),
@@ -613,7 +620,7 @@ pub extern "C" fn slatedb_builder_build(
 
 // ---- reading a block
 
-// Checks a whole block, and answers its number of rows in `count`.
+// Checks a whole block: 14, 15, then row by row 9 to 13, 1, 2, 3, 16, 17. Good sets `count` to its rows.
 #[no_mangle]
 pub extern "C" fn slatedb_check(block: &[u8], count: &mut u64) -> u8
     ensures { λ r. ⌜ ChecksFlat (now (block .entry)) (now (count .entry)) r (now (count .exit)) ⌝ }
@@ -628,6 +635,7 @@ pub extern "C" fn slatedb_check(block: &[u8], count: &mut u64) -> u8
     }
 }
 
+// A cursor before the first row, or after the last one: 254, 14, 15.
 #[no_mangle]
 pub extern "C" fn slatedb_open(block: &[u8], order: u64, cursor: &mut [u64]) -> u8
     ensures { λ r. ⌜ OpensFlat (now (block .entry)) order (now (cursor .entry)) r (now (cursor .exit)) ⌝ }
@@ -650,6 +658,7 @@ pub extern "C" fn slatedb_open(block: &[u8], order: u64, cursor: &mut [u64]) -> 
     }
 }
 
+// Whether no row is left: 254, 14.
 #[no_mangle]
 pub extern "C" fn slatedb_is_empty(block: &[u8], cursor: &[u64], empty: &mut u64) -> u8
     ensures { λ r. ⌜ TellsFlat (now (block .entry)) (now (cursor .entry)) (now (empty .entry)) r (now (empty .exit)) ⌝ }
@@ -678,6 +687,7 @@ fn put_iterator(cursor: &mut [u64], key: &mut [u8], c: BlockIteratorV2)
     utils::copy_in(key, 0, &c.key);
 }
 
+// One step, in place: 254, 14, 18, then done, 15, 18, the row's, 19. Good gives the row, and its key to the start of `out`.
 #[no_mangle]
 pub extern "C" fn slatedb_next(
     block: &[u8],
@@ -731,6 +741,7 @@ fn iterator_over(p: Place, key: &[u8]) -> BlockIteratorV2
     }
 }
 
+// The same through the method that takes the cursor by value.
 #[no_mangle]
 pub extern "C" fn slatedb_next_by_value(
     block: &[u8],
@@ -767,6 +778,7 @@ pub extern "C" fn slatedb_next_by_value(
     }
 }
 
+// Moves the cursor to the target, in its own order: 254, 14, and what the search and the walk meet. `reads`: how many restart keys the search read, set for done too.
 #[no_mangle]
 pub extern "C" fn slatedb_seek(
     block: &[u8],

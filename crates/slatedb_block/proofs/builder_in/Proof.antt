@@ -1,77 +1,17 @@
-use mathlib.Core.Path.{refl}
+-- A builder's words become a builder by value, whose state is the one in the words.
+-- The last key's bytes are zeros, as nothing that is asked of this builder reads them.
 use borrow.Author.Needs.{needs}
 use Rattle.slatedb_block.proofs.builder_in.Statement.{statement}
 use Rattle.slatedb_block.proofs.builder_in.Tie as tie
-use Rattle.slatedb_block.proofs.builder_in.Reads as reads
-use Rattle.slatedb_block.proofs.builder_in.Lts as lts
-use Rattle.slatedb_block.proofs.size.Reads as size-reads
 
--- src/lib.rt:172:26
-shared-slice-read-size : tie.Need-shared-slice-read-size
-shared-slice-read-size c = search needs
+state-in-requires : tie.Need-state-in-requires
+state-in-requires c κs = search needs
 
--- src/lib.rt:172:21
-size-requires : tie.Need-size-requires
-size-requires c κs = search needs
+builder-from-requires : tie.Need-builder-from-requires
+builder-from-requires c κs = search needs
 
--- src/lib.rt:173:32
-shared-slice-read-size-2 : tie.Need-shared-slice-read-size-2
-shared-slice-read-size-2 c = search needs
-
--- src/lib.rt:173:27
-size-requires-2 : tie.Need-size-requires-2
-size-requires-2 c κs = search needs
-
--- src/lib.rt:174:20
-shared-slice-read-size-3 : tie.Need-shared-slice-read-size-3
-shared-slice-read-size-3 c = search needs
-
--- src/lib.rt:174:15
-size-requires-3 : tie.Need-size-requires-3
-size-requires-3 c κs = search needs
-
--- src/lib.rt:175:24
-shared-slice-read-size-4 : tie.Need-shared-slice-read-size-4
-shared-slice-read-size-4 c = search needs
-
--- src/lib.rt:175:19
-size-requires-4 : tie.Need-size-requires-4
-size-requires-4 c κs = search needs
-
--- src/lib.rt:176:23
-shared-slice-read-size-5 : tie.Need-shared-slice-read-size-5
-shared-slice-read-size-5 c = search needs
-
--- src/lib.rt:176:18
-size-requires-5 : tie.Need-size-requires-5
-size-requires-5 c κs = search needs
-
--- src/lib.rt:178:28
-shared-slice-read-size-6 : tie.Need-shared-slice-read-size-6
-shared-slice-read-size-6 c = search needs
-
--- src/lib.rt:178:23
-size-requires-6 : tie.Need-size-requires-6
-size-requires-6 c κs = search needs
-
--- src/lib.rt:167:1
 returns : tie.Need-returns
-returns c = rw (c .before .before .before .before .before .before .before .before .before .before .size .ensures, c .before .before .before .before .before .before .before .before .size2 .ensures, c .before .before .before .before .before .before .size3 .ensures, c .before .before .before .before .size4 .ensures, c .before .before .size5 .ensures, c .size6 .ensures) refl
+returns c = rw (c .before .state-in .ensures) at (c .builder-from .ensures)
 
 pub builder-in-spec : {M : Type 1} → statement M
-builder-in-spec =
-    tie.close
-    (tie.spec
-    shared-slice-read-size
-    size-requires
-    shared-slice-read-size-2
-    size-requires-2
-    shared-slice-read-size-3
-    size-requires-3
-    shared-slice-read-size-4
-    size-requires-4
-    shared-slice-read-size-5
-    size-requires-5
-    shared-slice-read-size-6
-    size-requires-6
-    returns)
+builder-in-spec = tie.close (tie.spec state-in-requires builder-from-requires returns)

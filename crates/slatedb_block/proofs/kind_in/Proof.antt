@@ -1,23 +1,18 @@
+-- A word is a kind exactly when the definition says so: the tests go through its cases in order.
 use mathlib.Core.Path.{refl}
 use Rattle.slatedb_block.proofs.Fields.{kind-none}
 use Rattle.slatedb_block.proofs.kind_in.Statement.{statement}
 use Rattle.slatedb_block.proofs.kind_in.Tie as tie
-use Rattle.slatedb_block.proofs.kind_in.Reads as reads
-use Rattle.slatedb_block.proofs.kind_in.Lts as lts
 
--- src/lib.rt:261:9
 returns : tie.Need-returns
 returns c = rw (c .if1 .taken) refl
 
--- src/lib.rt:264:9
 returns-2 : tie.Need-returns-2
 returns-2 c = rw (c .if2 .taken) refl
 
--- src/lib.rt:267:9
 returns-3 : tie.Need-returns-3
 returns-3 c = rw (c .if3 .taken) refl
 
--- src/lib.rt:257:1
 returns-4 : tie.Need-returns-4
 returns-4 c = kind-none (c .before .before .if1 .left) (c .before .if2 .left) (c .if3 .left)
 

@@ -1,19 +1,15 @@
+-- A word is an order exactly when the definition says so: 0, 1, or none.
 use Rattle.layout.specs.Cursor.{ascending, descending}
 use Rattle.slatedb_block.proofs.Laws.{of-0, of-1, of-none}
 use Rattle.slatedb_block.proofs.order_in.Statement.{statement}
 use Rattle.slatedb_block.proofs.order_in.Tie as tie
-use Rattle.slatedb_block.proofs.order_in.Reads as reads
-use Rattle.slatedb_block.proofs.order_in.Lts as lts
 
--- src/lib.rt:86:9
 returns : tie.Need-returns
 returns c = of-0 ascending descending (c .if1 .taken)
 
--- src/lib.rt:89:9
 returns-2 : tie.Need-returns-2
 returns-2 c = of-1 ascending descending (c .if2 .taken)
 
--- src/lib.rt:82:1
 returns-3 : tie.Need-returns-3
 returns-3 c = of-none ascending descending (c .before .if1 .left) (c .if2 .left)
 

@@ -1,36 +1,26 @@
+-- A cursor is put back: its words are those of its view, and its key's bytes are all copied.
 use mathlib.Core.Path.{_≡_}
 use lib.ListN.{length}
 use Rattle.slatedb_block.proofs.Laws.{copied-whole}
 use borrow.Author.Needs.{needs}
 use Rattle.slatedb_block.proofs.put_iterator.Statement.{statement}
 use Rattle.slatedb_block.proofs.put_iterator.Tie as tie
-use Rattle.slatedb_block.proofs.put_iterator.Reads as reads
-use Rattle.slatedb_block.proofs.put_iterator.Lts as lts
-use Rattle.slatedb_block.proofs.place_of.Reads as place-of-reads
-use Rattle.slatedb_block.proofs.put_cursor.Reads as put-cursor-reads
-use Rattle.utils.proofs.copy_in.Reads as copy-in-reads
 
--- src/lib.rt:344:24
 place-of-requires : tie.Need-place-of-requires
 place-of-requires c κs = search needs
 
--- src/lib.rt:344:5
 put-cursor-requires : tie.Need-put-cursor-requires
 put-cursor-requires c κs = search needs
 
--- src/lib.rt:345:5
 copy-in-requires : tie.Need-copy-in-requires
 copy-in-requires c κs = search needs
 
--- src/lib.rt:340:1
 same-length : tie.Need-same-length
 same-length c = search needs
 
--- src/lib.rt:340:1
 same-length-2 : tie.Need-same-length-2
 same-length-2 c = search needs
 
--- src/lib.rt:340:1
 returns : tie.Need-returns
 returns c =
     let s = c .before .before .before .before .before .before .before .before .before .before .before .before .before .before in

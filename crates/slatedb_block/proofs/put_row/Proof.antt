@@ -1,85 +1,66 @@
+-- Thirteen words stored one by one are the words of the row: with every place set, nothing of the old list is left.
 use native.Mathlib.Omega.{arith}
 use lib.ListN.{length-set}
 use Rattle.slatedb_block.proofs.Fields.{row-stored}
 use borrow.Author.Needs.{needs}
 use Rattle.slatedb_block.proofs.put_row.Statement.{statement}
 use Rattle.slatedb_block.proofs.put_row.Tie as tie
-use Rattle.slatedb_block.proofs.put_row.Reads as reads
-use Rattle.slatedb_block.proofs.put_row.Lts as lts
-use Rattle.slatedb_block.proofs.held_words.Reads as held-words-reads
-use Rattle.slatedb_block.proofs.time_words.Reads as time-words-reads
 
--- src/lib.rt:350:9
 held-words-requires : tie.Need-held-words-requires
 held-words-requires c κs = search needs
 
--- src/lib.rt:352:9
 time-words-requires : tie.Need-time-words-requires
 time-words-requires c κs = search needs
 
--- src/lib.rt:354:9
 time-words-requires-2 : tie.Need-time-words-requires-2
 time-words-requires-2 c κs = search needs
 
--- src/lib.rt:355:5
 slice-write-words : tie.Need-slice-write-words
 slice-write-words c = search needs
 
--- src/lib.rt:356:5
 slice-write-words-2 : tie.Need-slice-write-words-2
 slice-write-words-2 c = search needs
 
--- src/lib.rt:357:5
 slice-write-words-3 : tie.Need-slice-write-words-3
 slice-write-words-3 c = search needs
 
--- src/lib.rt:358:5
 slice-write-words-4 : tie.Need-slice-write-words-4
 slice-write-words-4 c = search needs
 
--- src/lib.rt:359:5
 slice-write-words-5 : tie.Need-slice-write-words-5
 slice-write-words-5 c = simp length-set (omega (arith, c .before .before .before .before .pre))
 
--- src/lib.rt:360:5
 slice-write-words-6 : tie.Need-slice-write-words-6
 slice-write-words-6 c = simp length-set (omega (arith, c .before .before .before .before .pre))
 
--- src/lib.rt:361:5
 slice-write-words-7 : tie.Need-slice-write-words-7
 slice-write-words-7 c = simp length-set (omega (arith, c .before .before .before .before .pre))
 
--- src/lib.rt:362:5
 slice-write-words-8 : tie.Need-slice-write-words-8
 slice-write-words-8 c = simp length-set (omega (arith, c .before .before .before .before .pre))
 
--- src/lib.rt:363:5
 slice-write-words-9 : tie.Need-slice-write-words-9
 slice-write-words-9 c = simp length-set (omega (arith, c .before .before .before .before .pre))
 
--- src/lib.rt:364:5
 slice-write-words-10 : tie.Need-slice-write-words-10
 slice-write-words-10 c = simp length-set (omega (arith, c .before .before .before .before .pre))
 
--- src/lib.rt:365:5
 slice-write-words-11 : tie.Need-slice-write-words-11
 slice-write-words-11 c = simp length-set (omega (arith, c .before .before .before .before .pre))
 
--- src/lib.rt:366:5
 slice-write-words-12 : tie.Need-slice-write-words-12
 slice-write-words-12 c = simp length-set (omega (arith, c .before .before .before .before .pre))
 
--- src/lib.rt:367:5
 slice-write-words-13 : tie.Need-slice-write-words-13
 slice-write-words-13 c = simp length-set (omega (arith, c .before .before .before .before .pre))
 
--- src/lib.rt:345:1
 same-length : tie.Need-same-length
 same-length c = simp length-set
 
--- src/lib.rt:345:1
 returns : tie.Need-returns
-returns c = rw (c .before .before .held-words .ensures, c .before .time-words .ensures, c .time-words2 .ensures) (row-stored (c .before .before .before .before .args .words .now) (c .before .before .before .before .args .row) (c .before .before .before .before .pre))
+returns c =
+    let start = c .before .before .before .before in
+    rw (c .before .before .held-words .ensures, c .before .time-words .ensures, c .time-words2 .ensures) (row-stored (start .args .words .now) (start .args .row) (start .pre))
 
 pub put-row-spec : {M : Type 1} → statement M
 put-row-spec =

@@ -1,41 +1,32 @@
+-- Six words stored one by one are the words of the builder: with every place set, nothing of the old list is left.
 use native.Mathlib.Omega.{arith}
 use lib.ListN.{length-set}
 use Rattle.slatedb_block.proofs.Stores.{six}
 use borrow.Author.Needs.{needs}
 use Rattle.slatedb_block.proofs.put_state.Statement.{statement}
 use Rattle.slatedb_block.proofs.put_state.Tie as tie
-use Rattle.slatedb_block.proofs.put_state.Reads as reads
-use Rattle.slatedb_block.proofs.put_state.Lts as lts
 
--- src/lib.rt:227:5
 slice-write-words : tie.Need-slice-write-words
 slice-write-words c = search needs
 
--- src/lib.rt:228:5
 slice-write-words-2 : tie.Need-slice-write-words-2
 slice-write-words-2 c = search needs
 
--- src/lib.rt:229:5
 slice-write-words-3 : tie.Need-slice-write-words-3
 slice-write-words-3 c = search needs
 
--- src/lib.rt:230:5
 slice-write-words-4 : tie.Need-slice-write-words-4
 slice-write-words-4 c = search needs
 
--- src/lib.rt:231:5
 slice-write-words-5 : tie.Need-slice-write-words-5
 slice-write-words-5 c = simp length-set (omega (arith, c .pre))
 
--- src/lib.rt:232:5
 slice-write-words-6 : tie.Need-slice-write-words-6
 slice-write-words-6 c = simp length-set (omega (arith, c .pre))
 
--- src/lib.rt:223:1
 same-length : tie.Need-same-length
 same-length c = search needs
 
--- src/lib.rt:223:1
 returns : tie.Need-returns
 returns c = six (c .args .words .now) _ _ _ _ _ _ (c .pre)
 

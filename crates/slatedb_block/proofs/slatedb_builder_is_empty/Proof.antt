@@ -1,30 +1,21 @@
+-- The question keeps its promise: whether there is no row doesn't depend on the last key's bytes, which are not lent.
 use Rattle.slatedb_block.proofs.Laws.{empties-short, empties}
 use borrow.Author.Needs.{needs}
 use Rattle.slatedb_block.proofs.slatedb_builder_is_empty.Statement.{statement}
 use Rattle.slatedb_block.proofs.slatedb_builder_is_empty.Tie as tie
-use Rattle.slatedb_block.proofs.slatedb_builder_is_empty.Reads as reads
-use Rattle.slatedb_block.proofs.slatedb_builder_is_empty.Lts as lts
-use Rattle.block_v2.proofs.BlockBuilderV2.is_empty.Reads as is-empty-reads
-use Rattle.slatedb_block.proofs.builder_in.Reads as builder-in-reads
-use Rattle.slatedb_block.proofs.truth_word.Reads as truth-word-reads
 
--- src/lib.rt:250:9
 returns : tie.Need-returns
 returns c = empties-short (c .before .before .args .builder .now) _ (c .if1 .taken)
 
--- src/lib.rt:252:9
 builder-in-requires : tie.Need-builder-in-requires
 builder-in-requires c κs = search needs
 
--- src/lib.rt:253:25
 is-empty-requires : tie.Need-is-empty-requires
 is-empty-requires c κs = search needs
 
--- src/lib.rt:253:14
 truth-word-requires : tie.Need-truth-word-requires
 truth-word-requires c κs = search needs
 
--- src/lib.rt:245:1
 returns-2 : tie.Need-returns-2
 returns-2 c = empties (c .before .before .before .before .before .args .builder .now) _ _ _ (c .before .before .before .if1 .left) (rw (c .before .before .builder-in .ensures) at (c .before .is-empty .ensures)) (c .truth-word .ensures)
 

@@ -1,3 +1,4 @@
+-- The question keeps its promise: whether a row is left doesn't depend on the key's bytes, which are not lent.
 use Rattle.types.specs.Answers.{yes}
 use mathlib.Core.List.{[]}
 use Rattle.slatedb_block.specs.Says.{saysCursor}
@@ -5,61 +6,48 @@ use Rattle.slatedb_block.proofs.Laws.{empty-no-cursor, empty-told, empt
 use borrow.Author.Needs.{needs}
 use Rattle.slatedb_block.proofs.slatedb_is_empty.Statement.{statement}
 use Rattle.slatedb_block.proofs.slatedb_is_empty.Tie as tie
-use Rattle.slatedb_block.proofs.slatedb_is_empty.Reads as reads
-use Rattle.slatedb_block.proofs.slatedb_is_empty.Lts as lts
-use Rattle.block_iterator_v2.proofs.BlockIteratorV2.is_empty.Reads as is-empty-reads
-use Rattle.slatedb_block.proofs.cursor_in.Reads as cursor-in-reads
-use Rattle.slatedb_block.proofs.iterator_of.Reads as iterator-of-reads
-use Rattle.slatedb_block.proofs.truth_word.Reads as truth-word-reads
-use Rattle.types.proofs.number.Reads as number-reads
 
--- src/lib.rt:324:9
 cursor-in-requires : tie.Need-cursor-in-requires
 cursor-in-requires c κs = search needs
 
--- src/lib.rt:325:24
 enum-known-loaded : tie.Need-enum-known-loaded
 enum-known-loaded c = search needs
 
--- src/lib.rt:326:9
 enum-told : tie.Need-enum-told
 enum-told c = search needs
 
--- src/lib.rt:326:9
 returns : tie.Need-returns
 returns c = empty-no-cursor _ _ _ (yes (saysCursor []) (c .before .before .cursor-in .ensures []) (c .enum-told .given .1))
 
--- src/lib.rt:328:9
 iterator-of-requires : tie.Need-iterator-of-requires
 iterator-of-requires c κs = search needs
 
--- src/lib.rt:329:9
 is-empty-requires : tie.Need-is-empty-requires
 is-empty-requires c κs = search needs
 
--- src/lib.rt:331:23
 enum-known-read : tie.Need-enum-known-read
 enum-known-read c = search needs
 
--- src/lib.rt:332:22
 truth-word-requires : tie.Need-truth-word-requires
 truth-word-requires c κs = search needs
 
--- src/lib.rt:335:28
 enum-known-read-2 : tie.Need-enum-known-read-2
 enum-known-read-2 c = search needs
 
--- src/lib.rt:335:40
 number-requires : tie.Need-number-requires
 number-requires c κs = search needs
 
--- src/lib.rt:320:1
 returns-2 : tie.Need-returns-2
-returns-2 c = empty-told _ _ _ (c .before .before .before .before .before .before .before .loaded .given .0 .0) _ (yes (saysCursor []) (c .before .before .before .before .before .before .before .before .before .cursor-in .ensures []) (c .before .before .before .before .before .before .before .loaded .given .1)) (rw (c .before .before .before .before .before .iterator-of .ensures) at (c .before .before .before .before .is-empty .ensures)) (c .before .before .read .given .1) (c .truth-word .ensures)
+returns-2 c =
+    let after-iterator-of = c .before .before .before .before .before in
+    let known = after-iterator-of .before .before in
+    empty-told _ _ _ (known .loaded .given .0 .0) _ (yes (saysCursor []) (known .before .before .cursor-in .ensures []) (known .loaded .given .1)) (rw (after-iterator-of .iterator-of .ensures) at (c .before .before .before .before .is-empty .ensures)) (c .before .before .read .given .1) (c .truth-word .ensures)
 
--- src/lib.rt:320:1
 returns-3 : tie.Need-returns-3
-returns-3 c = empty-refused _ _ _ (c .before .before .before .before .before .before .before .loaded .given .0 .0) _ (yes (saysCursor []) (c .before .before .before .before .before .before .before .before .before .cursor-in .ensures []) (c .before .before .before .before .before .before .before .loaded .given .1)) (rw (c .before .before .before .before .before .iterator-of .ensures) at (c .before .before .before .before .is-empty .ensures)) (c .before .before .read2 .given .1) (c .number .ensures)
+returns-3 c =
+    let after-iterator-of = c .before .before .before .before .before in
+    let known = after-iterator-of .before .before in
+    empty-refused _ _ _ (known .loaded .given .0 .0) _ (yes (saysCursor []) (known .before .before .cursor-in .ensures []) (known .loaded .given .1)) (rw (after-iterator-of .iterator-of .ensures) at (c .before .before .before .before .is-empty .ensures)) (c .before .before .read2 .given .1) (c .number .ensures)
 
 pub slatedb-is-empty-spec : {M : Type 1} → statement M
 slatedb-is-empty-spec =

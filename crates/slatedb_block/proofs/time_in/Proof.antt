@@ -1,3 +1,4 @@
+-- Two words are a time exactly when the definition says so: whether there is one, and its bits.
 use mir.Syntax.{w64}
 use mir.Facts.{toZ-ofZ}
 use mathlib.Core.Path.{ap, _∙_}
@@ -8,38 +9,31 @@ use Rattle.slatedb_block.proofs.Fields.{time-bad, time-at, time-absent}
 use borrow.Author.Needs.{needs}
 use Rattle.slatedb_block.proofs.time_in.Statement.{statement}
 use Rattle.slatedb_block.proofs.time_in.Tie as tie
-use Rattle.slatedb_block.proofs.time_in.Reads as reads
-use Rattle.slatedb_block.proofs.time_in.Lts as lts
-use Rattle.slatedb_block.proofs.truth_in.Reads as truth-in-reads
-use Rattle.utils.proofs.from_bits.Reads as from-bits-reads
 
--- src/lib.rt:275:9
 truth-in-requires : tie.Need-truth-in-requires
 truth-in-requires c κs = search needs
 
--- src/lib.rt:276:23
 enum-known-there : tie.Need-enum-known-there
 enum-known-there c = search needs
 
--- src/lib.rt:277:9
 enum-told : tie.Need-enum-told
 enum-told c = search needs
 
--- src/lib.rt:277:9
 returns : tie.Need-returns
 returns c = time-bad (c .before .before .before .args .has) (c .before .before .before .args .bits) (yes saysTruth (c .before .before .truth-in .ensures) (c .enum-told .given .1))
 
--- src/lib.rt:280:38
 from-bits-requires : tie.Need-from-bits-requires
 from-bits-requires c κs = search needs
 
--- src/lib.rt:280:9
 returns-2 : tie.Need-returns-2
-returns-2 c = time-at (c .before .before .before .before .before .before .args .has) (c .before .before .before .before .before .before .args .bits) (yes saysTruth (c .before .before .before .before .before .truth-in .ensures) (c .before .before .before .there .given .1) ∙ ap ok (c .before .if1 .taken)) (toZ-ofZ {w = w64} (record { sfits = c .from-bits .ok }) ∙ c .from-bits .ensures)
+returns-2 c =
+    let after-truth-in = c .before .before .before .before .before in
+    time-at (after-truth-in .before .args .has) (after-truth-in .before .args .bits) (yes saysTruth (after-truth-in .truth-in .ensures) (c .before .before .before .there .given .1) ∙ ap ok (c .before .if1 .taken)) (toZ-ofZ {w = w64} (record { sfits = c .from-bits .ok }) ∙ c .from-bits .ensures)
 
--- src/lib.rt:272:1
 returns-3 : tie.Need-returns-3
-returns-3 c = time-absent (c .before .before .before .before .before .args .has) (c .before .before .before .before .before .args .bits) (yes saysTruth (c .before .before .before .before .truth-in .ensures) (c .before .before .there .given .1) ∙ ap ok (c .if1 .left))
+returns-3 c =
+    let start = c .before .before .before .before .before in
+    time-absent (start .args .has) (start .args .bits) (yes saysTruth (c .before .before .before .before .truth-in .ensures) (c .before .before .there .given .1) ∙ ap ok (c .if1 .left))
 
 pub time-in-spec : {M : Type 1} → statement M
 time-in-spec =

@@ -1,3 +1,4 @@
+-- A time's words, by its two cases: the bits of a time are those of the definition.
 use mir.Syntax.{w64}
 use mir.Val.{toZ, ofZ}
 use Rattle.slatedb_block.proofs.Fields.{timed}
@@ -6,27 +7,19 @@ use Rattle.slatedb_block.specs.Says.{timeWordsOf}
 use borrow.Author.Needs.{needs}
 use Rattle.slatedb_block.proofs.time_words.Statement.{statement}
 use Rattle.slatedb_block.proofs.time_words.Tie as tie
-use Rattle.slatedb_block.proofs.time_words.Reads as reads
-use Rattle.slatedb_block.proofs.time_words.Lts as lts
-use Rattle.utils.proofs.to_bits.Reads as to-bits-reads
 
--- src/lib.rt:337:25
 enum-told : tie.Need-enum-told
 enum-told c = search needs
 
--- src/lib.rt:338:18
 enum-known-time : tie.Need-enum-known-time
 enum-known-time c = search needs
 
--- src/lib.rt:340:19
 to-bits-requires : tie.Need-to-bits-requires
 to-bits-requires c κs = search needs
 
--- src/lib.rt:333:1
 returns : tie.Need-returns
 returns c = ap timeWordsOf (sym (c .enum-told .given .1))
 
--- src/lib.rt:333:1
 returns-2 : tie.Need-returns-2
 returns-2 c =
     let z = c .before .before .time .given .0 .0 in

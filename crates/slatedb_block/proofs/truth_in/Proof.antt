@@ -1,19 +1,15 @@
+-- A word is a truth exactly when the definition says so: 0, 1, or none.
 use mathlib.Core.Bool.{true, false}
 use Rattle.slatedb_block.proofs.Laws.{of-0, of-1, of-none}
 use Rattle.slatedb_block.proofs.truth_in.Statement.{statement}
 use Rattle.slatedb_block.proofs.truth_in.Tie as tie
-use Rattle.slatedb_block.proofs.truth_in.Reads as reads
-use Rattle.slatedb_block.proofs.truth_in.Lts as lts
 
--- src/lib.rt:68:9
 returns : tie.Need-returns
 returns c = of-0 false true (c .if1 .taken)
 
--- src/lib.rt:71:9
 returns-2 : tie.Need-returns-2
 returns-2 c = of-1 false true (c .if2 .taken)
 
--- src/lib.rt:64:1
 returns-3 : tie.Need-returns-3
 returns-3 c = of-none false true (c .before .if1 .left) (c .if2 .left)
 
