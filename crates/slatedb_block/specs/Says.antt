@@ -7,15 +7,14 @@ use lib.ListN.{replicate}
 use Rattle.layout.specs.Answer.{Res, ok, refuse}
 use Rattle.layout.specs.Cursor.{Direction, Cursor}
 use Rattle.layout.specs.Limits.{maxKey}
-use Rattle.types.specs.Says.{saysOrder}
+use Rattle.layout.specs.Fixed.{bits}
+use Rattle.layout.specs.Row.{Kind as KindL, Time as TimeL, Fields}
 use Rattle.block_iterator_v2.specs.declared.BlockIteratorV2.{BlockIteratorV2}
 use Rattle.block_iterator_v2.specs.Says.{viewOf}
 use Rattle.block_v2.specs.declared.BlockBuilderV2.{BlockBuilderV2}
 use Rattle.block_v2.specs.declared.State.{State}
 use Rattle.block_v2.specs.Says.{builderFrom, viewOf as viewOfBuilder}
-use Rattle.layout.specs.Fixed.{bits}
-use Rattle.layout.specs.Row.{Kind as KindL, Time as TimeL, Fields}
-use Rattle.types.specs.Says.{saysKind, saysTime}
+use Rattle.types.specs.Says.{saysOrder, saysKind, saysTime}
 use Rattle.types.specs.declared.Time.{Time}
 use Rattle.types.specs.declared.Time.the-variants.{Absent, At}
 use Rattle.types.specs.declared.ValueDeletable.{ValueDeletable}

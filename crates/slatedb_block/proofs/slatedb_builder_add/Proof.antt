@@ -1,11 +1,21 @@
 -- Adding in place keeps its promise: the words that mean nothing first, then what `add_in_place` promised of the state in the words.
 -- Each exit is one law of `Rows`.
+use mathlib.Core.Path.{_≡_}
+use Rattle.layout.specs.Answer.{ok}
 use Rattle.types.specs.Answers.{yes}
+use Rattle.row_codec_v2.specs.Says.{fieldsFrom}
+use Rattle.slatedb_block.specs.Words.{fieldsIn}
 use Rattle.slatedb_block.specs.Says.{saysFields}
 use Rattle.slatedb_block.proofs.Rows.{adds-short, adds-no-key, adds-bad, adds-grown, adds-refused}
 use borrow.Author.Needs.{needs}
 use Rattle.slatedb_block.proofs.slatedb_builder_add.Statement.{statement}
 use Rattle.slatedb_block.proofs.slatedb_builder_add.Tie as tie
+
+abbrev entry : tie.After-loaded → tie.Start
+entry k = k .before .before .before .before .before .before .before .before .before .before .before .before
+
+fields-read : (k : tie.After-loaded) → fieldsIn (entry k .args .fields .now) (entry k .args .value .now) ≡ ok (fieldsFrom (k .loaded .given .0 .0) (entry k .args .value .now))
+fields-read k = yes (saysFields (entry k .args .value .now)) (k .before .before .fields-in .ensures (entry k .args .value .now)) (k .loaded .given .1)
 
 returns : tie.Need-returns
 returns c =
@@ -66,8 +76,8 @@ returns-4 c =
     let after-grown = c .before .before .before .before .before in
     let after-add-in-place = after-grown .before .before .before .before .before .before .before .before in
     let known = after-add-in-place .before .before .before .before .before .before .before in
-    let start = known .before .before .before .before .before .before .before .before .before .before .before .before in
-    adds-grown (start .args .builder .now) (start .args .last-key .now) _ _ (start .args .key .now) (start .args .value .now) (start .args .fields .now) (known .loaded .given .0 .0) (known .before .before .before .before .if1 .left) (known .before .before .before .if2 .left) (yes (saysFields (start .args .value .now)) (known .before .before .fields-in .ensures (start .args .value .now)) (known .loaded .given .1)) _ _ _ _ (rw (after-add-in-place .before .before .before .before .state-in .ensures) at (after-add-in-place .add-in-place .ensures)) (after-grown .grown .given .1) (c .before .before .put-state .ensures)
+    let start = entry known in
+    adds-grown (start .args .builder .now) (start .args .last-key .now) _ _ (start .args .key .now) (start .args .value .now) (start .args .fields .now) (known .loaded .given .0 .0) (known .before .before .before .before .if1 .left) (known .before .before .before .if2 .left) (fields-read known) _ _ _ _ (rw (after-add-in-place .before .before .before .before .state-in .ensures) at (after-add-in-place .add-in-place .ensures)) (after-grown .grown .given .1) (c .before .before .put-state .ensures)
 
 same-length-5 : tie.Need-same-length-5
 same-length-5 c = search needs
@@ -85,8 +95,8 @@ returns-5 : tie.Need-returns-5
 returns-5 c =
     let after-add-in-place = c .before .before .before .before .before .before .before .before .before .before in
     let known = after-add-in-place .before .before .before .before .before .before .before in
-    let start = known .before .before .before .before .before .before .before .before .before .before .before .before in
-    adds-refused (start .args .builder .now) (start .args .last-key .now) _ _ (start .args .key .now) (start .args .value .now) (start .args .fields .now) (known .loaded .given .0 .0) (known .before .before .before .before .if1 .left) (known .before .before .before .if2 .left) (yes (saysFields (start .args .value .now)) (known .before .before .fields-in .ensures (start .args .value .now)) (known .loaded .given .1)) _ _ _ _ (rw (after-add-in-place .before .before .before .before .state-in .ensures) at (after-add-in-place .add-in-place .ensures)) (c .before .before .grown2 .given .1) (c .number .ensures)
+    let start = entry known in
+    adds-refused (start .args .builder .now) (start .args .last-key .now) _ _ (start .args .key .now) (start .args .value .now) (start .args .fields .now) (known .loaded .given .0 .0) (known .before .before .before .before .if1 .left) (known .before .before .before .if2 .left) (fields-read known) _ _ _ _ (rw (after-add-in-place .before .before .before .before .state-in .ensures) at (after-add-in-place .add-in-place .ensures)) (c .before .before .grown2 .given .1) (c .number .ensures)
 
 pub slatedb-builder-add-spec : {M : Type 1} → statement M
 slatedb-builder-add-spec =

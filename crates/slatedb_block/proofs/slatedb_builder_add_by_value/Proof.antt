@@ -1,11 +1,21 @@
 -- Adding by value keeps the same promise: the method gives back a whole builder, whose words and key bytes are put back.
 -- Each exit is one law of `Rows`.
+use mathlib.Core.Path.{_≡_}
+use Rattle.layout.specs.Answer.{ok}
 use Rattle.types.specs.Answers.{yes}
+use Rattle.row_codec_v2.specs.Says.{fieldsFrom}
+use Rattle.slatedb_block.specs.Words.{fieldsIn}
 use Rattle.slatedb_block.specs.Says.{saysFields}
 use Rattle.slatedb_block.proofs.Rows.{adds-short, adds-no-key, adds-bad, adds-good, adds-turned-down}
 use borrow.Author.Needs.{needs}
 use Rattle.slatedb_block.proofs.slatedb_builder_add_by_value.Statement.{statement}
 use Rattle.slatedb_block.proofs.slatedb_builder_add_by_value.Tie as tie
+
+abbrev entry : tie.After-loaded → tie.Start
+entry k = k .before .before .before .before .before .before .before .before .before .before .before .before
+
+fields-read : (k : tie.After-loaded) → fieldsIn (entry k .args .fields .now) (entry k .args .value .now) ≡ ok (fieldsFrom (k .loaded .given .0 .0) (entry k .args .value .now))
+fields-read k = yes (saysFields (entry k .args .value .now)) (k .before .before .fields-in .ensures (entry k .args .value .now)) (k .loaded .given .1)
 
 returns : tie.Need-returns
 returns c =
@@ -66,8 +76,8 @@ returns-4 c =
     let after-put-added = c .before .before .before .before in
     let after-add = after-put-added .before .before .before .before .before .before .before .before .before in
     let known = after-add .before .before .before .before .before .before .before in
-    let start = known .before .before .before .before .before .before .before .before .before .before .before .before in
-    adds-good (start .args .builder .now) (start .args .last-key .now) _ _ (start .args .key .now) (start .args .value .now) (start .args .fields .now) (known .loaded .given .0 .0) (known .before .before .before .before .if1 .left) (known .before .before .before .if2 .left) (yes (saysFields (start .args .value .now)) (known .before .before .fields-in .ensures (start .args .value .now)) (known .loaded .given .1)) _ _ _ (rw (after-add .before .before .before .builder-over .ensures) at (after-add .add .ensures)) (after-put-added .before .before .before .enum-told2 .given .1) (after-put-added .put-added .ensures .words) (after-put-added .put-added .ensures .bytes)
+    let start = entry known in
+    adds-good (start .args .builder .now) (start .args .last-key .now) _ _ (start .args .key .now) (start .args .value .now) (start .args .fields .now) (known .loaded .given .0 .0) (known .before .before .before .before .if1 .left) (known .before .before .before .if2 .left) (fields-read known) _ _ _ (rw (after-add .before .before .before .builder-over .ensures) at (after-add .add .ensures)) (after-put-added .before .before .before .enum-told2 .given .1) (after-put-added .put-added .ensures .words) (after-put-added .put-added .ensures .bytes)
 
 same-length-5 : tie.Need-same-length-5
 same-length-5 c = search needs
@@ -85,8 +95,8 @@ returns-5 : tie.Need-returns-5
 returns-5 c =
     let after-add = c .before .before .before .before .before .before .before .before in
     let known = after-add .before .before .before .before .before .before .before in
-    let start = known .before .before .before .before .before .before .before .before .before .before .before .before in
-    adds-turned-down (start .args .builder .now) (start .args .last-key .now) _ _ (start .args .key .now) (start .args .value .now) (start .args .fields .now) (known .loaded .given .0 .0) (known .before .before .before .before .if1 .left) (known .before .before .before .if2 .left) (yes (saysFields (start .args .value .now)) (known .before .before .fields-in .ensures (start .args .value .now)) (known .loaded .given .1)) _ _ _ (rw (after-add .before .before .before .builder-over .ensures) at (after-add .add .ensures)) (c .before .before .answer .given .1) (c .number .ensures)
+    let start = entry known in
+    adds-turned-down (start .args .builder .now) (start .args .last-key .now) _ _ (start .args .key .now) (start .args .value .now) (start .args .fields .now) (known .loaded .given .0 .0) (known .before .before .before .before .if1 .left) (known .before .before .before .if2 .left) (fields-read known) _ _ _ (rw (after-add .before .before .before .builder-over .ensures) at (after-add .add .ensures)) (c .before .before .answer .given .1) (c .number .ensures)
 
 pub slatedb-builder-add-by-value-spec : {M : Type 1} → statement M
 slatedb-builder-add-by-value-spec =

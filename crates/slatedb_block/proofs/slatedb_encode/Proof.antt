@@ -1,11 +1,21 @@
 -- Encoding keeps its promise: the fields' words first, then what `encode` promised of these fields.
 -- Each exit is one law of `Rows`.
+use mathlib.Core.Path.{_≡_}
+use Rattle.layout.specs.Answer.{ok}
 use Rattle.types.specs.Answers.{yes}
+use Rattle.row_codec_v2.specs.Says.{fieldsFrom}
+use Rattle.slatedb_block.specs.Words.{fieldsIn}
 use Rattle.slatedb_block.specs.Says.{saysFields}
 use Rattle.slatedb_block.proofs.Rows.{encodes-bad, encodes-good, encodes-refused}
 use borrow.Author.Needs.{needs}
 use Rattle.slatedb_block.proofs.slatedb_encode.Statement.{statement}
 use Rattle.slatedb_block.proofs.slatedb_encode.Tie as tie
+
+abbrev entry : tie.After-loaded → tie.Start
+entry k = k .before .before .before .before .before .before .before
+
+fields-read : (k : tie.After-loaded) → fieldsIn (entry k .args .fields .now) (entry k .args .value .now) ≡ ok (fieldsFrom (k .loaded .given .0 .0) (entry k .args .value .now))
+fields-read k = yes (saysFields (entry k .args .value .now)) (k .before .before .fields-in .ensures (entry k .args .value .now)) (k .loaded .given .1)
 
 fields-in-requires : tie.Need-fields-in-requires
 fields-in-requires c κs = search needs
@@ -40,8 +50,8 @@ returns-2 : tie.Need-returns-2
 returns-2 c =
     let after-encode = c .before .before .before .before .before in
     let known = after-encode .before .before .before in
-    let start = known .before .before .before .before .before .before .before in
-    encodes-good _ _ _ (start .args .value .now) (start .args .fields .now) _ _ (known .loaded .given .0 .0) _ _ (yes (saysFields (start .args .value .now)) (known .before .before .fields-in .ensures (start .args .value .now)) (known .loaded .given .1)) (after-encode .encode .ensures) (c .before .encoded .given .1)
+    let start = entry known in
+    encodes-good _ _ _ (start .args .value .now) (start .args .fields .now) _ _ (known .loaded .given .0 .0) _ _ (fields-read known) (after-encode .encode .ensures) (c .before .encoded .given .1)
 
 same-length-2 : tie.Need-same-length-2
 same-length-2 c = search needs
@@ -50,8 +60,8 @@ returns-3 : tie.Need-returns-3
 returns-3 c =
     let after-encode = c .before .before .before .before .before .before in
     let known = after-encode .before .before .before in
-    let start = known .before .before .before .before .before .before .before in
-    encodes-refused _ _ _ (start .args .value .now) (start .args .fields .now) _ _ (known .loaded .given .0 .0) _ _ (yes (saysFields (start .args .value .now)) (known .before .before .fields-in .ensures (start .args .value .now)) (known .loaded .given .1)) (after-encode .encode .ensures) (c .before .before .encoded2 .given .1) (c .number .ensures)
+    let start = entry known in
+    encodes-refused _ _ _ (start .args .value .now) (start .args .fields .now) _ _ (known .loaded .given .0 .0) _ _ (fields-read known) (after-encode .encode .ensures) (c .before .before .encoded2 .given .1) (c .number .ensures)
 
 pub slatedb-encode-spec : {M : Type 1} → statement M
 slatedb-encode-spec =

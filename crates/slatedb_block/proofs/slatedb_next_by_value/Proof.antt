@@ -1,13 +1,26 @@
 -- A step by value keeps the same promise: the method gives back a whole cursor, whose words and key bytes are put back.
 -- Each exit is one law of `Steps`.
-use mathlib.Core.List.{[]}
+use mathlib.Core.Path.{_≡_}
+use lib.ListN.{length}
+use Rattle.layout.specs.Answer.{ok}
 use Rattle.types.specs.Answers.{yes}
+use Rattle.block_step_v2.specs.Says.{viewIn}
+use Rattle.slatedb_block.specs.Words.{cursorIn}
 use Rattle.slatedb_block.specs.Says.{saysCursor}
 use Rattle.slatedb_block.proofs.Laws.{cursor-counts}
 use Rattle.slatedb_block.proofs.Steps.{steps-no-row, steps-no-key, steps-no-cursor, next-found, next-done, next-refused}
 use borrow.Author.Needs.{needs}
 use Rattle.slatedb_block.proofs.slatedb_next_by_value.Statement.{statement}
 use Rattle.slatedb_block.proofs.slatedb_next_by_value.Tie as tie
+
+abbrev entry : tie.After-loaded → tie.Start
+entry k = k .before .before .before .before .before .before .before .before .before .before .before
+
+cursor-read : (k : tie.After-loaded) → cursorIn (entry k .args .cursor .now) (entry k .args .key .now) ≡ ok (viewIn (k .loaded .given .0 .0) (entry k .args .key .now))
+cursor-read k = yes (saysCursor (entry k .args .key .now)) (k .before .before .cursor-in .ensures (entry k .args .key .now)) (k .loaded .given .1)
+
+five-words : (k : tie.After-loaded) → length (entry k .args .cursor .now) ≡ 5
+five-words k = cursor-counts _ _ _ (cursor-read k)
 
 returns : tie.Need-returns
 returns c =
@@ -49,8 +62,7 @@ enum-known-answer c = search needs
 put-iterator-requires : tie.Need-put-iterator-requires
 put-iterator-requires c κs =
     let known = c .before .before .before .before .before .before .before .before .before .before .before .before in
-    let start = known .before .before .before .before .before .before .before .before .before .before .before in
-    (cursor-counts (start .args .cursor .now) [] _ (yes (saysCursor []) (known .before .before .cursor-in .ensures []) (known .loaded .given .1)), known .before .before .before .before .if2 .left)
+    (five-words known, known .before .before .before .before .if2 .left)
 
 put-row-requires : tie.Need-put-row-requires
 put-row-requires c κs = c .before .before .before .before .before .before .before .before .before .before .before .before .before .before .before .before .before .before .before .before .before .before .before .if1 .left
@@ -61,8 +73,7 @@ enum-told-2 c = search needs
 put-iterator-requires-2 : tie.Need-put-iterator-requires-2
 put-iterator-requires-2 c κs =
     let known = c .before .before .before .before .before .before .before .before .before .before .before in
-    let start = known .before .before .before .before .before .before .before .before .before .before .before in
-    (cursor-counts (start .args .cursor .now) [] _ (yes (saysCursor []) (known .before .before .cursor-in .ensures []) (known .loaded .given .1)), known .before .before .before .before .if2 .left)
+    (five-words known, known .before .before .before .before .if2 .left)
 
 enum-known-answer-2 : tie.Need-enum-known-answer-2
 enum-known-answer-2 c = search needs
@@ -87,9 +98,8 @@ returns-4 c =
     let after-put-iterator = c .before .before .before .before .before .before .before .before in
     let after-next = after-put-iterator .before .before .before .before .before .before .before .before in
     let known = after-next .before .before .before .before .before in
-    let after-if1 = known .before .before .before .before .before in
-    let start = after-if1 .before .before .before .before .before .before in
-    next-found _ (start .args .cursor .now) (start .args .key .now) (start .args .out .now) (start .args .row .now) (known .loaded .given .0 .0) (after-if1 .if1 .left) (known .before .before .before .before .if2 .left) (yes (saysCursor (start .args .key .now)) (known .before .before .cursor-in .ensures (start .args .key .now)) (known .loaded .given .1)) _ _ (rw (after-next .before .before .iterator-over .ensures) at (after-next .next .ensures)) (after-put-iterator .before .before .before .before .answer .given .1) (after-put-iterator .put-iterator .ensures .words) (after-put-iterator .put-iterator .ensures .bytes) (c .before .before .put-row .ensures)
+    let start = entry known in
+    next-found _ (start .args .cursor .now) (start .args .key .now) (start .args .out .now) (start .args .row .now) (known .loaded .given .0 .0) (known .before .before .before .before .before .if1 .left) (known .before .before .before .before .if2 .left) (cursor-read known) _ _ (rw (after-next .before .before .iterator-over .ensures) at (after-next .next .ensures)) (after-put-iterator .before .before .before .before .answer .given .1) (after-put-iterator .put-iterator .ensures .words) (after-put-iterator .put-iterator .ensures .bytes) (c .before .before .put-row .ensures)
 
 same-length-6 : tie.Need-same-length-6
 same-length-6 c = search needs
@@ -105,9 +115,8 @@ returns-5 c =
     let after-put-iterator2 = c .before .before .before .before in
     let after-next = after-put-iterator2 .before .before .before .before .before .before .before in
     let known = after-next .before .before .before .before .before in
-    let after-if1 = known .before .before .before .before .before in
-    let start = after-if1 .before .before .before .before .before .before in
-    next-done _ (start .args .cursor .now) (start .args .key .now) (start .args .out .now) (start .args .row .now) (known .loaded .given .0 .0) (after-if1 .if1 .left) (known .before .before .before .before .if2 .left) (yes (saysCursor (start .args .key .now)) (known .before .before .cursor-in .ensures (start .args .key .now)) (known .loaded .given .1)) _ _ (rw (after-next .before .before .iterator-over .ensures) at (after-next .next .ensures)) (after-put-iterator2 .before .before .before .enum-told2 .given .1) (after-put-iterator2 .put-iterator2 .ensures .words) (after-put-iterator2 .put-iterator2 .ensures .bytes)
+    let start = entry known in
+    next-done _ (start .args .cursor .now) (start .args .key .now) (start .args .out .now) (start .args .row .now) (known .loaded .given .0 .0) (known .before .before .before .before .before .if1 .left) (known .before .before .before .before .if2 .left) (cursor-read known) _ _ (rw (after-next .before .before .iterator-over .ensures) at (after-next .next .ensures)) (after-put-iterator2 .before .before .before .enum-told2 .given .1) (after-put-iterator2 .put-iterator2 .ensures .words) (after-put-iterator2 .put-iterator2 .ensures .bytes)
 
 same-length-9 : tie.Need-same-length-9
 same-length-9 c = search needs
@@ -122,9 +131,8 @@ returns-6 : tie.Need-returns-6
 returns-6 c =
     let after-next = c .before .before .before .before .before .before in
     let known = after-next .before .before .before .before .before in
-    let after-if1 = known .before .before .before .before .before in
-    let start = after-if1 .before .before .before .before .before .before in
-    next-refused _ (start .args .cursor .now) (start .args .key .now) (start .args .out .now) (start .args .row .now) (known .loaded .given .0 .0) (after-if1 .if1 .left) (known .before .before .before .before .if2 .left) (yes (saysCursor (start .args .key .now)) (known .before .before .cursor-in .ensures (start .args .key .now)) (known .loaded .given .1)) _ _ (rw (after-next .before .before .iterator-over .ensures) at (after-next .next .ensures)) (c .before .before .answer2 .given .1) (c .number .ensures)
+    let start = entry known in
+    next-refused _ (start .args .cursor .now) (start .args .key .now) (start .args .out .now) (start .args .row .now) (known .loaded .given .0 .0) (known .before .before .before .before .before .if1 .left) (known .before .before .before .before .if2 .left) (cursor-read known) _ _ (rw (after-next .before .before .iterator-over .ensures) at (after-next .next .ensures)) (c .before .before .answer2 .given .1) (c .number .ensures)
 
 pub slatedb-next-by-value-spec : {M : Type 1} → statement M
 slatedb-next-by-value-spec =

@@ -1,12 +1,25 @@
 -- A seek keeps its promise: the words that mean nothing first, then what `seek` promised of the order in them; it reads no key bytes.
 -- Each exit is one law of `Laws`.
-use mathlib.Core.List.{[]}
+use mathlib.Core.Path.{_≡_}
+use lib.ListN.{length}
+use Rattle.layout.specs.Answer.{ok}
 use Rattle.types.specs.Answers.{yes}
+use Rattle.block_step_v2.specs.Says.{viewIn}
+use Rattle.slatedb_block.specs.Words.{cursorIn}
 use Rattle.slatedb_block.specs.Says.{saysCursor}
 use Rattle.slatedb_block.proofs.Laws.{cursor-counts, seeks-short, seeks-no-cursor, seeks-landed, seeks-done, seeks-refused}
 use borrow.Author.Needs.{needs}
 use Rattle.slatedb_block.proofs.slatedb_seek.Statement.{statement}
 use Rattle.slatedb_block.proofs.slatedb_seek.Tie as tie
+
+abbrev entry : tie.After-loaded → tie.Start
+entry k = k .before .before .before .before .before .before .before .before .before
+
+cursor-read : (k : tie.After-loaded) → cursorIn (entry k .args .cursor .now) (entry k .args .key .now) ≡ ok (viewIn (k .loaded .given .0 .0) (entry k .args .key .now))
+cursor-read k = yes (saysCursor (entry k .args .key .now)) (k .before .before .cursor-in .ensures (entry k .args .key .now)) (k .loaded .given .1)
+
+five-words : (k : tie.After-loaded) → length (entry k .args .cursor .now) ≡ 5
+five-words k = cursor-counts _ _ _ (cursor-read k)
 
 returns : tie.Need-returns
 returns c = seeks-short _ _ _ _ _ (c .if1 .taken)
@@ -40,7 +53,7 @@ enum-known-answer c = search needs
 put-iterator-requires : tie.Need-put-iterator-requires
 put-iterator-requires c κs =
     let known = c .before .before .before .before .before .before .before .before in
-    (cursor-counts _ [] _ (yes (saysCursor []) (known .before .before .cursor-in .ensures []) (known .loaded .given .1)), known .before .before .before .before .if1 .left)
+    (five-words known, known .before .before .before .before .if1 .left)
 
 enum-known-answer-2 : tie.Need-enum-known-answer-2
 enum-known-answer-2 c = search needs
@@ -48,7 +61,7 @@ enum-known-answer-2 c = search needs
 put-iterator-requires-2 : tie.Need-put-iterator-requires-2
 put-iterator-requires-2 c κs =
     let known = c .before .before .before .before .before .before .before .before in
-    (cursor-counts _ [] _ (yes (saysCursor []) (known .before .before .cursor-in .ensures []) (known .loaded .given .1)), known .before .before .before .before .if1 .left)
+    (five-words known, known .before .before .before .before .if1 .left)
 
 enum-known-answer-3 : tie.Need-enum-known-answer-3
 enum-known-answer-3 c = search needs
@@ -67,8 +80,8 @@ returns-3 c =
     let after-put-iterator = c .before .before .before .before in
     let after-seek = after-put-iterator .before .before .before .before .before .before in
     let known = after-seek .before .before .before in
-    let start = known .before .before .before .before .before .before .before .before .before in
-    seeks-landed _ _ _ _ _ (known .loaded .given .0 .0) _ (known .before .before .before .before .if1 .left) (yes (saysCursor (start .args .key .now)) (known .before .before .cursor-in .ensures (start .args .key .now)) (known .loaded .given .1)) (rw (after-seek .before .iterator-of .ensures) at (after-seek .seek .ensures)) (after-put-iterator .before .before .before .before .answer .given .1) (after-put-iterator .put-iterator .ensures .words) (after-put-iterator .put-iterator .ensures .bytes)
+    let start = entry known in
+    seeks-landed _ _ _ _ _ (known .loaded .given .0 .0) _ (known .before .before .before .before .if1 .left) (cursor-read known) (rw (after-seek .before .iterator-of .ensures) at (after-seek .seek .ensures)) (after-put-iterator .before .before .before .before .answer .given .1) (after-put-iterator .put-iterator .ensures .words) (after-put-iterator .put-iterator .ensures .bytes)
 
 same-length-4 : tie.Need-same-length-4
 same-length-4 c = search needs
@@ -81,8 +94,8 @@ returns-4 c =
     let after-put-iterator2 = c .before .before .before .before in
     let after-seek = after-put-iterator2 .before .before .before .before .before .before in
     let known = after-seek .before .before .before in
-    let start = known .before .before .before .before .before .before .before .before .before in
-    seeks-done _ _ _ _ _ (known .loaded .given .0 .0) _ (known .before .before .before .before .if1 .left) (yes (saysCursor (start .args .key .now)) (known .before .before .cursor-in .ensures (start .args .key .now)) (known .loaded .given .1)) (rw (after-seek .before .iterator-of .ensures) at (after-seek .seek .ensures)) (after-put-iterator2 .before .before .before .before .answer2 .given .1) (after-put-iterator2 .put-iterator2 .ensures .words) (after-put-iterator2 .put-iterator2 .ensures .bytes)
+    let start = entry known in
+    seeks-done _ _ _ _ _ (known .loaded .given .0 .0) _ (known .before .before .before .before .if1 .left) (cursor-read known) (rw (after-seek .before .iterator-of .ensures) at (after-seek .seek .ensures)) (after-put-iterator2 .before .before .before .before .answer2 .given .1) (after-put-iterator2 .put-iterator2 .ensures .words) (after-put-iterator2 .put-iterator2 .ensures .bytes)
 
 same-length-6 : tie.Need-same-length-6
 same-length-6 c = search needs
@@ -91,8 +104,8 @@ returns-5 : tie.Need-returns-5
 returns-5 c =
     let after-iterator-of = c .before .before .before .before .before in
     let known = after-iterator-of .before .before in
-    let start = known .before .before .before .before .before .before .before .before .before in
-    seeks-refused _ _ _ _ _ (known .loaded .given .0 .0) _ (known .before .before .before .before .if1 .left) (yes (saysCursor (start .args .key .now)) (known .before .before .cursor-in .ensures (start .args .key .now)) (known .loaded .given .1)) (rw (after-iterator-of .iterator-of .ensures) at (c .before .before .before .before .seek .ensures)) (c .before .before .answer3 .given .1) (c .number .ensures)
+    let start = entry known in
+    seeks-refused _ _ _ _ _ (known .loaded .given .0 .0) _ (known .before .before .before .before .if1 .left) (cursor-read known) (rw (after-iterator-of .iterator-of .ensures) at (c .before .before .before .before .seek .ensures)) (c .before .before .answer3 .given .1) (c .number .ensures)
 
 pub slatedb-seek-spec : {M : Type 1} → statement M
 slatedb-seek-spec =
