@@ -1,6 +1,7 @@
 -- A place and lent key bytes become a cursor by value.
 -- The copy goes over all bytes of the new key, so that they are the lent ones.
-use mathlib.Core.Path.{refl}
+use mathlib.Core.Path.{refl, ap}
+use Rattle.slatedb_block.specs.Says.{iteratorOver}
 use Rattle.slatedb_block.proofs.Laws.{copied-whole}
 use borrow.Author.Needs.{needs}
 use Rattle.slatedb_block.proofs.iterator_over.Statement.{statement}
@@ -13,7 +14,9 @@ copy-in-requires : tie.Need-copy-in-requires
 copy-in-requires c κs = search needs
 
 returns : tie.Need-returns
-returns c = rw (copied-whole (c .before .before .before .before .args .key .now) refl (c .before .before .before .before .pre) (c .before .copy-in .ensures)) refl
+returns c =
+    let start = c .before .before .before .before in
+    ap (iteratorOver (start .args .p)) (copied-whole (start .args .key .now) refl (start .pre) (c .before .copy-in .ensures))
 
 pub iterator-over-spec : {M : Type 1} → statement M
 iterator-over-spec = tie.close (tie.spec slice-aggregate-copy-in copy-in-requires returns)
