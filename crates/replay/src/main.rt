@@ -1,69 +1,49 @@
 // Answers a stored list of commands with the proved code, a line for each. The file `stdout` is what slatedb 0.16.0's own code printed for the same list,
 // so a run that writes the same is a comparison with the Rust where no Rust is at hand.
-// A part of a block or of a row is written in hexadecimal digits; `-` is none of them, or a time that is absent. A row is
-// KEY:KIND:VALUE:SEQ:EXPIRE:CREATE, its kind v, t or m.
+// Bytes are written in hexadecimal digits; `-` is none of them, or a time that is absent. A row is KEY:KIND:VALUE:SEQ:EXPIRE:CREATE, its kind v, t or m.
 mod parse;
-mod parts;
 mod reading;
 mod show;
 mod single;
+mod words;
 mod writing;
 
 use libc::STDIN_FILENO;
-use parts::Part;
-use reading::Reading;
-use single::Single;
-use writing::Writing;
 
 const MOST_INPUT: usize = 65536;
+// So no word spells more bytes than a buffer of 8,192 holds.
+const MOST_LINE: usize = 16384;
 
-fn answer_single(text: &[u8], name: Part, args: Part) {
-    if parts::is(text, name, b"row2") {
-        single::row(text, args);
-    } else if parts::is(text, name, b"unrow2") {
-        single::read(text, args, Single::Row);
-    } else if parts::is(text, name, b"key2") {
-        single::read(text, args, Single::Key);
-    } else if parts::is(text, name, b"varint") {
-        single::varint(text, args);
-    } else if parts::is(text, name, b"unvarint") {
-        single::read(text, args, Single::Varint);
-    } else {
-        show::no_command();
+// A command's number is its place among the names.
+fn answer(line: &[u8]) {
+    let names = b"build2 fit2 scan2 seek2 walk2 isempty2 row2 varint unrow2 key2 unvarint";
+    let command = words::which(words::word(line, b' ', 0), names);
+    match command {
+        0 => writing::build(line),
+        1 => writing::fit(line),
+        reading::SCAN..=reading::EMPTY => reading::read(line, command),
+        6 => single::row(line),
+        7 => single::varint(line),
+        single::UNROW..=single::UNVARINT => single::read(line, command),
+        _ => show::mark(b'?'),
     }
 }
 
-fn answer(text: &[u8], line: Part) {
-    let name = parts::first(text, line, b' ');
-    let args = parts::after(line, name);
-    if parts::is(text, name, b"build2") {
-        writing::write(text, args, Writing::Build);
-    } else if parts::is(text, name, b"fit2") {
-        writing::write(text, args, Writing::Fit);
-    } else if parts::is(text, name, b"scan2") {
-        reading::read(text, args, Reading::Scan);
-    } else if parts::is(text, name, b"seek2") {
-        reading::read(text, args, Reading::Seek);
-    } else if parts::is(text, name, b"walk2") {
-        reading::read(text, args, Reading::Walk);
-    } else if parts::is(text, name, b"isempty2") {
-        reading::read(text, args, Reading::Empty);
+fn answer_line(line: &[u8]) {
+    if MOST_LINE < line.len() {
+        show::mark(b'?');
     } else {
-        answer_single(text, name, args);
+        answer(line);
     }
+    show::mark(b'\n');
 }
 
-// There are no more lines than bytes.
 fn answer_all(text: &[u8]) {
-    let mut rest = parts::whole(text);
-    for _ in 0..text.len() {
-        if parts::is_empty(rest) {
-            return;
-        }
-        let line = parts::first(text, rest, b'\n');
-        answer(text, line);
-        show::text(b"\n");
-        rest = parts::after(rest, line);
+    let mut at = 0;
+    while at < text.len() {
+        let end = words::end(text, at, b'\n');
+        answer_line(&text[at..end]);
+        at = end + 1;
     }
 }
 

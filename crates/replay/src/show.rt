@@ -1,6 +1,5 @@
 // Answers, in the words of the list.
-use crate::parts;
-use crate::parts::Part;
+use crate::words;
 use libc::STDOUT_FILENO;
 use row_codec_v2::Row;
 use types::Refusal;
@@ -8,51 +7,39 @@ use types::Time;
 use types::ValueDeletable;
 use utils::WordRead;
 
-pub fn text(words: &[u8]) {
-    io::write_all(STDOUT_FILENO, words);
+pub fn text(s: &[u8]) {
+    io::write_all(STDOUT_FILENO, s);
+}
+
+pub fn mark(b: u8) {
+    let one = [b];
+    text(&one);
 }
 
 pub fn number(n: u64) {
     io::print_decimal(STDOUT_FILENO, n);
 }
 
-fn byte(b: u8) {
-    io::print_hex(STDOUT_FILENO, b as u64, 2);
-}
-
-pub fn bytes(s: &[u8], part: Part) {
-    let from = part.from;
-    let to = part.to;
-    for i in from..to {
-        byte(parts::byte(s, i));
+// The `len` bytes of `s` from `start` on.
+pub fn bytes(s: &[u8], start: usize, len: usize) {
+    for i in 0..len {
+        let b = words::byte(s, std::num::wrapping_add_usize(start, i));
+        io::print_hex(STDOUT_FILENO, b as u64, 2);
     }
 }
 
-pub fn no_command() {
-    text(b"?");
-}
-
-// The Rust's word, where it has one.
+// The Rust's word for the refusal with each number; `-` where it has none.
 pub fn refusal(r: Refusal) {
+    let rust =
+        b"- E:EmptyKey - - 0 - - E:EmptyBlock - - - E:InvalidRowFlags E:InvalidRowFlags - - - - - - -";
     let n = types::number(r);
-    match n {
-        1 => text(b"E:EmptyKey"),
-        4 => text(b"0"),
-        7 => text(b"E:EmptyBlock"),
-        11 | 12 => text(b"E:InvalidRowFlags"),
-        _ => {
-            text(b"refused ");
-            number(n as u64);
-        }
+    let word = words::word(rust, b' ', n as usize);
+    if words::byte(word, 0) != b'-' {
+        text(word);
+        return;
     }
-}
-
-pub fn truth(b: bool) {
-    if b {
-        text(b"true");
-    } else {
-        text(b"false");
-    }
+    text(b"refused ");
+    number(n as u64);
 }
 
 // A signed number, from its bits.
@@ -61,51 +48,48 @@ fn signed(bits: u64) {
         number(bits);
         return;
     }
-    text(b"-");
-    number(u64::MAX - bits + 1);
+    mark(b'-');
+    number(std::num::wrapping_sub_u64(0, bits));
 }
 
 // The bits are read from the eight bytes.
 fn time(t: Time) {
-    match t {
-        Time::Absent => text(b"-"),
-        Time::At(z) => {
-            let mut eight = [0u8; 8];
-            utils::put_i64(&mut eight, 0, z);
-            match utils::get_u64(&eight, 0) {
-                WordRead::Word { value, next: _ } => signed(value),
-                WordRead::Refused(r) => refusal(r),
-            }
-        }
+    mark(b':');
+    let Time::At(z) = t else {
+        mark(b'-');
+        return;
+    };
+    let mut eight = [0u8; 8];
+    utils::put_i64(&mut eight, 0, z);
+    match utils::get_u64(&eight, 0) {
+        WordRead::Word { value, next: _ } => signed(value),
+        WordRead::Refused(r) => refusal(r),
     }
 }
 
-// The kind and the value's bytes, which stand in `s`.
+fn value_at(kind: u8, s: &[u8], start: usize, len: usize) {
+    mark(b':');
+    mark(kind);
+    mark(b':');
+    bytes(s, start, len);
+    mark(b':');
+}
+
 fn value(s: &[u8], held: ValueDeletable) {
     match held {
-        ValueDeletable::Value { start, len } => {
-            text(b":v:");
-            bytes(s, parts::span(start, len));
-        }
-        ValueDeletable::Merge { start, len } => {
-            text(b":m:");
-            bytes(s, parts::span(start, len));
-        }
-        ValueDeletable::Tombstone => text(b":t:"),
+        ValueDeletable::Value { start, len } => value_at(b'v', s, start, len),
+        ValueDeletable::Merge { start, len } => value_at(b'm', s, start, len),
+        ValueDeletable::Tombstone => value_at(b't', s, 0, 0),
     }
 }
 
-// A row of `s`, after this part of `key`: its full key, or its suffix.
-pub fn row(key: &[u8], part: Part, s: &[u8], r: Row) {
+// What follows the key of a row of `s`.
+pub fn row(s: &[u8], r: Row) {
     let held = r.held;
     let expire = r.expire;
     let create = r.create;
-    bytes(key, part);
     value(s, held);
-    text(b":");
     number(r.seq);
-    text(b":");
     time(expire);
-    text(b":");
     time(create);
 }

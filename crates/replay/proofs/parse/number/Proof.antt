@@ -1,38 +1,28 @@
--- The loop ends: less of it is left each time.
+-- The loop reads no byte past the end, and ends.
 use Prim.Native.Nat.{_-_}
+use mathlib.Core.Path.{_≡_}
 use borrow.Author.Needs.{needs}
+use lib.ListN.{length}
 use Rattle.replay.proofs.parse.number.Statement.{statement}
 use Rattle.replay.proofs.parse.number.Tie as tie
 
 abbrev Inv-loop : tie.InvT-loop
-Inv-loop text n₀ from to i₀ n i = Unit {0}
+Inv-loop word n₀ i₀ i-end n i = i-end ≡ length word
 
 abbrev μ-loop : tie.MeasureT-loop
-μ-loop text n₀ from to i₀ n i = to - i
-
-is-empty-requires : tie.Need-is-empty-requires Inv-loop μ-loop
-is-empty-requires c κs = search needs
-
-returns : tie.Need-returns Inv-loop μ-loop
-returns c = search needs
+μ-loop word n₀ i₀ i-end n i = i-end - i
 
 loop-holds : tie.Need-loop-holds Inv-loop μ-loop
 loop-holds c = search needs
 
-byte-requires : tie.Need-byte-requires Inv-loop μ-loop
-byte-requires c κs = search needs
+shared-slice-read-digit : tie.Need-shared-slice-read-digit Inv-loop μ-loop
+shared-slice-read-digit c = search needs
+
+digit-requires : tie.Need-digit-requires Inv-loop μ-loop
+digit-requires c κs = search needs
 
 joined-requires : tie.Need-joined-requires Inv-loop μ-loop
 joined-requires c κs = search needs
-
-enum-known-more : tie.Need-enum-known-more Inv-loop μ-loop
-enum-known-more c = search needs
-
-enum-told : tie.Need-enum-told Inv-loop μ-loop
-enum-told c = search needs
-
-returns-2 : tie.Need-returns-2 Inv-loop μ-loop
-returns-2 c = search needs
 
 add-i : tie.Need-add-i Inv-loop μ-loop
 add-i c = search needs
@@ -43,8 +33,8 @@ loop-less c = search needs
 loop-again : tie.Need-loop-again Inv-loop μ-loop
 loop-again c = search needs
 
-returns-3 : tie.Need-returns-3 Inv-loop μ-loop
-returns-3 c = search needs
+returns : tie.Need-returns Inv-loop μ-loop
+returns c = search needs
 
 pub number-spec : {M : Type 1} → statement M
 number-spec =
@@ -52,15 +42,11 @@ number-spec =
     (tie.spec
     Inv-loop
     μ-loop
-    is-empty-requires
-    returns
     loop-holds
-    byte-requires
+    shared-slice-read-digit
+    digit-requires
     joined-requires
-    enum-known-more
-    enum-told
-    returns-2
     add-i
     loop-less
     loop-again
-    returns-3)
+    returns)

@@ -1,32 +1,20 @@
--- The loop ends: less of it is left each time.
+-- The loop ends: fewer turns are left each time.
 use Prim.Native.Nat.{_-_}
 use borrow.Author.Needs.{needs}
 use Rattle.replay.proofs.reading.empty_after.Statement.{statement}
 use Rattle.replay.proofs.reading.empty_after.Tie as tie
 
 abbrev Inv-loop : tie.InvT-loop
-Inv-loop block steps at₀ counter₀ at counter = Unit {0}
+Inv-loop steps block at₀ counter₀ at counter = Unit {0}
 
 abbrev μ-loop : tie.MeasureT-loop
-μ-loop block steps at₀ counter₀ at counter = steps - counter
+μ-loop steps block at₀ counter₀ at counter = steps - counter
 
 loop-holds : tie.Need-loop-holds Inv-loop μ-loop
 loop-holds c = search needs
 
-slice-aggregate-next : tie.Need-slice-aggregate-next Inv-loop μ-loop
-slice-aggregate-next c = search needs
-
-next-requires : tie.Need-next-requires Inv-loop μ-loop
-next-requires c κs = search needs
-
-enum-known-answer : tie.Need-enum-known-answer Inv-loop μ-loop
-enum-known-answer c = search needs
-
-refusal-requires : tie.Need-refusal-requires Inv-loop μ-loop
-refusal-requires c κs = search needs
-
-returns : tie.Need-returns Inv-loop μ-loop
-returns c = search needs
+pass-requires : tie.Need-pass-requires Inv-loop μ-loop
+pass-requires c κs = search needs
 
 add-counter : tie.Need-add-counter Inv-loop μ-loop
 add-counter c = search needs
@@ -40,8 +28,8 @@ loop-again c = search needs
 empty-requires : tie.Need-empty-requires Inv-loop μ-loop
 empty-requires c κs = search needs
 
-returns-2 : tie.Need-returns-2 Inv-loop μ-loop
-returns-2 c = search needs
+returns : tie.Need-returns Inv-loop μ-loop
+returns c = search needs
 
 pub empty-after-spec : {M : Type 1} → statement M
 empty-after-spec =
@@ -50,13 +38,9 @@ empty-after-spec =
     Inv-loop
     μ-loop
     loop-holds
-    slice-aggregate-next
-    next-requires
-    enum-known-answer
-    refusal-requires
-    returns
+    pass-requires
     add-counter
     loop-less
     loop-again
     empty-requires
-    returns-2)
+    returns)

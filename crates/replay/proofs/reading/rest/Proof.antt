@@ -1,14 +1,14 @@
--- The loop ends: less of it is left each time.
+-- The loop ends: fewer turns are left each time.
 use Prim.Native.Nat.{_-_}
 use borrow.Author.Needs.{needs}
 use Rattle.replay.proofs.reading.rest.Statement.{statement}
 use Rattle.replay.proofs.reading.rest.Tie as tie
 
 abbrev Inv-loop : tie.InvT-loop
-Inv-loop block at₀ t5 counter₀ end at counter = Unit {0}
+Inv-loop block at₀ counter₀ end at counter = Unit {0}
 
 abbrev μ-loop : tie.MeasureT-loop
-μ-loop block at₀ t5 counter₀ end at counter = end - counter
+μ-loop block at₀ counter₀ end at counter = end - counter
 
 loop-holds : tie.Need-loop-holds Inv-loop μ-loop
 loop-holds c = search needs
@@ -19,11 +19,8 @@ step-requires c κs = search needs
 returns : tie.Need-returns Inv-loop μ-loop
 returns c = search needs
 
-slice-aggregate-text : tie.Need-slice-aggregate-text Inv-loop μ-loop
-slice-aggregate-text c = search needs
-
-text-requires : tie.Need-text-requires Inv-loop μ-loop
-text-requires c κs = search needs
+mark-requires : tie.Need-mark-requires Inv-loop μ-loop
+mark-requires c κs = search needs
 
 add-counter : tie.Need-add-counter Inv-loop μ-loop
 add-counter c = search needs
@@ -46,8 +43,7 @@ rest-spec =
     loop-holds
     step-requires
     returns
-    slice-aggregate-text
-    text-requires
+    mark-requires
     add-counter
     loop-less
     loop-again

@@ -1,23 +1,29 @@
--- The loop ends: less of it is left each time.
+-- The loop ends: fewer turns are left each time.
 use Prim.Native.Nat.{_-_}
 use borrow.Author.Needs.{needs}
 use Rattle.replay.proofs.show.bytes.Statement.{statement}
 use Rattle.replay.proofs.show.bytes.Tie as tie
 
 abbrev Inv-loop : tie.InvT-loop
-Inv-loop s from to i₀ i = Unit {0}
+Inv-loop s start len i₀ i = Unit {0}
 
 abbrev μ-loop : tie.MeasureT-loop
-μ-loop s from to i₀ i = to - i
+μ-loop s start len i₀ i = len - i
 
 loop-holds : tie.Need-loop-holds Inv-loop μ-loop
 loop-holds c = search needs
 
+wrapping-add-usize-requires : tie.Need-wrapping-add-usize-requires Inv-loop μ-loop
+wrapping-add-usize-requires c κs = search needs
+
 byte-requires : tie.Need-byte-requires Inv-loop μ-loop
 byte-requires c κs = search needs
 
-byte-requires-2 : tie.Need-byte-requires-2 Inv-loop μ-loop
-byte-requires-2 c κs = search needs
+cast-print-hex : tie.Need-cast-print-hex Inv-loop μ-loop
+cast-print-hex c = search needs
+
+print-hex-requires : tie.Need-print-hex-requires Inv-loop μ-loop
+print-hex-requires c κs = search needs
 
 add-i : tie.Need-add-i Inv-loop μ-loop
 add-i c = search needs
@@ -38,8 +44,10 @@ bytes-spec =
     Inv-loop
     μ-loop
     loop-holds
+    wrapping-add-usize-requires
     byte-requires
-    byte-requires-2
+    cast-print-hex
+    print-hex-requires
     add-i
     loop-less
     loop-again

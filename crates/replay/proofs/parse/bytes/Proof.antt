@@ -2,26 +2,26 @@
 use Prim.Native.Nat.{_-_, _≤_}
 use mathlib.Core.Path.{_≡_, sym}
 use native.Mathlib.Omega.{arith}
+use borrow.Author.Needs.{needs}
 use lib.ListN.{length}
 use lib.Seq.{length-take-le}
-use borrow.Author.Needs.{needs}
-use Rattle.replay.proofs.parse.bytes_of.Statement.{statement}
-use Rattle.replay.proofs.parse.bytes_of.Tie as tie
+use Rattle.replay.proofs.parse.bytes.Statement.{statement}
+use Rattle.replay.proofs.parse.bytes.Tie as tie
 
 abbrev Inv-loop : tie.InvT-loop
-Inv-loop text part out₀ n i₀ out i = (n ≤ length out₀) × (length out ≡ length out₀)
+Inv-loop word out₀ n i₀ out i = (n ≤ length out₀) × (length out ≡ length out₀)
 
 abbrev μ-loop : tie.MeasureT-loop
-μ-loop text part out₀ n i₀ out i = n - i
+μ-loop word out₀ n i₀ out i = n - i
 
-count-requires : tie.Need-count-requires Inv-loop μ-loop
-count-requires c κs = search needs
+least-requires : tie.Need-least-requires Inv-loop μ-loop
+least-requires c κs = search needs
 
 loop-holds : tie.Need-loop-holds Inv-loop μ-loop
 loop-holds c = search needs
 
-byte-of-requires : tie.Need-byte-of-requires Inv-loop μ-loop
-byte-of-requires c κs = search needs
+byte-requires : tie.Need-byte-requires Inv-loop μ-loop
+byte-requires c κs = search needs
 
 slice-write-out : tie.Need-slice-write-out Inv-loop μ-loop
 slice-write-out c = search needs
@@ -41,15 +41,15 @@ same-length c = search needs
 returns : tie.Need-returns Inv-loop μ-loop
 returns c = (omega arith, sym (length-take-le _ _ (omega arith)))
 
-pub bytes-of-spec : {M : Type 1} → statement M
-bytes-of-spec =
+pub bytes-spec : {M : Type 1} → statement M
+bytes-spec =
     tie.close
     (tie.spec
     Inv-loop
     μ-loop
-    count-requires
+    least-requires
     loop-holds
-    byte-of-requires
+    byte-requires
     slice-write-out
     add-i
     loop-less

@@ -1,23 +1,22 @@
--- The loop ends: less of it is left each time.
-use Prim.Native.Nat.{_-_}
+-- The loop ends, at a place between `from` and the end of the text.
+use Prim.Native.Nat.{_-_, _≤_}
+use mathlib.Core.Path.{_≡_}
 use borrow.Author.Needs.{needs}
-use Rattle.replay.proofs.parse.are_digits.Statement.{statement}
-use Rattle.replay.proofs.parse.are_digits.Tie as tie
+use lib.ListN.{length}
+use Rattle.replay.proofs.words.end.Statement.{statement}
+use Rattle.replay.proofs.words.end.Tie as tie
 
 abbrev Inv-loop : tie.InvT-loop
-Inv-loop text from to i₀ i = Unit {0}
+Inv-loop s from mark i₀ i-end i = (from ≤ i) × (i-end ≡ length s)
 
 abbrev μ-loop : tie.MeasureT-loop
-μ-loop text from to i₀ i = to - i
+μ-loop s from mark i₀ i-end i = i-end - i
 
 loop-holds : tie.Need-loop-holds Inv-loop μ-loop
 loop-holds c = search needs
 
-byte-requires : tie.Need-byte-requires Inv-loop μ-loop
-byte-requires c κs = search needs
-
-digit-requires : tie.Need-digit-requires Inv-loop μ-loop
-digit-requires c κs = search needs
+shared-slice-read-if1 : tie.Need-shared-slice-read-if1 Inv-loop μ-loop
+shared-slice-read-if1 c = search needs
 
 returns : tie.Need-returns Inv-loop μ-loop
 returns c = search needs
@@ -34,15 +33,14 @@ loop-again c = search needs
 returns-2 : tie.Need-returns-2 Inv-loop μ-loop
 returns-2 c = search needs
 
-pub are-digits-spec : {M : Type 1} → statement M
-are-digits-spec =
+pub end-spec : {M : Type 1} → statement M
+end-spec =
     tie.close
     (tie.spec
     Inv-loop
     μ-loop
     loop-holds
-    byte-requires
-    digit-requires
+    shared-slice-read-if1
     returns
     add-i
     loop-less
