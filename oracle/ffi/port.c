@@ -1,0 +1,55 @@
+/* port.h over the C interface of the proved library: one call a row, each of which tests all that it is handed.
+ * STEP is slatedb_next, or slatedb_next_by_value for the method that takes the cursor by value. */
+#include "port.h"
+#include "slatedb_block.h"
+
+#ifndef STEP
+#define STEP slatedb_next
+#endif
+
+static _Thread_local uint8_t key[SLATEDB_KEY_BYTES], given[SLATEDB_KEY_BYTES];
+static _Thread_local uint16_t restarts[5042];
+
+static int32_t rows(const uint8_t *block, size_t len, slatedb_cursor *cursor, uint64_t limit, port_sum *out) {
+    slatedb_row row;
+    while (limit--) {
+        uint8_t code = STEP(block, len, SLATEDB_WORDS(cursor), key, sizeof key, given, sizeof given, SLATEDB_WORDS(&row));
+        if (code == SLATEDB_DONE) return 0;
+        if (code) return -code;
+        PORT_ROW(out, given, row.shared + row.suffix_len, row.value_len, row.seq);
+    }
+    return 0;
+}
+
+int32_t port_scan(int32_t desc, const uint8_t *block, size_t len, port_sum *out) {
+    slatedb_cursor cursor;
+    uint8_t code = slatedb_open(block, len, desc != 0, SLATEDB_WORDS(&cursor));
+    return code ? -code : rows(block, len, &cursor, UINT64_MAX, out);
+}
+
+int32_t port_seek(int32_t desc, const uint8_t *block, size_t len, const uint8_t *target, size_t target_len, port_sum *out) {
+    slatedb_cursor cursor;
+    uint64_t reads;
+    uint8_t code = slatedb_open(block, len, desc != 0, SLATEDB_WORDS(&cursor));
+    if (code) return -code;
+    code = slatedb_seek(block, len, target, target_len, SLATEDB_WORDS(&cursor), key, sizeof key, &reads);
+    if (code == SLATEDB_DONE) return 0;
+    return code ? -code : rows(block, len, &cursor, 1, out);
+}
+
+int64_t port_build(size_t block_size, size_t interval, const port_row *row, size_t n, uint8_t *out, size_t cap, size_t *out_len) {
+    slatedb_builder builder;
+    uint64_t count;
+    size_t added = 0;
+    uint8_t code = slatedb_builder_new(SLATEDB_WORDS(&builder), block_size, interval);
+    for (; !code && added < n; row++) {
+        slatedb_fields fields = {row->kind, row->seq, row->has_expire, row->expire, row->has_create, row->create};
+        code = slatedb_builder_add(SLATEDB_WORDS(&builder), key, sizeof key, out, cap, restarts, 5042,
+                                   row->key, row->key_len, row->value, row->value_len, SLATEDB_WORDS(&fields));
+        if (!code) added++;
+    }
+    if (code && code != SLATEDB_ROW_DOES_NOT_FIT) return -code;
+    code = slatedb_builder_build(SLATEDB_WORDS(&builder), out, cap, restarts, 5042, &count);
+    *out_len = count;
+    return code ? -code : (int64_t)added;
+}
