@@ -1,5 +1,5 @@
 // Words of a text, between single marks. One that isn't there is empty.
-ghost use Prim.Native.Nat.{_≤_};
+ghost use Prim.Native.Nat.{_≤_, _+_, _-_};
 ghost use lib.ListN.{length};
 use utils::Ordering;
 
@@ -8,10 +8,9 @@ pub fn byte(s: &[u8], i: usize) -> u8 {
     if i < s.len() { s[i] } else { 0 }
 }
 
-// Where the word ends that starts at `from`.
+// Where the word ends that starts at `from`: not before it, unless it lies past the end, where all words end.
 pub fn end(s: &[u8], from: usize, mark: u8) -> usize
-    requires { ⌜ from ≤ length (now s) ⌝ }
-    ensures { λ r. ⌜ (from ≤ r) × (r ≤ length (now (s .entry))) ⌝ }
+    ensures { λ r. ⌜ (from ≤ r + (from - length (now (s .entry)))) × (r ≤ length (now (s .entry))) ⌝ }
 {
     for i in from..s.len() {
         if s[i] == mark {
