@@ -60,8 +60,7 @@ fn check_region(block: &[u8], t: Trailer, key: &mut [u8], p: Passed) -> Walked
         let shared = row.shared;
         let from = row.suffix_at;
         let to = from + row.suffix_len;
-        // 17: the shared bytes tell nothing, so the suffix is compared with what the carried key has after them, before it is
-        // put over it.
+        // 17: the shared bytes tell nothing, so the suffix is compared, before it is put, with what the carried key has there.
         if utils::is_below(&data[from..to], &key[shared..key_len]) {
             return Walked::Refused(Refusal::KeyFalls);
         }
