@@ -10,7 +10,7 @@ use Rattle.layout.specs.Seek.{Sought as SoughtL}
 use Rattle.layout.specs.Laws.Answer.{ok-inj}
 use Rattle.types.specs.Answers.{apart, refused-one}
 use Rattle.types.specs.Number.{number}
-use Rattle.row_codec_v2.specs.Says.{rowFrom}
+use Rattle.row_decode_v2.specs.Says.{rowFrom}
 use Rattle.block_step_v2.specs.declared.Place.{Place}
 use Rattle.block_step_v2.specs.Says.{viewIn, Told, row, none, viewIn-one, row-one, told-row, told-apart}
 use Rattle.block_iterator_v2.specs.declared.BlockIteratorV2.{BlockIteratorV2}

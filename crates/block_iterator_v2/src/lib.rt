@@ -27,7 +27,7 @@ use block_restarts_v2::Start;
 use block_restarts_v2::StartRead;
 use block_step_v2::Moved;
 use block_step_v2::Place;
-use row_codec_v2::Row;
+use row_decode_v2::Row;
 use types::IterationOrder;
 use types::Refusal;
 

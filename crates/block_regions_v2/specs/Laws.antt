@@ -24,8 +24,8 @@ use Rattle.types.specs.Answers.{apart}
 use Rattle.types.specs.Number.{number}
 use Rattle.types.specs.declared.Refusal.{Refusal}
 use Rattle.types.specs.declared.Refusal.the-variants.{BadState, KeyBufferTooShort}
-use Rattle.row_codec_v2.specs.Says.{rowFrom}
-use Rattle.row_codec_v2.specs.declared.Row.{Row}
+use Rattle.row_decode_v2.specs.Says.{rowFrom}
+use Rattle.row_decode_v2.specs.declared.Row.{Row}
 use Rattle.block.specs.Says.{regionFrom}
 use Rattle.block.specs.declared.Region.{Region as RegionC}
 use Rattle.block_regions_v2.specs.declared.Ended.{Ended as EndedC}

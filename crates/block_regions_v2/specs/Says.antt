@@ -10,10 +10,10 @@ use Rattle.layout.specs.Laws.Answer.{ok-inj}
 use Rattle.types.specs.Answers.{apart, refused-one}
 use Rattle.types.specs.Number.{number}
 use Rattle.types.specs.declared.Refusal.{Refusal}
-use Rattle.row_codec_v2.specs.Says.{rowFrom, saysRow-one}
-use Rattle.row_codec_v2.specs.declared.Row.{Row}
-use Rattle.row_codec_v2.specs.declared.RowRead.{RowRead}
-use Rattle.row_codec_v2.specs.declared.RowRead.the-variants.{Read as ReadRow}
+use Rattle.row_decode_v2.specs.Says.{rowFrom, saysRow-one}
+use Rattle.row_decode_v2.specs.declared.Row.{Row}
+use Rattle.row_decode_v2.specs.declared.RowRead.{RowRead}
+use Rattle.row_decode_v2.specs.declared.RowRead.the-variants.{Read as ReadRow}
 use Rattle.block_regions_v2.specs.declared.Ended.{Ended}
 use Rattle.block_regions_v2.specs.declared.Ended.the-variants.{Row as EndedRow, Refused as EndedRefused}
 use Rattle.block_regions_v2.specs.declared.WalkAnswer.{WalkAnswer}

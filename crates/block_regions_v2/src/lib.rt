@@ -12,13 +12,13 @@ ghost use Rattle.layout.specs.Place.{splice};
 ghost use Rattle.layout.specs.Laws.Carry.{suffixOf};
 ghost use Rattle.layout.specs.Laws.Compare.{isLess};
 ghost use Rattle.utils.specs.Says.{saysOrdering};
-ghost use Rattle.row_codec_v2.specs.Says.{rowFrom};
+ghost use Rattle.row_decode_v2.specs.Says.{rowFrom};
 ghost use Rattle.block_regions_v2.specs.Regions.{given};
 ghost use Rattle.block_regions_v2.specs.Says.{noWalk};
 ghost use Rattle.block_regions_v2.specs.Promise.{Gives, EndsAt, Walks, EndsLast};
 use block::Region;
-use row_codec_v2::Row;
-use row_codec_v2::RowRead;
+use row_decode_v2::Row;
+use row_decode_v2::RowRead;
 use types::Refusal;
 use utils::Ordering;
 
@@ -82,9 +82,9 @@ pub fn row_ending_at(data: &[u8], region: Region, stop: usize, out: &mut [u8]) -
     let mut len: usize = 0;
     let mut at = region.start;
     loop {
-        let a = row_codec_v2::decode_at(data, at, region.end, len, at == region.start);
+        let a = row_decode_v2::decode_at(data, at, region.end, len, at == region.start);
         let RowRead::Read(row) = a else {
-            return Ended::Refused(row_codec_v2::row_refusal(a));
+            return Ended::Refused(row_decode_v2::row_refusal(a));
         };
         len = put_suffix(&mut key, data, row);
         if stop <= row.next {
@@ -130,9 +130,9 @@ pub fn walk_region(data: &[u8], region: Region, target: &[u8]) -> Walked
     let mut len: usize = 0;
     let mut at = region.start;
     while at < region.end {
-        let a = row_codec_v2::decode_at(data, at, region.end, len, at == region.start);
+        let a = row_decode_v2::decode_at(data, at, region.end, len, at == region.start);
         let RowRead::Read(row) = a else {
-            return no_walk(row_codec_v2::row_refusal(a));
+            return no_walk(row_decode_v2::row_refusal(a));
         };
         let from = row.suffix_at;
         let suffix_end = from + row.suffix_len;
@@ -179,9 +179,9 @@ pub fn last_at_or_below(data: &[u8], region: Region, target: &[u8]) -> LastRead
     let mut at = region.start;
     let mut best = region.start;
     while at < region.end {
-        let a = row_codec_v2::decode_at(data, at, region.end, len, at == region.start);
+        let a = row_decode_v2::decode_at(data, at, region.end, len, at == region.start);
         let RowRead::Read(row) = a else {
-            return LastRead::Refused(row_codec_v2::row_refusal(a));
+            return LastRead::Refused(row_decode_v2::row_refusal(a));
         };
         len = put_suffix(&mut key, data, row);
         at = row.next;

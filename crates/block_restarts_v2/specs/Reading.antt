@@ -10,8 +10,8 @@ use Rattle.types.specs.Number.{number}
 use Rattle.utils.specs.Says.{saysOrdering}
 use Rattle.types.specs.declared.Refusal.{Refusal}
 use Rattle.types.specs.declared.Refusal.the-variants.{BadTrailer}
-use Rattle.row_codec_v2.specs.declared.KeyRead.{KeyRead}
-use Rattle.row_codec_v2.specs.declared.KeyRead.the-variants.{Read as ReadKey, Refused as KeyRefused}
+use Rattle.row_decode_v2.specs.declared.KeyRead.{KeyRead}
+use Rattle.row_decode_v2.specs.declared.KeyRead.the-variants.{Read as ReadKey, Refused as KeyRefused}
 use Rattle.block_restarts_v2.specs.declared.Start.{Start}
 use Rattle.block_restarts_v2.specs.declared.Search.{Search}
 use Rattle.block_restarts_v2.specs.declared.Search.the-variants.{Found, Refused as SearchRefused}

@@ -14,7 +14,7 @@ ghost use Rattle.block_restarts_v2.specs.Says.{saysStart};
 ghost use Rattle.block_restarts_v2.specs.Promise.{StartsUp, StartsDown};
 use block::RegionRead;
 use block::Trailer;
-use row_codec_v2::KeyRead;
+use row_decode_v2::KeyRead;
 use types::Refusal;
 use utils::Ordering;
 
@@ -104,7 +104,7 @@ fn compare_first_key_at_restart(
     };
     let size = t.size;
     let rows = &block[..size];
-    let k = row_codec_v2::decode_key_only(rows, region.start, region.end, 0, true);
+    let k = row_decode_v2::decode_key_only(rows, region.start, region.end, 0, true);
     let KeyRead::Read(key) = k else {
         return Compared::Refused(key_refusal(k));
     };

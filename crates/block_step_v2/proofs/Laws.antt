@@ -19,8 +19,8 @@ use Rattle.layout.specs.Laws.Trailer.{regionOf-tells}
 use Rattle.types.specs.Answers.{yes}
 use Rattle.types.specs.Number.{number}
 use Rattle.types.specs.declared.Refusal.{Refusal}
-use Rattle.row_codec_v2.specs.Says.{rowFrom}
-use Rattle.row_codec_v2.specs.declared.Row.{Row}
+use Rattle.row_decode_v2.specs.Says.{rowFrom}
+use Rattle.row_decode_v2.specs.declared.Row.{Row}
 use Rattle.block.specs.Says.{regionFrom}
 use Rattle.block.specs.declared.Region.{Region as RegionC}
 use Rattle.block_regions_v2.specs.declared.Ended.{Ended}

@@ -13,7 +13,7 @@ use Rattle.types.specs.Number.{number}
 use Rattle.types.specs.Says.{saysOrder}
 use Rattle.types.specs.declared.Refusal.{Refusal}
 use Rattle.types.specs.declared.Refusal.the-variants.{BadState}
-use Rattle.row_codec_v2.specs.Says.{rowFrom}
+use Rattle.row_decode_v2.specs.Says.{rowFrom}
 use Rattle.block.specs.Says.{regionFrom}
 use Rattle.block_regions_v2.specs.declared.Ended.{Ended}
 use Rattle.block_regions_v2.specs.declared.Ended.the-variants.{Row as EndedRow, Refused as EndedRefused}

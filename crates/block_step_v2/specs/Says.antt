@@ -11,10 +11,10 @@ use Rattle.layout.specs.Laws.Answer.{ok-inj}
 use Rattle.types.specs.Answers.{apart, refused-one}
 use Rattle.types.specs.Number.{number}
 use Rattle.types.specs.Says.{saysOrder, saysOrder-one}
-use Rattle.row_codec_v2.specs.Says.{rowFrom, saysRow-one}
-use Rattle.row_codec_v2.specs.declared.Row.{Row}
-use Rattle.row_codec_v2.specs.declared.RowRead.{RowRead}
-use Rattle.row_codec_v2.specs.declared.RowRead.the-variants.{Read as ReadRow}
+use Rattle.row_decode_v2.specs.Says.{rowFrom, saysRow-one}
+use Rattle.row_decode_v2.specs.declared.Row.{Row}
+use Rattle.row_decode_v2.specs.declared.RowRead.{RowRead}
+use Rattle.row_decode_v2.specs.declared.RowRead.the-variants.{Read as ReadRow}
 use Rattle.block_step_v2.specs.declared.Place.{Place}
 use Rattle.block_step_v2.specs.declared.Moved.{Moved}
 use Rattle.block_step_v2.specs.declared.Moved.the-variants.{Found, Done, Refused}

@@ -12,7 +12,7 @@ ghost use Rattle.layout.specs.Laws.Carry.{suffixOf};
 ghost use Rattle.layout.specs.Limits.{maxKey};
 ghost use Rattle.layout.specs.Place.{splice};
 ghost use Rattle.layout.specs.Trailer.{trailerOf, dataOf};
-ghost use Rattle.row_codec_v2.specs.Says.{rowFrom};
+ghost use Rattle.row_decode_v2.specs.Says.{rowFrom};
 ghost use Rattle.block.specs.Says.{trailerFrom, regionFrom};
 ghost use Rattle.block_step_v2.specs.Says.{viewIn};
 ghost use Rattle.block_step_v2.specs.Parts.{refusalOfEnded, finished, Stands, passed, Fits, LooksAhead, LooksBehind};
@@ -22,8 +22,8 @@ use block::RegionRead;
 use block::Trailer;
 use block::TrailerRead;
 use block_regions_v2::Ended;
-use row_codec_v2::Row;
-use row_codec_v2::RowRead;
+use row_decode_v2::Row;
+use row_decode_v2::RowRead;
 use types::IterationOrder;
 use types::Refusal;
 
@@ -120,9 +120,9 @@ fn look_ahead(p: Place, block: &[u8], t: Trailer, room: usize) -> Ahead
         return Ahead::End;
     }
     let restart = at == region.start;
-    let a = row_codec_v2::decode_at(&block[..size], at, region.end, p.key_len, restart);
+    let a = row_decode_v2::decode_at(&block[..size], at, region.end, p.key_len, restart);
     let RowRead::Read(row) = a else {
-        return Ahead::Refused(row_codec_v2::row_refusal(a));
+        return Ahead::Refused(row_decode_v2::row_refusal(a));
     };
     if room < row.shared + row.suffix_len {
         return Ahead::Refused(Refusal::KeyBufferTooShort);

@@ -5,7 +5,7 @@ use block_v2::BlockBuilderV2;
 use block_v2::BuildAnswer;
 use row_codec_v2::Encoded;
 use row_codec_v2::RowFields;
-use row_codec_v2::RowRead;
+use row_decode_v2::RowRead;
 use types::Kind;
 use types::Time;
 use utils::Put;
@@ -115,7 +115,7 @@ pub fn numbers() {
 }
 
 fn read(s: &[u8]) {
-    match row_codec_v2::decode(s, 0) {
+    match row_decode_v2::decode(s, 0) {
         RowRead::Read(found) => {
             show::text(b"a row up to ");
             show::number(found.next as u64);

@@ -1,7 +1,7 @@
 // Answers, in the words of the list.
 use crate::words;
 use libc::STDOUT_FILENO;
-use row_codec_v2::Row;
+use row_decode_v2::Row;
 use types::Refusal;
 use types::Time;
 use types::ValueDeletable;

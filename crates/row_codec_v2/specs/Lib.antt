@@ -2,4 +2,3 @@ pub mod Says
 pub mod Parts
 pub mod Promise
 pub mod OneOutcome
-pub mod Reading

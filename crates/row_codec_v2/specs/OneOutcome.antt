@@ -9,11 +9,8 @@ use Rattle.row_codec_v2.specs.declared.RowFields.{RowFields}
 use Rattle.row_codec_v2.specs.declared.Sized.{Sized}
 use Rattle.row_codec_v2.specs.declared.Encoded.{Encoded}
 use Rattle.row_codec_v2.specs.declared.Restored.{Restored}
-use Rattle.row_codec_v2.specs.Promise.{Flagged, Sizes, SizeRefusal, Encodes, Restores, Decodes, DecodesAt, RowRefusal, DecodesKey}
-use Rattle.row_codec_v2.specs.Says.{saysSized-one, saysEncoded-one, saysRestored-one, saysRow-one, saysKey-one}
-use mathlib.Core.Bool.{Bool}
-use Rattle.row_codec_v2.specs.declared.RowRead.{RowRead}
-use Rattle.row_codec_v2.specs.declared.KeyRead.{KeyRead}
+use Rattle.row_codec_v2.specs.Promise.{Flagged, Sizes, SizeRefusal, Encodes, Restores}
+use Rattle.row_codec_v2.specs.Says.{saysSized-one, saysEncoded-one, saysRestored-one}
 
 pub flags-settled : (row : RowFields) (m n : ℕ) → Flagged row m → Flagged row n → m ≡ n
 flags-settled row m n p q = p ∙ sym q
@@ -32,16 +29,3 @@ encode-settled prevLen shared suffix value row out r q ys zs a b = (saysEncoded-
 pub restore-full-key-settled : (prev : List ℕ) (shared : ℕ) (suffix out : List ℕ) (r q : Restored) (ys zs : List ℕ)
     → Restores prev shared suffix out r ys → Restores prev shared suffix out q zs → (r ≡ q) × (ys ≡ zs)
 restore-full-key-settled prev shared suffix out r q ys zs a b = (saysRestored-one r q (a .answer ∙ sym (b .answer)), a .bytes ∙ sym (b .bytes))
-
-pub decode-settled : (s : List ℕ) (prevLen : ℕ) (r q : RowRead) → Decodes s prevLen r → Decodes s prevLen q → r ≡ q
-decode-settled s prevLen r q a b = saysRow-one r q (a ∙ sym b)
-
-pub row-refusal-settled : (a : RowRead) (r q : Refusal) → RowRefusal a r → RowRefusal a q → r ≡ q
-row-refusal-settled a r q m n = m ∙ sym n
-
-module _ (s : List ℕ) (at end prevLen : ℕ) (restart : Bool) where
-  pub decode-at-settled : (r q : RowRead) → DecodesAt s at end prevLen restart r → DecodesAt s at end prevLen restart q → r ≡ q
-  decode-at-settled r q a b = saysRow-one r q (a ∙ sym b)
-
-  pub decode-key-only-settled : (r q : KeyRead) → DecodesKey s at end prevLen restart r → DecodesKey s at end prevLen restart q → r ≡ q
-  decode-key-only-settled r q a b = saysKey-one r q (a ∙ sym b)

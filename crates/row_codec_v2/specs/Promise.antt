@@ -13,11 +13,7 @@ use Rattle.row_codec_v2.specs.declared.RowFields.{RowFields}
 use Rattle.row_codec_v2.specs.declared.Sized.{Sized}
 use Rattle.row_codec_v2.specs.declared.Encoded.{Encoded}
 use Rattle.row_codec_v2.specs.declared.Restored.{Restored}
-use Rattle.row_codec_v2.specs.Says.{fieldsFrom, saysSized, sizedRefusal, saysEncoded, saysRestored, saysRow, refusalOfRow, saysKey}
-use mathlib.Core.Bool.{Bool}
-use Rattle.layout.specs.RowRead.{decodeRow, readRow, readKey}
-use Rattle.row_codec_v2.specs.declared.RowRead.{RowRead}
-use Rattle.row_codec_v2.specs.declared.KeyRead.{KeyRead}
+use Rattle.row_codec_v2.specs.Says.{fieldsFrom, saysSized, sizedRefusal, saysEncoded, saysRestored}
 
 abbrev pub Flagged : RowFields → ℕ → Type 0
 Flagged row r = r ≡ flagsOf (saysKind (row .kind)) (present (saysTime (row .expire))) (present (saysTime (row .create)))
@@ -39,18 +35,3 @@ Encodes prevLen shared suffix value row out r out′ = Lays (encodeRow prevLen s
 
 abbrev pub Restores : List ℕ → ℕ → List ℕ → List ℕ → Restored → List ℕ → Type 0
 Restores prev shared suffix out r out′ = Lays (restoreKey prev shared suffix (length out)) out (saysRestored r) out′
-
--- a single row
-abbrev pub Decodes : List ℕ → ℕ → RowRead → Type 0
-Decodes s prevLen r = saysRow r ≡ decodeRow s prevLen
-
--- the row at a place, in a region that ends at `end`
-abbrev pub DecodesAt : List ℕ → ℕ → ℕ → ℕ → Bool → RowRead → Type 0
-DecodesAt s at end prevLen restart r = saysRow r ≡ readRow s at end prevLen restart
-
-abbrev pub RowRefusal : RowRead → Refusal → Type 0
-RowRefusal a r = r ≡ refusalOfRow a
-
--- its key alone
-abbrev pub DecodesKey : List ℕ → ℕ → ℕ → ℕ → Bool → KeyRead → Type 0
-DecodesKey s at end prevLen restart r = saysKey r ≡ readKey s at end prevLen restart

@@ -12,8 +12,8 @@ use Rattle.layout.specs.Laws.Answer.{ok-inj}
 use Rattle.types.specs.Answers.{apart, yes}
 use Rattle.types.specs.Number.{number}
 use Rattle.types.specs.declared.Refusal.{Refusal}
-use Rattle.row_codec_v2.specs.Says.{rowFrom}
-use Rattle.row_codec_v2.specs.declared.Row.{Row}
+use Rattle.row_decode_v2.specs.Says.{rowFrom}
+use Rattle.row_decode_v2.specs.declared.Row.{Row}
 use Rattle.block_step_v2.specs.Lent.{lent-whole}
 use Rattle.block_step_v2.specs.Promise.{StepsInPlace, Moves}
 use Rattle.block_step_v2.specs.Says.{viewIn, row as row-told, none, toldOf, told, saysMoved, placeAfter, told-row, told-apart}

@@ -8,7 +8,7 @@ ghost use Rattle.layout.specs.Limits.{maxKey};
 ghost use Rattle.types.specs.Says.{saysOrder};
 ghost use Rattle.block_v2.specs.Promise.{Makes};
 ghost use Rattle.block_v2.specs.Says.{stateOf, viewFrom, builderFrom};
-ghost use Rattle.row_codec_v2.specs.Says.{rowFrom};
+ghost use Rattle.row_decode_v2.specs.Says.{rowFrom};
 ghost use Rattle.block_step_v2.specs.Says.{viewIn};
 ghost use Rattle.slatedb_block.specs.Words.{truthIn, truthWord, orderIn, orderWord, cursorWords, builderWords, kindIn, timeIn, rowWords};
 ghost use Rattle.slatedb_block.specs.Says.{saysTruth, saysOrdered, LoadsCursor, saysKindRead, saysTimeRead, LoadsFields, heldFrom, timeWordsOf, placeOf, iteratorFrom, iteratorOver, builderFromWords, stateIn, PutsIterator, PutsBuilder};
@@ -30,9 +30,9 @@ use block_v2::Made;
 use block_v2::New;
 use block_v2::State;
 use row_codec_v2::Encoded;
-use row_codec_v2::Row;
 use row_codec_v2::RowFields;
-use row_codec_v2::RowRead;
+use row_decode_v2::Row;
+use row_decode_v2::RowRead;
 use types::IterationOrder;
 use types::Kind;
 use types::Time;
@@ -436,7 +436,7 @@ pub extern "C" fn slatedb_decode(input: &[u8], previous_len: usize, row: &mut [u
     if row.len() != ROW_WORDS {
         return BAD_WORDS;
     }
-    let read = row_codec_v2::decode(input, previous_len);
+    let read = row_decode_v2::decode(input, previous_len);
     match read {
         RowRead::Read(r) => {
             put_row(row, r);

@@ -19,7 +19,7 @@ use Rattle.utils.proofs.Laws.{copied}
 use Rattle.block.specs.declared.Region.{Region}
 use Rattle.block.specs.Laws.{region-used}
 use Rattle.block.specs.Says.{trailerFrom, regionFrom, saysRegion, refusalOfRegion}
-use Rattle.row_codec_v2.specs.Says.{rowFrom, saysRow, refusalOfRow}
+use Rattle.row_decode_v2.specs.Says.{rowFrom, saysRow, refusalOfRow}
 use Rattle.block_check_v2.specs.Laws.{Walks, stands-no, stands-inside, stands-walks, walks-over, walks-no, walks-room, walks-falls, walks-more, the-trailer}
 use Rattle.block_check_v2.proofs.check_region.Statement.{statement}
 use Rattle.block_check_v2.proofs.check_region.Tie as tie

@@ -14,7 +14,7 @@ use Rattle.layout.specs.Laws.Compare.{isLess}
 use Rattle.layout.specs.Laws.Seek.{Lasting, lasting-start, lasting-over, lasting-no}
 use Rattle.layout.specs.Laws.Tells.{readRow-ends}
 use Rattle.types.specs.Answers.{yes, no}
-use Rattle.row_codec_v2.specs.Says.{rowFrom, saysRow, refusalOfRow}
+use Rattle.row_decode_v2.specs.Says.{rowFrom, saysRow, refusalOfRow}
 use Rattle.block.specs.Says.{regionFrom}
 use Rattle.block_regions_v2.specs.Laws.{last-strange, last-there}
 use Rattle.block_regions_v2.proofs.Laws.{within, suffix-room, carries-new, lasting-next}

@@ -11,7 +11,7 @@ use Rattle.layout.specs.Laws.Carry.{Carries, carried}
 use Rattle.layout.specs.Laws.Cursor.{Backing, backing-start, backing-no}
 use Rattle.layout.specs.Laws.Tells.{readRow-ends}
 use Rattle.types.specs.Answers.{yes, no}
-use Rattle.row_codec_v2.specs.Says.{rowFrom, saysRow, refusalOfRow}
+use Rattle.row_decode_v2.specs.Says.{rowFrom, saysRow, refusalOfRow}
 use Rattle.block.specs.Says.{regionFrom}
 use Rattle.block_regions_v2.specs.Laws.{ending-none, ending-no, gives-not, gives-ended}
 use Rattle.block_regions_v2.proofs.Laws.{within, suffix-room, carries-new, backed, backing-next}

@@ -14,7 +14,7 @@ use Rattle.layout.specs.Laws.Carry.{carried, suffixOf}
 use Rattle.layout.specs.Laws.Seek.{Walking, walking-start, walking-over, walking-no, walking-stop}
 use Rattle.layout.specs.Laws.Tells.{readRow-ends}
 use Rattle.types.specs.Answers.{yes, no}
-use Rattle.row_codec_v2.specs.Says.{rowFrom, saysRow, refusalOfRow}
+use Rattle.row_decode_v2.specs.Says.{rowFrom, saysRow, refusalOfRow}
 use Rattle.block.specs.Says.{regionFrom}
 use Rattle.block_regions_v2.specs.Laws.{walk-strange, walk-there, walks-not, walks-stopped}
 use Rattle.block_regions_v2.proofs.Laws.{suffix-room, row-tested, was, was-not, walking-next}

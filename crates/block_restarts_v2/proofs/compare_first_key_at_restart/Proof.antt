@@ -9,7 +9,7 @@ use Rattle.layout.specs.RowRead.{readKey}
 use Rattle.layout.specs.Trailer.{dataOf, regionOf}
 use Rattle.layout.specs.Laws.Restart.{readKey-ends}
 use Rattle.types.specs.Answers.{yes, no}
-use Rattle.row_codec_v2.specs.Says.{keyFrom, saysKey}
+use Rattle.row_decode_v2.specs.Says.{keyFrom, saysKey}
 use Rattle.block.specs.Says.{trailerFrom, regionFrom, saysRegion, refusalOfRegion}
 use Rattle.block_restarts_v2.specs.Laws.{region-in, key-lies, compared-region, compared-no, compared-is}
 use Rattle.block_restarts_v2.specs.Reading.{refusalOfKey}

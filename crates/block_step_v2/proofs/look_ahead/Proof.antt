@@ -12,7 +12,7 @@ use Rattle.layout.specs.Laws.Cursor.{up-region, up-before, up-past, up-done, up
 use Rattle.layout.specs.Laws.Tells.{readRow-ends}
 use Rattle.layout.specs.Laws.Trailer.{trailerOf-tells}
 use Rattle.types.specs.Answers.{yes, no}
-use Rattle.row_codec_v2.specs.Says.{rowFrom, saysRow, refusalOfRow}
+use Rattle.row_decode_v2.specs.Says.{rowFrom, saysRow, refusalOfRow}
 use Rattle.block.specs.Says.{trailerFrom, regionFrom, saysRegion, refusalOfRegion}
 use Rattle.block.specs.Laws.{region-used}
 use Rattle.block_step_v2.proofs.Laws.{ahead-not, ahead-end, ahead-at}

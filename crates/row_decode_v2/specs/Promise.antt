@@ -1,0 +1,25 @@
+-- What each public function promises: equations to the definitions of `layout`, that settle each number answered.
+use Prim.Native.Nat.{ℕ}
+use mathlib.Core.Path.{_≡_}
+use mathlib.Core.Bool.{Bool}
+use mathlib.Core.List.{List}
+use Rattle.layout.specs.RowRead.{decodeRow, readRow, readKey}
+use Rattle.types.specs.declared.Refusal.{Refusal}
+use Rattle.row_decode_v2.specs.declared.RowRead.{RowRead}
+use Rattle.row_decode_v2.specs.declared.KeyRead.{KeyRead}
+use Rattle.row_decode_v2.specs.Says.{saysRow, refusalOfRow, saysKey}
+
+-- a single row
+abbrev pub Decodes : List ℕ → ℕ → RowRead → Type 0
+Decodes s prevLen r = saysRow r ≡ decodeRow s prevLen
+
+-- the row at a place, in a region that ends at `end`
+abbrev pub DecodesAt : List ℕ → ℕ → ℕ → ℕ → Bool → RowRead → Type 0
+DecodesAt s at end prevLen restart r = saysRow r ≡ readRow s at end prevLen restart
+
+abbrev pub RowRefusal : RowRead → Refusal → Type 0
+RowRefusal a r = r ≡ refusalOfRow a
+
+-- its key alone
+abbrev pub DecodesKey : List ℕ → ℕ → ℕ → ℕ → Bool → KeyRead → Type 0
+DecodesKey s at end prevLen restart r = saysKey r ≡ readKey s at end prevLen restart
