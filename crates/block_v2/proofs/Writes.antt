@@ -34,11 +34,11 @@ use Rattle.utils.specs.Promise.{Puts}
 use Rattle.utils.specs.declared.Put.{Put}
 use Rattle.utils.specs.declared.Put.the-variants.{At, Refused as PutRefused}
 use Rattle.utils.proofs.Laws.{puts-at, puts-refused, puts-fits}
-use Rattle.row_codec_v2.specs.Promise.{Encodes}
-use Rattle.row_codec_v2.specs.Says.{fieldsFrom}
-use Rattle.row_codec_v2.specs.declared.Encoded.{Encoded}
-use Rattle.row_codec_v2.specs.declared.Encoded.the-variants.{Bytes as EncodedBytes, Refused as EncodedRefused}
-use Rattle.row_codec_v2.specs.declared.RowFields.{RowFields}
+use Rattle.row_size_v2.specs.Says.{fieldsFrom}
+use Rattle.row_size_v2.specs.declared.RowFields.{RowFields}
+use Rattle.row_encode_v2.specs.Promise.{Encodes}
+use Rattle.row_encode_v2.specs.declared.Encoded.{Encoded}
+use Rattle.row_encode_v2.specs.declared.Encoded.the-variants.{Bytes as EncodedBytes, Refused as EncodedRefused}
 use Rattle.block_v2.specs.declared.BlockBuilderV2.{BlockBuilderV2}
 use Rattle.block_v2.specs.declared.State.{State}
 use Rattle.block_v2.specs.declared.New.{New}

@@ -8,8 +8,8 @@ use Rattle.layout.specs.Answer.{refuse}
 use Rattle.layout.specs.Builder.{Builder, add}
 use Rattle.layout.specs.Key.{Key}
 use Rattle.layout.specs.Limits.{defaultInterval}
-use Rattle.row_codec_v2.specs.Says.{fieldsFrom}
-use Rattle.row_codec_v2.specs.declared.RowFields.{RowFields}
+use Rattle.row_size_v2.specs.Says.{fieldsFrom}
+use Rattle.row_size_v2.specs.declared.RowFields.{RowFields}
 use Rattle.block_v2.specs.declared.BlockBuilderV2.{BlockBuilderV2}
 use Rattle.block_v2.specs.declared.State.{State}
 use Rattle.block_v2.specs.declared.Made.{Made}

@@ -15,13 +15,13 @@ ghost use Rattle.layout.specs.Limits.{maxKey, maxBlock, maxInterval, defaultInt
 ghost use Rattle.layout.specs.Row.{ifSo, rowBytes};
 ghost use Rattle.layout.specs.Laws.RowWrite.{sizeOf};
 ghost use Rattle.layout.specs.Laws.Splice.{Wrote};
-ghost use Rattle.row_codec_v2.specs.Says.{fieldsFrom, saysSized};
+ghost use Rattle.row_size_v2.specs.Says.{fieldsFrom, saysSized};
 ghost use Rattle.block_v2.specs.Says.{stateOf, stateFrom, builderFrom, viewFrom, noKey, badSettings};
 ghost use Rattle.block_v2.specs.Plan.{Judges, fitted, accepted, saysPlanned, plannedRefusal, Tested, Fitting, Grew, Finishes};
 ghost use Rattle.block_v2.specs.Promise.{Makes, Fits, Adds, AddsInPlace, Empties, Builds};
-use row_codec_v2::Encoded;
-use row_codec_v2::RowFields;
-use row_codec_v2::Sized;
+use row_encode_v2::Encoded;
+use row_size_v2::RowFields;
+use row_size_v2::Sized;
 use types::Refusal;
 use utils::Put;
 
@@ -199,7 +199,7 @@ fn entry_encoded_size(shared: usize, key: &[u8], value: &[u8], row: RowFields) -
     let kind = row.kind;
     let expire = row.expire;
     let create = row.create;
-    row_codec_v2::encoded_size(
+    row_size_v2::encoded_size(
         shared,
         key.len() - shared,
         kind,
@@ -246,7 +246,7 @@ fn plan_row(
     let shared = shared_bytes(restart, last_key, s.last_key_len, key);
     let entry_size = entry_encoded_size(shared, key, value, row);
     let Sized::Bytes(n) = entry_size else {
-        return Planned::Refused(row_codec_v2::size_refusal(entry_size));
+        return Planned::Refused(row_size_v2::size_refusal(entry_size));
     };
     let no = Planned::Refused(Refusal::RowDoesNotFit);
     // Rows past the block size leave no room for another. Below it no sum wraps.
@@ -332,7 +332,7 @@ fn write_row(
     requires { ⌜ Fitting (now «data») used «last_len» shared (now key) (fieldsFrom row (now value)) ⌝ }
     ensures { λ r. ⌜ Wrote (now («data» .entry)) used (rowBytes shared (drop shared (now (key .entry))) (fieldsFrom row (now (value .entry)))) (now («data» .exit)) r ⌝ }
 {
-    let e = row_codec_v2::encode(
+    let e = row_encode_v2::encode(
         &mut data[used..],
         last_len,
         shared,

@@ -3,9 +3,9 @@ use crate::show;
 use block_v2::AddAnswer;
 use block_v2::BlockBuilderV2;
 use block_v2::BuildAnswer;
-use row_codec_v2::Encoded;
-use row_codec_v2::RowFields;
 use row_decode_v2::RowRead;
+use row_encode_v2::Encoded;
+use row_size_v2::RowFields;
 use types::Kind;
 use types::Time;
 use utils::Put;
@@ -22,7 +22,7 @@ fn fields(seq: u64) -> RowFields {
 
 fn row(previous_len: usize, shared: usize, suffix: &[u8], value: &[u8], held: RowFields) {
     let mut out = [0u8; 64];
-    match row_codec_v2::encode(&mut out, previous_len, shared, suffix, value, held) {
+    match row_encode_v2::encode(&mut out, previous_len, shared, suffix, value, held) {
         Encoded::Bytes(n) => show::bytes(&out, n),
         Encoded::Refused(r) => show::refusal(r),
     }

@@ -2,7 +2,7 @@
 ghost use Prim.Native.Nat.{_≤_};
 ghost use Rattle.io.specs.Counts.{Counts};
 use crate::words;
-use row_codec_v2::RowFields;
+use row_size_v2::RowFields;
 use types::Kind;
 use types::Time;
 use utils::SignedRead;

@@ -2,11 +2,11 @@
 use crate::parse;
 use crate::show;
 use crate::words;
-use row_codec_v2::Encoded;
-use row_codec_v2::RowFields;
-use row_codec_v2::Sized;
 use row_decode_v2::KeyRead;
 use row_decode_v2::RowRead;
+use row_encode_v2::Encoded;
+use row_size_v2::RowFields;
+use row_size_v2::Sized;
 use utils::Put;
 use utils::VarintRead;
 
@@ -22,7 +22,7 @@ fn size(shared: usize, suffix_len: usize, value_len: usize, row: RowFields) {
     let kind = row.kind;
     let expire = row.expire;
     let create = row.create;
-    match row_codec_v2::encoded_size(shared, suffix_len, kind, value_len, expire, create) {
+    match row_size_v2::encoded_size(shared, suffix_len, kind, value_len, expire, create) {
         Sized::Bytes(n) => show::number(n as u64),
         Sized::Refused(r) => show::refusal(r),
     }
@@ -31,7 +31,7 @@ fn size(shared: usize, suffix_len: usize, value_len: usize, row: RowFields) {
 // The row's bytes, after a key that is just long enough.
 fn encoded(shared: usize, suffix: &[u8], value: &[u8], row: RowFields) {
     let mut out = [0u8; 32768];
-    match row_codec_v2::encode(&mut out, shared, shared, suffix, value, row) {
+    match row_encode_v2::encode(&mut out, shared, shared, suffix, value, row) {
         Encoded::Bytes(n) => show::bytes(&out, 0, n),
         Encoded::Refused(r) => show::refusal(r),
     }

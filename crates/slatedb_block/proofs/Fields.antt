@@ -14,9 +14,9 @@ use Rattle.types.specs.declared.Time.{Time}
 use Rattle.types.specs.declared.Time.the-variants.{Absent, At}
 use Rattle.types.specs.declared.ValueDeletable.{ValueDeletable}
 use Rattle.types.specs.declared.ValueDeletable.the-variants.{Value, Tombstone, Merge}
+use Rattle.row_size_v2.specs.declared.RowFields.{RowFields}
 use Rattle.row_decode_v2.specs.Says.{rowFrom}
 use Rattle.row_decode_v2.specs.declared.Row.{Row}
-use Rattle.row_codec_v2.specs.declared.RowFields.{RowFields}
 use Rattle.slatedb_block.specs.Words.{badWords, truthIn, wordAt, kindIn, timeIn, fieldsIn, heldWords, timeWords, rowWords}
 use Rattle.slatedb_block.specs.Says.{saysFields, heldFrom, timeWordsOf}
 use Rattle.slatedb_block.specs.declared.FieldsRead.the-variants.{Is as IsFields}

@@ -15,14 +15,15 @@ use Rattle.layout.specs.Laws.Answer.{ok-inj}
 use Rattle.types.specs.Answers.{apart, yes}
 use Rattle.types.specs.Number.{number}
 use Rattle.types.specs.declared.Refusal.{Refusal}
-use Rattle.row_codec_v2.specs.Promise.{Encodes}
+use Rattle.row_size_v2.specs.Says.{fieldsFrom}
+use Rattle.row_size_v2.specs.declared.RowFields.{RowFields}
+use Rattle.row_encode_v2.specs.Promise.{Encodes}
+use Rattle.row_encode_v2.specs.Says.{saysEncoded}
+use Rattle.row_encode_v2.specs.declared.Encoded.{Encoded}
+use Rattle.row_encode_v2.specs.declared.Encoded.the-variants.{Bytes, Refused as EncodedRefused}
 use Rattle.row_decode_v2.specs.Promise.{Decodes}
-use Rattle.row_codec_v2.specs.Says.{fieldsFrom, saysEncoded}
 use Rattle.row_decode_v2.specs.Says.{rowFrom, saysRow}
-use Rattle.row_codec_v2.specs.declared.Encoded.{Encoded}
-use Rattle.row_codec_v2.specs.declared.Encoded.the-variants.{Bytes, Refused as EncodedRefused}
 use Rattle.row_decode_v2.specs.declared.Row.{Row}
-use Rattle.row_codec_v2.specs.declared.RowFields.{RowFields}
 use Rattle.row_decode_v2.specs.declared.RowRead.{RowRead}
 use Rattle.row_decode_v2.specs.declared.RowRead.the-variants.{Read as ReadRow, Refused as RowRefused}
 use Rattle.block_v2.specs.Promise.{Fits, Adds, AddsInPlace, lastAfter, builderAfter}

@@ -19,7 +19,7 @@ use Rattle.types.specs.declared.Time.{Time}
 use Rattle.types.specs.declared.Time.the-variants.{Absent, At}
 use Rattle.types.specs.declared.ValueDeletable.{ValueDeletable}
 use Rattle.types.specs.declared.ValueDeletable.the-variants.{Value, Tombstone, Merge}
-use Rattle.row_codec_v2.specs.Says.{fieldsFrom}
+use Rattle.row_size_v2.specs.Says.{fieldsFrom}
 use Rattle.block_step_v2.specs.declared.Place.{Place}
 use Rattle.block_step_v2.specs.Says.{viewIn}
 use Rattle.slatedb_block.specs.declared.TruthRead.{TruthRead}

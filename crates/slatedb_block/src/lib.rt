@@ -29,10 +29,10 @@ use block_v2::Grown;
 use block_v2::Made;
 use block_v2::New;
 use block_v2::State;
-use row_codec_v2::Encoded;
-use row_codec_v2::RowFields;
 use row_decode_v2::Row;
 use row_decode_v2::RowRead;
+use row_encode_v2::Encoded;
+use row_size_v2::RowFields;
 use types::IterationOrder;
 use types::Kind;
 use types::Time;
@@ -418,7 +418,7 @@ pub extern "C" fn slatedb_encode(
     let FieldsRead::Is(row) = loaded else {
         return BAD_WORDS;
     };
-    let encoded = row_codec_v2::encode(output, previous_len, shared, key_suffix, value, row);
+    let encoded = row_encode_v2::encode(output, previous_len, shared, key_suffix, value, row);
     match encoded {
         Encoded::Bytes(n) => {
             *count = n as u64;

@@ -3,7 +3,7 @@ use mathlib.Core.Path.{_≡_, sym, _∙_}
 use borrow.Author.Needs.{needs}
 use Rattle.layout.specs.Answer.{ok}
 use Rattle.types.specs.Answers.{yes}
-use Rattle.row_codec_v2.specs.Says.{fieldsFrom}
+use Rattle.row_size_v2.specs.Says.{fieldsFrom}
 use Rattle.block_v2.specs.Says.{viewFrom}
 use Rattle.block_v2.specs.Plan.{planIs, fitted, saysPlanned}
 use Rattle.block_v2.proofs.Tests.{accept-no, accept-far, accept-short, accept-places, accept-good}

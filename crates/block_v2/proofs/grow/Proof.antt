@@ -2,7 +2,7 @@
 -- definition says that they are.
 use native.Mathlib.Omega.{arith}
 use borrow.Author.Needs.{needs}
-use Rattle.row_codec_v2.specs.Says.{fieldsFrom}
+use Rattle.row_size_v2.specs.Says.{fieldsFrom}
 use Rattle.block_v2.proofs.Writes.{tested-fits, tested-near, tested-place, tested-rows, grew}
 use Rattle.block_v2.proofs.grow.Statement.{statement}
 use Rattle.block_v2.proofs.grow.Tie as tie

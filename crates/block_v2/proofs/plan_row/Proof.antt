@@ -7,7 +7,7 @@ use Rattle.layout.specs.Answer.{ok}
 use Rattle.layout.specs.Builder.{Builder, stateTests}
 use Rattle.layout.specs.Laws.Builder.{state-tells}
 use Rattle.types.specs.Answers.{no}
-use Rattle.row_codec_v2.specs.Says.{fieldsFrom, saysSized, sizedRefusal}
+use Rattle.row_size_v2.specs.Says.{fieldsFrom, saysSized, sizedRefusal}
 use Rattle.block_v2.specs.Says.{viewFrom}
 use Rattle.block_v2.proofs.Tests.{state-refused, state-taken, Measured, share-fits, plan-state, plan-unsized, plan-past, plan-fits, plan-over, size-small}
 use Rattle.block_v2.proofs.plan_row.Statement.{statement}

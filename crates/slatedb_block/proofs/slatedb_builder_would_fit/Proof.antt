@@ -3,7 +3,7 @@
 use mathlib.Core.Path.{_≡_}
 use Rattle.layout.specs.Answer.{ok}
 use Rattle.types.specs.Answers.{yes}
-use Rattle.row_codec_v2.specs.Says.{fieldsFrom}
+use Rattle.row_size_v2.specs.Says.{fieldsFrom}
 use Rattle.slatedb_block.specs.Words.{fieldsIn}
 use Rattle.slatedb_block.specs.Says.{saysFields}
 use Rattle.slatedb_block.proofs.Rows.{fits-short, fits-no-key, fits-bad, fits-yes, fits-refused}

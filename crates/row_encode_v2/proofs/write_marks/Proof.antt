@@ -1,0 +1,87 @@
+-- `write_marks` writes the flags, then the expire time, then the create time: each starts where the one before ended, and there is room for all.
+use Prim.Native.Nat.{ℕ, _+_, _≤_}
+use mathlib.Core.Path.{_≡_, ap}
+use mathlib.Core.List.{List, [], _∷_, _++_}
+use native.Mathlib.Omega.{arith}
+use lib.ListN.{length, set}
+use borrow.Author.Needs.{needs}
+use Rattle.layout.specs.Row.{present, flagsOf, timeBytes}
+use Rattle.layout.specs.Laws.Splice.{Wrote, wrote-set, wrote-then, wrote-as, wrote-length}
+use Rattle.types.specs.Says.{saysKind, saysTime}
+use Rattle.row_size_v2.specs.declared.RowFields.{RowFields}
+use Rattle.row_encode_v2.specs.Parts.{markBytes}
+use Rattle.row_size_v2.proofs.Writes.{room-first, room-next}
+use Rattle.row_encode_v2.proofs.write_marks.Statement.{statement}
+use Rattle.row_encode_v2.proofs.write_marks.Tie as tie
+
+module _ (xs : List ℕ) (at x : ℕ) (row : RowFields) (h : at + length (markBytes row) ≤ length xs) where
+  abbrev expire : List ℕ
+  expire = timeBytes (saysTime (row .expire))
+
+  abbrev create : List ℕ
+  create = timeBytes (saysTime (row .create))
+
+  flag-wrote : Wrote xs at (x ∷ []) (set xs at x) (at + 1)
+  flag-wrote = wrote-set xs at x (omega arith)
+
+  times-room : at + 1 + length (expire ++ create) ≤ length (set xs at x)
+  times-room = room-next (expire ++ create) flag-wrote h
+
+  expire-room : at + 1 + length expire ≤ length (set xs at x)
+  expire-room = room-first (at + 1) expire create times-room
+
+  module _ {ys : List ℕ} {a : ℕ} where
+    create-room : Wrote (set xs at x) (at + 1) expire ys a → a + length create ≤ length ys
+    create-room p = room-next create p times-room
+
+    marks-wrote : {zs : List ℕ} {n : ℕ} → x ≡ flagsOf (saysKind (row .kind)) (present (saysTime (row .expire))) (present (saysTime (row .create)))
+        → Wrote (set xs at x) (at + 1) expire ys a → Wrote ys a create zs n → Wrote xs at (markBytes row) zs n
+    marks-wrote e p q = wrote-as (ap (λ (b : ℕ). b ∷ (expire ++ create)) e) (wrote-then flag-wrote (wrote-then p q))
+
+flags-requires : tie.Need-flags-requires
+flags-requires c κs = search needs
+
+slice-write-output : tie.Need-slice-write-output
+slice-write-output c = search needs
+
+add-write-time : tie.Need-add-write-time
+add-write-time c = search needs
+
+write-time-requires : tie.Need-write-time-requires
+write-time-requires c κs =
+    let f = c .before in
+    let s = f .before .before in
+    let a = s .args in
+    expire-room (a .output .now) (a .at) (f .flags .result) (a .row) (s .pre)
+
+write-time-requires-2 : tie.Need-write-time-requires-2
+write-time-requires-2 c κs =
+    let e = c .before .before .before in
+    let f = e .before .before in
+    let s = f .before .before in
+    let a = s .args in
+    create-room (a .output .now) (a .at) (f .flags .result) (a .row) (s .pre) (e .write-time .ensures)
+
+returns : tie.Need-returns
+returns c =
+    let t = c .before .before in
+    let e = t .before .before .before .before in
+    let f = e .before .before in
+    let s = f .before .before in
+    let a = s .args in
+    marks-wrote (a .output .now) (a .at) (f .flags .result) (a .row) (s .pre) (f .flags .ensures) (e .write-time .ensures) (t .write-time2 .ensures)
+
+same-length : tie.Need-same-length
+same-length c = wrote-length (returns c)
+
+pub write-marks-spec : {M : Type 1} → statement M
+write-marks-spec =
+    tie.close
+    (tie.spec
+    flags-requires
+    slice-write-output
+    add-write-time
+    write-time-requires
+    write-time-requires-2
+    same-length
+    returns)

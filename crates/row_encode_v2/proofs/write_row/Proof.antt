@@ -1,0 +1,63 @@
+-- `write_row` writes the row's three parts, one after another, with room for all. Of the value it takes the bytes that are kept.
+use mathlib.Core.Path.{sym}
+use native.Mathlib.Omega.{arith}
+use lib.Seq.{length-take-le}
+use borrow.Author.Needs.{needs}
+use Rattle.layout.specs.Laws.Splice.{wrote-then, wrote-as}
+use Rattle.row_encode_v2.proofs.Parts.{row-parts, lengths-room, body-room, marks-room}
+use Rattle.row_encode_v2.proofs.write_row.Statement.{statement}
+use Rattle.row_encode_v2.proofs.write_row.Tie as tie
+
+kept-len-requires : tie.Need-kept-len-requires
+kept-len-requires c κs = search needs
+
+write-lengths-requires : tie.Need-write-lengths-requires
+write-lengths-requires c κs =
+    let s = c .before .before .before .before .before in
+    let a = s .args in
+    let is = c .before .kept-len .ensures .0 in
+    ((s .pre .0 .0, s .pre .0 .1, omega (arith, is, s .pre .0 .2)), lengths-room (a .shared) (a .key-suffix .now) (a .value .now) (a .row) is (s .pre .1))
+
+slice-aggregate-write-body : tie.Need-slice-aggregate-write-body
+slice-aggregate-write-body c = sym (length-take-le _ _ (omega arith))
+
+write-body-requires : tie.Need-write-body-requires
+write-body-requires c κs =
+    let l = c .before .before .before .before in
+    let k = l .before .before in
+    let s = k .before .before .before .before in
+    let a = s .args in
+    body-room (a .shared) (a .key-suffix .now) (a .value .now) (a .row) (k .kept-len .ensures .0) (s .pre .1) (l .write-lengths .ensures)
+
+write-marks-requires : tie.Need-write-marks-requires
+write-marks-requires c κs =
+    let b = c .before .before .before in
+    let l = b .before .before .before .before .before in
+    let k = l .before .before in
+    let s = k .before .before .before .before in
+    let a = s .args in
+    marks-room (a .shared) (a .key-suffix .now) (a .value .now) (a .row) (k .kept-len .ensures .0) (s .pre .1) (l .write-lengths .ensures) (b .write-body .ensures)
+
+same-length : tie.Need-same-length
+same-length c = search needs
+
+returns : tie.Need-returns
+returns c =
+    let m = c .before .before in
+    let b = m .before .before .before .before in
+    let l = b .before .before .before .before .before in
+    let k = l .before .before in
+    let a = k .before .before .before .before .args in
+    wrote-as (sym (row-parts (a .shared) (a .key-suffix .now) (a .value .now) (a .row) (k .kept-len .ensures .0))) (wrote-then (l .write-lengths .ensures) (wrote-then (b .write-body .ensures) (m .write-marks .ensures)))
+
+pub write-row-spec : {M : Type 1} → statement M
+write-row-spec =
+    tie.close
+    (tie.spec
+    kept-len-requires
+    write-lengths-requires
+    slice-aggregate-write-body
+    write-body-requires
+    write-marks-requires
+    same-length
+    returns)

@@ -1,0 +1,12 @@
+-- The promise admits one outcome: two results, with the buffers that they leave, that both keep it are equal.
+use Prim.Native.Nat.{ℕ}
+use mathlib.Core.Path.{_≡_, sym, _∙_}
+use mathlib.Core.List.{List}
+use Rattle.row_size_v2.specs.declared.RowFields.{RowFields}
+use Rattle.row_encode_v2.specs.declared.Encoded.{Encoded}
+use Rattle.row_encode_v2.specs.Promise.{Encodes}
+use Rattle.row_encode_v2.specs.Says.{saysEncoded-one}
+
+pub encode-settled : (prevLen shared : ℕ) (suffix value : List ℕ) (row : RowFields) (out : List ℕ) (r q : Encoded) (ys zs : List ℕ)
+    → Encodes prevLen shared suffix value row out r ys → Encodes prevLen shared suffix value row out q zs → (r ≡ q) × (ys ≡ zs)
+encode-settled prevLen shared suffix value row out r q ys zs a b = (saysEncoded-one r q (a .answer ∙ sym (b .answer)), a .bytes ∙ sym (b .bytes))

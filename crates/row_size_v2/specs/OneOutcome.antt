@@ -1,0 +1,33 @@
+-- Each promise admits one outcome: two results, with the buffers that they leave, that both keep it are equal.
+use Prim.Native.Nat.{ℕ}
+use mathlib.Core.Path.{_≡_, sym, _∙_}
+use mathlib.Core.List.{List}
+use Rattle.types.specs.declared.Kind.{Kind}
+use Rattle.types.specs.declared.Refusal.{Refusal}
+use Rattle.types.specs.declared.Time.{Time}
+use Rattle.utils.specs.declared.Put.{Put}
+use Rattle.row_size_v2.specs.declared.RowFields.{RowFields}
+use Rattle.row_size_v2.specs.declared.Sized.{Sized}
+use Rattle.row_size_v2.specs.declared.Restored.{Restored}
+use Rattle.row_size_v2.specs.Promise.{Flagged, Keeps, Sizes, SizeRefusal, PlaceAfter, Restores}
+use Rattle.row_size_v2.specs.Says.{saysSized-one, saysRestored-one}
+
+pub flags-settled : (row : RowFields) (m n : ℕ) → Flagged row m → Flagged row n → m ≡ n
+flags-settled row m n p q = p ∙ sym q
+
+pub kept-len-settled : (kind : Kind) (n r q : ℕ) → Keeps kind n r → Keeps kind n q → r ≡ q
+kept-len-settled kind n r q a b = a .0 ∙ sym (b .0)
+
+pub encoded-size-settled : (shared suffixLen : ℕ) (kind : Kind) (valueLen : ℕ) (expire create : Time) (r q : Sized)
+    → Sizes shared suffixLen kind valueLen expire create r → Sizes shared suffixLen kind valueLen expire create q → r ≡ q
+encoded-size-settled shared suffixLen kind valueLen expire create r q a b = saysSized-one r q (a ∙ sym b)
+
+pub size-refusal-settled : (a : Sized) (r q : Refusal) → SizeRefusal a r → SizeRefusal a q → r ≡ q
+size-refusal-settled a r q m n = m ∙ sym n
+
+pub place-after-settled : (put : Put) (m n : ℕ) → PlaceAfter put m → PlaceAfter put n → m ≡ n
+place-after-settled put m n p q = p ∙ sym q
+
+pub restore-full-key-settled : (prev : List ℕ) (shared : ℕ) (suffix out : List ℕ) (r q : Restored) (ys zs : List ℕ)
+    → Restores prev shared suffix out r ys → Restores prev shared suffix out q zs → (r ≡ q) × (ys ≡ zs)
+restore-full-key-settled prev shared suffix out r q ys zs a b = (saysRestored-one r q (a .answer ∙ sym (b .answer)), a .bytes ∙ sym (b .bytes))

@@ -1,0 +1,55 @@
+-- What each case of an answer says: a count of bytes, or the number of the refusal. No two cases say the same.
+use Prim.Native.Nat.{ℕ}
+use mathlib.Core.Path.{_≡_, ap, sym}
+use mathlib.Core.List.{List}
+use Rattle.layout.specs.Answer.{Res, ok, refuse}
+use Rattle.layout.specs.Row.{Fields}
+use Rattle.layout.specs.Laws.Answer.{ok-inj}
+use Rattle.types.specs.Answers.{apart, refused-one}
+use Rattle.types.specs.Number.{number}
+use Rattle.types.specs.Says.{saysKind, saysTime}
+use Rattle.types.specs.declared.Refusal.{Refusal}
+use Rattle.types.specs.declared.Refusal.the-variants.{EmptyKey}
+use Rattle.utils.specs.declared.Put.{Put}
+use Rattle.utils.specs.declared.Put.the-variants.{At as PutAt, Refused as PutRefused}
+use Rattle.row_size_v2.specs.declared.RowFields.{RowFields}
+use Rattle.row_size_v2.specs.declared.Sized.{Sized}
+use Rattle.row_size_v2.specs.declared.Sized.the-variants.{Bytes as SizedBytes, Refused as SizedRefused}
+use Rattle.row_size_v2.specs.declared.Restored.{Restored}
+use Rattle.row_size_v2.specs.declared.Restored.the-variants.{Bytes as RestoredBytes, Refused as RestoredRefused}
+
+-- the fields of a row that is offered with this value
+abbrev pub fieldsFrom : RowFields → List ℕ → Fields
+fieldsFrom row v = record { kind = saysKind (row .kind); val = v; seq = row .seq; expire = saysTime (row .expire); create = saysTime (row .create) }
+
+abbrev pub saysSized : Sized → Res ℕ
+saysSized (SizedBytes n) = ok n
+saysSized (SizedRefused r) = refuse (number r)
+
+abbrev pub saysRestored : Restored → Res ℕ
+saysRestored (RestoredBytes n) = ok n
+saysRestored (RestoredRefused r) = refuse (number r)
+
+-- ---- what is taken out of an answer; the other case is never asked
+
+abbrev pub sizedRefusal : Sized → Refusal
+sizedRefusal (SizedBytes n) = EmptyKey
+sizedRefusal (SizedRefused r) = r
+
+abbrev pub placeAfter : Put → ℕ
+placeAfter (PutAt n) = n
+placeAfter (PutRefused r) = 0
+
+-- ---- one to one
+
+pub saysSized-one : (a b : Sized) → saysSized a ≡ saysSized b → a ≡ b
+saysSized-one (SizedBytes n) (SizedBytes m) e = ap SizedBytes (ok-inj e)
+saysSized-one (SizedBytes n) (SizedRefused r) e = absurd (apart e)
+saysSized-one (SizedRefused r) (SizedBytes n) e = absurd (apart (sym e))
+saysSized-one (SizedRefused r) (SizedRefused q) e = ap SizedRefused (refused-one e)
+
+pub saysRestored-one : (a b : Restored) → saysRestored a ≡ saysRestored b → a ≡ b
+saysRestored-one (RestoredBytes n) (RestoredBytes m) e = ap RestoredBytes (ok-inj e)
+saysRestored-one (RestoredBytes n) (RestoredRefused r) e = absurd (apart e)
+saysRestored-one (RestoredRefused r) (RestoredBytes n) e = absurd (apart (sym e))
+saysRestored-one (RestoredRefused r) (RestoredRefused q) e = ap RestoredRefused (refused-one e)

@@ -1,0 +1,191 @@
+// A V2 row's flags, its full key and its size, with every test in its order.
+// Follows slatedb 0.16.0, src/format/row_codec_v2.rs, with the flags of src/format/row.rs (Apache License 2.0), and is changed: a key is restored to a lent
+// slice, and what the lengths or the room can break is a refusal.
+ghost use mathlib.Core.Path.{_≡_};
+ghost use Prim.Native.Nat.{_≤_, _<_, _+_, _^_};
+ghost use Rattle.layout.specs.Row.{kindBits, ifSo, present};
+ghost use Rattle.layout.specs.Varint.{varintLength};
+ghost use Rattle.types.specs.Says.{saysKind, saysTime};
+ghost use Rattle.row_size_v2.specs.Says.{saysSized};
+ghost use Rattle.row_size_v2.specs.Parts.{keyLength};
+ghost use Rattle.row_size_v2.specs.Promise.{Flagged, Keeps, Sizes, SizeRefusal, PlaceAfter, Restores};
+use types::Kind;
+use types::Refusal;
+use types::Time;
+use utils::Put;
+
+// What a row holds beside its key and its value's bytes, as it is offered.
+pub struct RowFields {
+    pub kind: Kind,
+    pub seq: u64,
+    pub expire: Time,
+    pub create: Time,
+}
+
+// ---- flags
+
+const TOMBSTONE: u8 = 1;
+
+const HAS_EXPIRE_TS: u8 = 2;
+
+const HAS_CREATE_TS: u8 = 4;
+
+const MERGE_OPERAND: u8 = 8;
+
+fn kind_flag(kind: Kind) -> u8
+    ensures { λ r. ⌜ (r ≡ kindBits (saysKind kind)) × (r ≤ 8) ⌝ }
+{
+    match kind {
+        Kind::Value => 0,
+        Kind::Merge => MERGE_OPERAND,
+        Kind::Tombstone => TOMBSTONE,
+    }
+}
+
+fn time_flag(time: Time, flag: u8) -> u8
+    ensures { λ r. ⌜ (r ≡ ifSo (present (saysTime time)) flag) × (r ≤ flag) ⌝ }
+{
+    match time {
+        Time::Absent => 0,
+        Time::At(_) => flag,
+    }
+}
+
+pub fn flags(row: RowFields) -> u8
+    ensures { λ r. ⌜ Flagged row r ⌝ }
+{
+    let kind = row.kind;
+    let expire = row.expire;
+    let create = row.create;
+    kind_flag(kind) + time_flag(expire, HAS_EXPIRE_TS) + time_flag(create, HAS_CREATE_TS)
+}
+
+// ---- a full key
+
+pub enum Sized {
+    Bytes(usize),
+    Refused(Refusal),
+}
+
+// The refusal of an answer that is one.
+pub fn size_refusal(size: Sized) -> Refusal
+    ensures { λ r. ⌜ SizeRefusal size r ⌝ }
+{
+    match size {
+        Sized::Refused(refusal) => refusal,
+        Sized::Bytes(_) => Refusal::EmptyKey,
+    }
+}
+
+// The full key's length: 1, 2. Each part is tested by itself first, since their sum may wrap; a key with such a part is over its limit, and not empty.
+fn key_len(shared: usize, suffix_len: usize) -> Sized
+    ensures { λ r. ⌜ saysSized r ≡ keyLength (shared + «suffix_len») ⌝ }
+{
+    if types::MAX_KEY < shared {
+        return Sized::Refused(Refusal::KeyTooLong);
+    }
+    if types::MAX_KEY < suffix_len {
+        return Sized::Refused(Refusal::KeyTooLong);
+    }
+    let len = shared + suffix_len;
+    if len == 0 {
+        return Sized::Refused(Refusal::EmptyKey);
+    }
+    if types::MAX_KEY < len {
+        return Sized::Refused(Refusal::KeyTooLong);
+    }
+    Sized::Bytes(len)
+}
+
+// The place after what was written, by those who have tested the room: to them no writer refuses.
+pub fn place_after(put: Put) -> usize
+    ensures { λ r. ⌜ PlaceAfter put r ⌝ }
+{
+    match put {
+        Put::At(next) => next,
+        Put::Refused(_) => 0,
+    }
+}
+
+pub enum Restored {
+    Bytes(usize),
+    Refused(Refusal),
+}
+
+// Restores the full key at the start of `out`, given the previous key: 13, 1, 2, 19.
+pub fn restore_full_key(
+    out: &mut [u8],
+    previous_key: &[u8],
+    shared: usize,
+    key_suffix: &[u8],
+) -> Restored
+    ensures { λ r. ⌜ Restores (now («previous_key» .entry)) shared (now («key_suffix» .entry)) (now (out .entry)) r (now (out .exit)) ⌝ }
+{
+    if previous_key.len() < shared {
+        return Restored::Refused(Refusal::BadShare);
+    }
+    let len = key_len(shared, key_suffix.len());
+    let Sized::Bytes(n) = len else {
+        return Restored::Refused(size_refusal(len));
+    };
+    if out.len() < n {
+        return Restored::Refused(Refusal::KeyBufferTooShort);
+    }
+    let at = place_after(utils::copy_in(out, 0, &previous_key[..shared]));
+    Restored::Bytes(place_after(utils::copy_in(out, at, key_suffix)))
+}
+
+// ---- size
+
+// How many of the bytes that are offered as the value are written: of a tombstone's none.
+pub fn kept_len(kind: Kind, value_len: usize) -> usize
+    ensures { λ r. ⌜ Keeps kind «value_len» r ⌝ }
+{
+    match kind {
+        Kind::Value => value_len,
+        Kind::Merge => value_len,
+        Kind::Tombstone => 0,
+    }
+}
+
+// How many bytes a length takes that has passed its test, and so fits 32 bits.
+fn length_len(n: usize) -> usize
+    requires { ⌜ n < 2 ^ 32 ⌝ }
+    ensures { λ r. ⌜ (r ≡ varintLength n) × (r ≤ 5) ⌝ }
+{
+    utils::varint_len(n as u32)
+}
+
+fn time_len(time: Time) -> usize
+    ensures { λ r. ⌜ (r ≡ ifSo (present (saysTime time)) 8) × (r ≤ 8) ⌝ }
+{
+    match time {
+        Time::Absent => 0,
+        Time::At(_) => 8,
+    }
+}
+
+// The size of a row, from lengths alone: 1, 2, 3.
+pub fn encoded_size(
+    shared: usize,
+    suffix_len: usize,
+    kind: Kind,
+    value_len: usize,
+    expire: Time,
+    create: Time,
+) -> Sized
+    ensures { λ r. ⌜ Sizes shared «suffix_len» kind «value_len» expire create r ⌝ }
+{
+    let key = key_len(shared, suffix_len);
+    if let Sized::Refused(refusal) = key {
+        return Sized::Refused(refusal);
+    }
+    let kept = kept_len(kind, value_len);
+    if types::MAX_VALUE < kept {
+        return Sized::Refused(Refusal::ValueTooLong);
+    }
+    let lengths = length_len(shared) + length_len(suffix_len) + length_len(kept);
+    let times = time_len(expire) + time_len(create);
+    // 9: the sequence number and the flags
+    Sized::Bytes(lengths + suffix_len + kept + 9 + times)
+}
