@@ -10,18 +10,17 @@ use Rattle.layout.specs.Key.{Key}
 use Rattle.layout.specs.Limits.{defaultInterval}
 use Rattle.row_size_v2.specs.Says.{fieldsFrom}
 use Rattle.row_size_v2.specs.declared.RowFields.{RowFields}
+use Rattle.block_grow_v2.specs.Says.{stateFrom, saysFit-one, saysBuild-one}
+use Rattle.block_grow_v2.specs.declared.Fit.{Fit}
+use Rattle.block_grow_v2.specs.declared.BuildAnswer.{BuildAnswer}
 use Rattle.block_v2.specs.declared.BlockBuilderV2.{BlockBuilderV2}
-use Rattle.block_v2.specs.declared.State.{State}
 use Rattle.block_v2.specs.declared.Made.{Made}
 use Rattle.block_v2.specs.declared.New.{New}
-use Rattle.block_v2.specs.declared.Fit.{Fit}
 use Rattle.block_v2.specs.declared.AddAnswer.{AddAnswer}
 use Rattle.block_v2.specs.declared.Added.{Added}
-use Rattle.block_v2.specs.declared.Grown.{Grown}
-use Rattle.block_v2.specs.declared.BuildAnswer.{BuildAnswer}
 use Rattle.block_v2.specs.declared.Built.{Built}
-use Rattle.block_v2.specs.Promise.{Makes, Fits, Adds, AddsInPlace, Empties, Builds}
-use Rattle.block_v2.specs.Says.{viewOf, stateFrom, builderFrom, saysMade-one, saysFit-one, saysAdd-one, saysGrown-one, saysBuild-one}
+use Rattle.block_v2.specs.Promise.{Makes, Fits, Adds, Empties, Builds}
+use Rattle.block_v2.specs.Says.{viewOf, builderFrom, saysMade-one, saysAdd-one}
 
 -- a builder is its view and the bytes of its last key
 abbrev whole : Builder → List ℕ → BlockBuilderV2
@@ -57,16 +56,6 @@ pub add-refused : (self : BlockBuilderV2) (bytes places : List ℕ) (key : Key) 
 add-refused self bytes places key value row r ys os n a e =
     let h = rw e at a in
     (h .whole, h .bytes-after, h .places-after)
-
-pub add-in-place-settled : (s : State) (last bytes places : List ℕ) (key : Key) (value : List ℕ) (row : RowFields) (r q : Grown) (ls ks ys zs os ps : List ℕ)
-    → AddsInPlace s last bytes places key value row r ls ys os → AddsInPlace s last bytes places key value row q ks zs ps
-    → (r ≡ q) × (ls ≡ ks) × (ys ≡ zs) × (os ≡ ps)
-add-in-place-settled s last bytes places key value row r q ls ks ys zs os ps a b = (
-  saysGrown-one r q (a .answer ∙ sym (b .answer)),
-  a .last-after ∙ sym (b .last-after),
-  a .bytes-after ∙ sym (b .bytes-after),
-  a .places-after ∙ sym (b .places-after),
-)
 
 pub is-empty-settled : (self : BlockBuilderV2) (r q : Bool) → Empties self r → Empties self q → r ≡ q
 is-empty-settled self r q a b = a ∙ sym b

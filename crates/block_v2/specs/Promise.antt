@@ -1,26 +1,23 @@
 -- What each public function promises: equations to the definitions of `layout`, that settle each number answered, each byte lent and the whole builder given back.
 use Prim.Native.Nat.{ℕ}
 use mathlib.Core.Path.{_≡_}
-use mathlib.Core.Bool.{Bool, not}
+use mathlib.Core.Bool.{Bool}
 use mathlib.Core.List.{List}
-use lib.Dec.{eqb}
 use lib.ListN.{length}
-use Rattle.layout.specs.Answer.{Res, ok, refuse, bind, guard}
+use Rattle.layout.specs.Answer.{Res, ok, refuse, bind}
 use Rattle.layout.specs.Builder.{Builder, newBuilder, built, isEmpty, wouldFit, add, stateAfter, dataAfter, placesAfter, build, blockAfter}
 use Rattle.layout.specs.Key.{Key}
-use Rattle.layout.specs.Limits.{maxKey}
 use Rattle.layout.specs.Place.{splice}
 use Rattle.layout.specs.Row.{Fields}
 use Rattle.row_size_v2.specs.Says.{fieldsFrom}
 use Rattle.row_size_v2.specs.declared.RowFields.{RowFields}
+use Rattle.block_grow_v2.specs.Says.{stateFrom, saysFit, saysBuild}
+use Rattle.block_grow_v2.specs.declared.Fit.{Fit}
 use Rattle.block_v2.specs.declared.BlockBuilderV2.{BlockBuilderV2}
-use Rattle.block_v2.specs.declared.State.{State}
 use Rattle.block_v2.specs.declared.New.{New}
-use Rattle.block_v2.specs.declared.Fit.{Fit}
 use Rattle.block_v2.specs.declared.Added.{Added}
-use Rattle.block_v2.specs.declared.Grown.{Grown}
 use Rattle.block_v2.specs.declared.Built.{Built}
-use Rattle.block_v2.specs.Says.{viewFrom, viewOf, stateFrom, builderFrom, noKey, saysMade, saysFit, saysAdd, saysGrown, saysBuild}
+use Rattle.block_v2.specs.Says.{viewOf, builderFrom, noKey, saysMade, saysAdd}
 
 -- that it is answered, or refused
 abbrev pub said : {A : Type 0} → Res A → Res (Unit {0})
@@ -53,25 +50,6 @@ pub record AddsAs (want : Res Builder) (self : BlockBuilderV2) (bytes places : L
 abbrev pub Adds : BlockBuilderV2 → List ℕ → List ℕ → Key → List ℕ → RowFields → Added → List ℕ → List ℕ → Type 0
 Adds self bytes places key value row r bytes′ places′ =
     AddsAs (add (viewOf self) (length bytes) (length places) key (fieldsFrom row value)) self bytes places key (fieldsFrom row value) r bytes′ places′
-
--- the builder of these numbers and of the lent bytes of its last key, which must be as many as the longest key has: 18
-abbrev pub entered : State → List ℕ → Res Builder
-entered s last = guard (not (eqb (length last) maxKey)) 18 (ok (viewFrom s last))
-
--- the lent bytes of the last key: an accepted row's key lies over their start
-abbrev pub lastAfter : Res Builder → Key → List ℕ → List ℕ
-lastAfter (ok v) key last = splice last 0 key
-lastAfter (refuse n) key last = last
-
-pub record AddsInPlaceAs (want : Res Builder) (s : State) (last bytes places : List ℕ) (key : Key) (f : Fields) (r : Grown) (last′ bytes′ places′ : List ℕ) : Type 0 where
-  pub answer : saysGrown r ≡ bind want λ v. ok (stateFrom v)
-  pub last-after : last′ ≡ lastAfter want key last
-  pub bytes-after : bytes′ ≡ dataAfter want (viewFrom s last) key f bytes
-  pub places-after : places′ ≡ placesAfter want (viewFrom s last) places
-
-abbrev pub AddsInPlace : State → List ℕ → List ℕ → List ℕ → Key → List ℕ → RowFields → Grown → List ℕ → List ℕ → List ℕ → Type 0
-AddsInPlace s last bytes places key value row r last′ bytes′ places′ =
-    AddsInPlaceAs (bind (entered s last) λ v. add v (length bytes) (length places) key (fieldsFrom row value)) s last bytes places key (fieldsFrom row value) r last′ bytes′ places′
 
 abbrev pub Empties : BlockBuilderV2 → Bool → Type 0
 Empties self r = r ≡ isEmpty (viewOf self)

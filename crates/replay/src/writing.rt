@@ -2,10 +2,10 @@
 use crate::parse;
 use crate::show;
 use crate::words;
+use block_grow_v2::BuildAnswer;
+use block_grow_v2::Fit;
 use block_v2::AddAnswer;
 use block_v2::BlockBuilderV2;
-use block_v2::BuildAnswer;
-use block_v2::Fit;
 use block_v2::Made;
 
 // The builder with the settings of the line. A refusal is said, as a word by itself, whatever follows.

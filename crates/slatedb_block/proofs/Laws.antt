@@ -22,12 +22,13 @@ use Rattle.types.specs.Number.{number}
 use Rattle.types.specs.declared.Refusal.{Refusal}
 use Rattle.types.specs.Says.{saysOrder}
 use Rattle.types.specs.declared.IterationOrder.{IterationOrder}
+use Rattle.block_grow_v2.specs.Says.{saysBuild}
+use Rattle.block_grow_v2.specs.declared.BuildAnswer.the-variants.{Block, Refused as BuildRefused}
 use Rattle.block_v2.specs.Promise.{Makes, Builds}
-use Rattle.block_v2.specs.Says.{saysMade, saysBuild, viewOf as viewOfBuilder}
+use Rattle.block_v2.specs.Says.{saysMade, viewOf as viewOfBuilder}
 use Rattle.block_v2.specs.declared.Made.the-variants.{Good as GoodMade, Refused as MadeRefused}
 use Rattle.block_v2.specs.declared.New.{New}
 use Rattle.block_v2.specs.declared.Built.{Built}
-use Rattle.block_v2.specs.declared.BuildAnswer.the-variants.{Block, Refused as BuildRefused}
 use Rattle.block_iterator_v2.specs.Promise.{Opens, TellsEmpty, SeeksTarget}
 use Rattle.block_iterator_v2.specs.Says.{viewOf, saysOpen, saysEmpty, saysSeek, Report, reportIs, reported}
 use Rattle.block_iterator_v2.specs.declared.Opened.{Opened}

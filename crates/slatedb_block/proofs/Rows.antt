@@ -15,27 +15,29 @@ use Rattle.layout.specs.Laws.Answer.{ok-inj}
 use Rattle.types.specs.Answers.{apart, yes}
 use Rattle.types.specs.Number.{number}
 use Rattle.types.specs.declared.Refusal.{Refusal}
-use Rattle.row_size_v2.specs.Says.{fieldsFrom}
-use Rattle.row_size_v2.specs.declared.RowFields.{RowFields}
 use Rattle.row_encode_v2.specs.Promise.{Encodes}
+use Rattle.row_decode_v2.specs.Promise.{Decodes}
+use Rattle.row_size_v2.specs.Says.{fieldsFrom}
 use Rattle.row_encode_v2.specs.Says.{saysEncoded}
+use Rattle.row_decode_v2.specs.Says.{rowFrom, saysRow}
 use Rattle.row_encode_v2.specs.declared.Encoded.{Encoded}
 use Rattle.row_encode_v2.specs.declared.Encoded.the-variants.{Bytes, Refused as EncodedRefused}
-use Rattle.row_decode_v2.specs.Promise.{Decodes}
-use Rattle.row_decode_v2.specs.Says.{rowFrom, saysRow}
 use Rattle.row_decode_v2.specs.declared.Row.{Row}
+use Rattle.row_size_v2.specs.declared.RowFields.{RowFields}
 use Rattle.row_decode_v2.specs.declared.RowRead.{RowRead}
 use Rattle.row_decode_v2.specs.declared.RowRead.the-variants.{Read as ReadRow, Refused as RowRefused}
-use Rattle.block_v2.specs.Promise.{Fits, Adds, AddsInPlace, lastAfter, builderAfter}
-use Rattle.block_v2.specs.Says.{stateFrom, builderFrom as builderOver, viewFrom, viewOf, saysFit, saysAdd, saysGrown}
+use Rattle.block_grow_v2.specs.Promise.{AddsInPlace, lastAfter}
+use Rattle.block_grow_v2.specs.Says.{viewFrom, stateFrom, saysFit, saysGrown}
+use Rattle.block_grow_v2.specs.declared.Fit.{Fit}
+use Rattle.block_grow_v2.specs.declared.Fit.the-variants.{Yes, Refused as FitRefused}
+use Rattle.block_grow_v2.specs.declared.Grown.{Grown}
+use Rattle.block_grow_v2.specs.declared.Grown.the-variants.{Row as GrownRow, Refused as GrownRefused}
+use Rattle.block_grow_v2.specs.declared.State.{State}
+use Rattle.block_v2.specs.Promise.{Fits, Adds, builderAfter}
+use Rattle.block_v2.specs.Says.{builderFrom as builderOver, viewOf, saysAdd}
 use Rattle.block_v2.specs.declared.AddAnswer.the-variants.{Good as GoodAdd, Refused as AddRefused}
 use Rattle.block_v2.specs.declared.Added.{Added}
 use Rattle.block_v2.specs.declared.BlockBuilderV2.{BlockBuilderV2}
-use Rattle.block_v2.specs.declared.Fit.{Fit}
-use Rattle.block_v2.specs.declared.Fit.the-variants.{Yes, Refused as FitRefused}
-use Rattle.block_v2.specs.declared.Grown.{Grown}
-use Rattle.block_v2.specs.declared.Grown.the-variants.{Row as GrownRow, Refused as GrownRefused}
-use Rattle.block_v2.specs.declared.State.{State}
 use Rattle.slatedb_block.specs.Words.{badWords, codeOf, builderFrom, builderWords, fieldsIn, rowWords}
 use Rattle.slatedb_block.specs.Says.{stateIn}
 use Rattle.slatedb_block.specs.Promise.{Lays, EncodesFlat, DecodesFlat, FitsFlat, Gain, AddsAs, AddsFlat}

@@ -11,8 +11,8 @@ use Rattle.layout.specs.Fixed.{bits}
 use Rattle.layout.specs.Row.{Kind as KindL, Time as TimeL, Fields}
 use Rattle.block_iterator_v2.specs.declared.BlockIteratorV2.{BlockIteratorV2}
 use Rattle.block_iterator_v2.specs.Says.{viewOf}
+use Rattle.block_grow_v2.specs.declared.State.{State}
 use Rattle.block_v2.specs.declared.BlockBuilderV2.{BlockBuilderV2}
-use Rattle.block_v2.specs.declared.State.{State}
 use Rattle.block_v2.specs.Says.{builderFrom, viewOf as viewOfBuilder}
 use Rattle.types.specs.Says.{saysOrder, saysKind, saysTime}
 use Rattle.types.specs.declared.Time.{Time}

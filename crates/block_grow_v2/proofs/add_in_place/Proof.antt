@@ -1,0 +1,61 @@
+-- `add_in_place` keeps its promise: bytes that are not a last key's are 18, what the tests refuse is refused, both with nothing written; what they accept is grown by.
+use mathlib.Core.Path.{refl}
+use borrow.Author.Needs.{needs}
+use Rattle.types.specs.Answers.{yes, no}
+use Rattle.block_grow_v2.specs.Plan.{saysPlanned, plannedRefusal}
+use Rattle.block_grow_v2.proofs.Writes.{tested-is, grows-strange, grows-refused, grows}
+use Rattle.block_grow_v2.proofs.add_in_place.Statement.{statement}
+use Rattle.block_grow_v2.proofs.add_in_place.Tie as tie
+
+returns : tie.Need-returns
+returns c = grows-strange _ _ _ _ _ _ (c .if1 .taken)
+
+accept-row-requires : tie.Need-accept-row-requires
+accept-row-requires c κs = search needs
+
+enum-known-planned : tie.Need-enum-known-planned
+enum-known-planned c = search needs
+
+enum-told : tie.Need-enum-told
+enum-told c = search needs
+
+planned-refusal-requires : tie.Need-planned-refusal-requires
+planned-refusal-requires c κs = search needs
+
+same-length : tie.Need-same-length
+same-length c = search needs
+
+returns-2 : tie.Need-returns-2
+returns-2 c = grows-refused _ _ _ _ _ _ (c .before .before .before .before .before .if1 .left) (no saysPlanned plannedRefusal (c .before .before .before .accept-row .ensures) (c .before .enum-told .given .1) refl (c .planned-refusal .ensures))
+
+grow-requires : tie.Need-grow-requires
+grow-requires c κs = (c .before .before .before .before .before .before .before .before .if1 .left, tested-is _ _ _ _ _ (yes saysPlanned (c .before .before .before .before .before .before .accept-row .ensures) (c .before .before .before .before .planned .given .1)))
+
+same-length-2 : tie.Need-same-length-2
+same-length-2 c = search needs
+
+same-length-3 : tie.Need-same-length-3
+same-length-3 c = search needs
+
+same-length-4 : tie.Need-same-length-4
+same-length-4 c = search needs
+
+returns-3 : tie.Need-returns-3
+returns-3 c = grows _ _ _ _ _ _ (c .before .before .before .before .before .before .before .before .before .before .before .before .before .before .before .if1 .left) (tested-is _ _ _ _ _ (yes saysPlanned (c .before .before .before .before .before .before .before .before .before .before .before .before .before .accept-row .ensures) (c .before .before .before .before .before .before .before .before .before .before .before .planned .given .1))) (c .before .before .before .before .before .before .grow .ensures)
+
+pub add-in-place-spec : {M : Type 1} → statement M
+add-in-place-spec =
+    tie.close
+    (tie.spec
+    returns
+    accept-row-requires
+    enum-known-planned
+    enum-told
+    planned-refusal-requires
+    same-length
+    returns-2
+    grow-requires
+    same-length-2
+    same-length-3
+    same-length-4
+    returns-3)

@@ -1,0 +1,13 @@
+-- `has_room` keeps its promise: an empty block has room for any row.
+use borrow.Author.Tests.{eq-eqb, ne-eqb}
+use Rattle.block_grow_v2.proofs.has_room.Statement.{statement}
+use Rattle.block_grow_v2.proofs.has_room.Tie as tie
+
+returns : tie.Need-returns
+returns c = rw (eq-eqb _ _ (c .if1 .taken))
+
+returns-2 : tie.Need-returns-2
+returns-2 c = rw (ne-eqb _ _ (c .if1 .left))
+
+pub has-room-spec : {M : Type 1} → statement M
+has-room-spec = tie.close (tie.spec returns returns-2)

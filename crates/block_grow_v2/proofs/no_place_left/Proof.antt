@@ -1,0 +1,13 @@
+-- `no_place_left` keeps its promise: a row that is no restart takes no place.
+use borrow.Author.Needs.{needs}
+use Rattle.block_grow_v2.proofs.no_place_left.Statement.{statement}
+use Rattle.block_grow_v2.proofs.no_place_left.Tie as tie
+
+returns : tie.Need-returns
+returns c = rw (c .if1 .taken)
+
+returns-2 : tie.Need-returns-2
+returns-2 c = search needs
+
+pub no-place-left-spec : {M : Type 1} → statement M
+no-place-left-spec = tie.close (tie.spec returns returns-2)

@@ -1,0 +1,4 @@
+pub mod Says
+pub mod Plan
+pub mod Promise
+pub mod OneOutcome
