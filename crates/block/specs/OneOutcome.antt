@@ -6,8 +6,8 @@ use mathlib.Core.List.{List}
 use lib.ListN.{take}
 use Rattle.layout.specs.Block.{trailer}
 use Rattle.types.specs.declared.Refusal.{Refusal}
-use Rattle.utils.specs.OneOutcome.{puts-settled}
-use Rattle.utils.specs.declared.Put.{Put}
+use Rattle.buf_mut.specs.OneOutcome.{puts-settled}
+use Rattle.buf_mut.specs.declared.Put.{Put}
 use Rattle.block.specs.declared.Trailer.{Trailer}
 use Rattle.block.specs.declared.TrailerRead.{TrailerRead}
 use Rattle.block.specs.declared.RegionRead.{RegionRead}

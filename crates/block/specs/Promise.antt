@@ -7,8 +7,8 @@ use lib.ListN.{take}
 use Rattle.layout.specs.Block.{trailer}
 use Rattle.layout.specs.Trailer.{trailerOf}
 use Rattle.types.specs.declared.Refusal.{Refusal}
-use Rattle.utils.specs.Promise.{Puts}
-use Rattle.utils.specs.declared.Put.{Put}
+use Rattle.buf_mut.specs.Promise.{Puts}
+use Rattle.buf_mut.specs.declared.Put.{Put}
 use Rattle.block.specs.declared.Trailer.{Trailer}
 use Rattle.block.specs.declared.TrailerRead.{TrailerRead}
 use Rattle.block.specs.declared.RegionRead.{RegionRead}

@@ -7,9 +7,9 @@ ghost use lib.ListN.{length};
 ghost use Rattle.layout.specs.Trailer.{shortAt, firstOf, regionOf, allOffsets};
 ghost use Rattle.block.specs.Says.{trailerFrom, saysRegion, saysTested};
 ghost use Rattle.block.specs.Promise.{ReadsTrailer, TestsTrailer, TrailerRefusal, ReadsRegion, RegionRefusal, TestsOffsets, PutsTrailer};
+use buf::ShortRead;
+use buf_mut::Put;
 use types::Refusal;
-use utils::Put;
-use utils::ShortRead;
 
 // How many restarts there are, and how many bytes of rows.
 pub struct Trailer {
@@ -45,7 +45,7 @@ fn short_at(block: &[u8], at: usize) -> usize
     requires { ⌜ at + 2 ≤ length (now block) ⌝ }
     ensures { λ r. ⌜ (r ≡ shortAt (now (block .entry)) at) × (r < 65536) ⌝ }
 {
-    let a = utils::get_u16(block, at);
+    let a = buf::get_u16(block, at);
     // Never taken: the bytes are there.
     let ShortRead::Short { value, next: _ } = a else {
         return 0;
@@ -195,7 +195,7 @@ fn low_16(n: usize) -> u16
 pub fn put_trailer(buf: &mut [u8], at: usize, offsets: &[u16], count: usize) -> Put
     ensures { λ r. ⌜ PutsTrailer (now (offsets .entry)) count (now (buf .entry)) at r (now (buf .exit)) ⌝ }
 {
-    let n = utils::least(count, offsets.len());
+    let n = numbers::least(count, offsets.len());
     if buf.len() < at {
         return Put::Refused(Refusal::BufferTooSmall);
     }
@@ -206,7 +206,7 @@ pub fn put_trailer(buf: &mut [u8], at: usize, offsets: &[u16], count: usize) -> 
     let mut next = at;
     let mut i: usize = 0;
     while i < n {
-        let p = utils::put_u16(buf, next, offsets[i]);
+        let p = buf_mut::put_u16(buf, next, offsets[i]);
         // Never taken: there is room.
         let Put::At(after) = p else {
             return p;
@@ -214,7 +214,7 @@ pub fn put_trailer(buf: &mut [u8], at: usize, offsets: &[u16], count: usize) -> 
         next = after;
         i += 1;
     }
-    utils::put_u16(buf, next, low_16(n))
+    buf_mut::put_u16(buf, next, low_16(n))
 }
 
 // A read that is refused ends its caller's call with its refusal, which a `let .. else` can't bind: these take it out of the

@@ -61,10 +61,10 @@ fn check_region(block: &[u8], t: Trailer, key: &mut [u8], p: Passed) -> Walked
         let from = row.suffix_at;
         let to = from + row.suffix_len;
         // 17: the shared bytes tell nothing, so the suffix is compared, before it is put, with what the carried key has there.
-        if utils::is_below(&data[from..to], &key[shared..key_len]) {
+        if keys::is_below(&data[from..to], &key[shared..key_len]) {
             return Walked::Refused(Refusal::KeyFalls);
         }
-        utils::copy_in(key, shared, &data[from..to]);
+        buf_mut::copy_in(key, shared, &data[from..to]);
         key_len = shared + row.suffix_len;
         at = row.next;
         rows += 1;

@@ -29,10 +29,10 @@ use Rattle.types.specs.Answers.{apart}
 use Rattle.types.specs.Number.{number}
 use Rattle.types.specs.declared.Refusal.{Refusal}
 use Rattle.types.specs.declared.Refusal.the-variants.{EmptyBlock, BadState}
-use Rattle.utils.specs.Promise.{Puts}
-use Rattle.utils.specs.declared.Put.{Put}
-use Rattle.utils.specs.declared.Put.the-variants.{At, Refused as PutRefused}
-use Rattle.utils.proofs.Laws.{puts-at, puts-refused, puts-fits}
+use Rattle.buf_mut.specs.Promise.{Puts}
+use Rattle.buf_mut.specs.declared.Put.{Put}
+use Rattle.buf_mut.specs.declared.Put.the-variants.{At, Refused as PutRefused}
+use Rattle.buf_mut.proofs.Laws.{puts-at, puts-refused, puts-fits}
 use Rattle.row_encode_v2.specs.Promise.{Encodes}
 use Rattle.row_size_v2.specs.Says.{fieldsFrom}
 use Rattle.row_encode_v2.specs.declared.Encoded.{Encoded}

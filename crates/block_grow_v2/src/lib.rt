@@ -19,11 +19,11 @@ ghost use Rattle.row_size_v2.specs.Says.{fieldsFrom, saysSized};
 ghost use Rattle.block_grow_v2.specs.Says.{viewFrom};
 ghost use Rattle.block_grow_v2.specs.Plan.{Judges, fitted, accepted, saysPlanned, plannedRefusal, Tested, Fitting, Grew};
 ghost use Rattle.block_grow_v2.specs.Promise.{FitsInPlace, AddsInPlace, Finishes};
+use buf_mut::Put;
 use row_encode_v2::Encoded;
 use row_size_v2::RowFields;
 use row_size_v2::Sized;
 use types::Refusal;
-use utils::Put;
 
 const SIZEOF_U16: usize = 2;
 
@@ -32,7 +32,7 @@ fn compute_prefix(last: &[u8], last_len: usize, key: &[u8]) -> usize
     requires { ⌜ «last_len» ≤ length (now last) ⌝ }
     ensures { λ r. ⌜ r ≡ common (take «last_len» (now (last .entry))) (now (key .entry)) ⌝ }
 {
-    utils::common_prefix(&last[..last_len], key)
+    keys::common_prefix(&last[..last_len], key)
 }
 
 // A builder without the bytes of its last key: those stay where they are, to compute the shared prefix. Bytes past the key's length tell nothing.
@@ -363,7 +363,7 @@ fn grow(
 {
     let used = write_row(data, s.used, s.last_key_len, shared, key, value, row);
     let count = put_restart(restarts, restart, s.restarts, s.used);
-    utils::copy_in(last_key, 0, key);
+    buf_mut::copy_in(last_key, 0, key);
     State {
         used,
         restarts: count,

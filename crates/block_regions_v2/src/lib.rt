@@ -11,16 +11,16 @@ ghost use Rattle.layout.specs.Key.{below};
 ghost use Rattle.layout.specs.Place.{splice};
 ghost use Rattle.layout.specs.Laws.Carry.{suffixOf};
 ghost use Rattle.layout.specs.Laws.Compare.{isLess};
-ghost use Rattle.utils.specs.Says.{saysOrdering};
+ghost use Rattle.keys.specs.Says.{saysOrdering};
 ghost use Rattle.row_decode_v2.specs.Says.{rowFrom};
 ghost use Rattle.block_regions_v2.specs.Regions.{given};
 ghost use Rattle.block_regions_v2.specs.Says.{noWalk};
 ghost use Rattle.block_regions_v2.specs.Promise.{Gives, EndsAt, Walks, EndsLast};
 use block::Region;
+use keys::Ordering;
 use row_decode_v2::Row;
 use row_decode_v2::RowRead;
 use types::Refusal;
-use utils::Ordering;
 
 // The row that ends at a position. Its key stands in the lent buffer.
 pub enum Ended {
@@ -53,7 +53,7 @@ fn put_suffix(key: &mut [u8], data: &[u8], row: Row) -> usize
 {
     let from = row.suffix_at;
     let end = from + row.suffix_len;
-    utils::copy_in(key, row.shared, &data[from..end]);
+    buf_mut::copy_in(key, row.shared, &data[from..end]);
     row.shared + row.suffix_len
 }
 
@@ -67,7 +67,7 @@ fn give(row: Row, stop: usize, key: &[u8], out: &mut [u8]) -> Ended
     if out.len() < key.len() {
         return Ended::Refused(Refusal::KeyBufferTooShort);
     }
-    utils::copy_in(out, 0, key);
+    buf_mut::copy_in(out, 0, key);
     Ended::Row(row)
 }
 
@@ -99,11 +99,11 @@ fn row_below(key: &[u8], shared: usize, suffix: &[u8], target: &[u8]) -> bool
     requires { ⌜ shared ≤ length (now key) ⌝ }
     ensures { λ r. ⌜ r ≡ below (take shared (now (key .entry)) ++ now (suffix .entry)) (now (target .entry)) ⌝ }
 {
-    let n = utils::least(shared, target.len());
-    let order = utils::compare(&key[..shared], &target[..n]);
+    let n = numbers::least(shared, target.len());
+    let order = keys::compare(&key[..shared], &target[..n]);
     match order {
         Ordering::Less => true,
-        Ordering::Equal => utils::is_below(suffix, &target[n..]),
+        Ordering::Equal => keys::is_below(suffix, &target[n..]),
         Ordering::Greater => false,
     }
 }
@@ -185,7 +185,7 @@ pub fn last_at_or_below(data: &[u8], region: Region, target: &[u8]) -> LastRead
         };
         len = put_suffix(&mut key, data, row);
         at = row.next;
-        let order = utils::compare(target, &key[..len]);
+        let order = keys::compare(target, &key[..len]);
         best = later(order, best, at);
     }
     LastRead::Ends(best)

@@ -7,7 +7,7 @@ use Rattle.layout.specs.Key.{Key, Ordering, compare}
 use Rattle.layout.specs.Trailer.{Trailer}
 use Rattle.layout.specs.Seek.{Found as FoundL, foundIs, restartKey, lastEqual}
 use Rattle.types.specs.Number.{number}
-use Rattle.utils.specs.Says.{saysOrdering}
+use Rattle.keys.specs.Says.{saysOrdering}
 use Rattle.types.specs.declared.Refusal.{Refusal}
 use Rattle.types.specs.declared.Refusal.the-variants.{BadTrailer}
 use Rattle.row_decode_v2.specs.declared.KeyRead.{KeyRead}

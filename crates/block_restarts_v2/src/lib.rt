@@ -6,7 +6,7 @@ ghost use Prim.Native.Nat.{_≤_, _<_, _+_, _-_, _*_};
 ghost use lib.ListN.{length};
 ghost use Rattle.layout.specs.Laws.Compare.{isLess, isEqual};
 ghost use Rattle.layout.specs.Laws.Seek.{searchFrom};
-ghost use Rattle.utils.specs.Says.{saysOrdering};
+ghost use Rattle.keys.specs.Says.{saysOrdering};
 ghost use Rattle.block.specs.Says.{trailerFrom};
 ghost use Rattle.block_restarts_v2.specs.Handed.{searchAt};
 ghost use Rattle.block_restarts_v2.specs.Reading.{refusalOfKey, saysCompared, refusalOfCompared, saysSearch, refusalOfSearch, restartCompared, runFrom};
@@ -14,9 +14,9 @@ ghost use Rattle.block_restarts_v2.specs.Says.{saysStart};
 ghost use Rattle.block_restarts_v2.specs.Promise.{StartsUp, StartsDown};
 use block::RegionRead;
 use block::Trailer;
+use keys::Ordering;
 use row_decode_v2::KeyRead;
 use types::Refusal;
-use utils::Ordering;
 
 // The restart region where a walk begins, and how many restart keys the search read.
 pub struct Start {
@@ -110,7 +110,7 @@ fn compare_first_key_at_restart(
     };
     let from = key.suffix_at;
     let to = from + key.suffix_len;
-    Compared::Is(utils::compare(&rows[from..to], target))
+    Compared::Is(keys::compare(&rows[from..to], target))
 }
 
 // The first restart from `low` on, and before `high`, whose key is not below the target; `high` where there is none. `reads`

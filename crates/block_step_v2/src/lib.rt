@@ -77,7 +77,7 @@ fn put_suffix(key: &mut [u8], data: &[u8], row: Row)
 {
     let from = row.suffix_at;
     let end = from + row.suffix_len;
-    utils::copy_in(key, row.shared, &data[from..end]);
+    buf_mut::copy_in(key, row.shared, &data[from..end]);
 }
 
 // Gives the first `n` bytes of the key.
@@ -85,7 +85,7 @@ fn give_key(out: &mut [u8], key: &[u8], n: usize)
     requires { ⌜ (n ≤ length (now key)) × (n ≤ length (now out)) ⌝ }
     ensures { λ _. ⌜ now (out .exit) ≡ splice (now (out .entry)) 0 (take n (now (key .entry))) ⌝ }
 {
-    utils::copy_in(out, 0, &key[..n]);
+    buf_mut::copy_in(out, 0, &key[..n]);
 }
 
 // A step that says "done" sets only the mark.

@@ -3,12 +3,12 @@ use crate::show;
 use block_grow_v2::BuildAnswer;
 use block_v2::AddAnswer;
 use block_v2::BlockBuilderV2;
+use buf_mut::Put;
+use row_decode_v2::RowRead;
 use row_encode_v2::Encoded;
 use row_size_v2::RowFields;
-use row_decode_v2::RowRead;
 use types::Kind;
 use types::Time;
-use utils::Put;
 use utils::VarintRead;
 
 fn fields(seq: u64) -> RowFields {

@@ -2,10 +2,10 @@
 ghost use Prim.Native.Nat.{_≤_};
 ghost use Rattle.io.specs.Counts.{Counts};
 use crate::words;
+use buf::SignedRead;
 use row_size_v2::RowFields;
 use types::Kind;
 use types::Time;
-use utils::SignedRead;
 
 // The digit that `b` spells, else 16.
 fn digit(b: u8) -> u8 {
@@ -38,8 +38,8 @@ pub fn number(word: &[u8]) -> u64 {
 // The signed number with these bits, read from its eight bytes.
 fn signed(bits: u64) -> Time {
     let mut bytes = [0u8; 8];
-    utils::put_u64(&mut bytes, 0, bits);
-    match utils::get_i64(&bytes, 0) {
+    buf_mut::put_u64(&mut bytes, 0, bits);
+    match buf::get_i64(&bytes, 0) {
         SignedRead::Number { value, next: _ } => Time::At(value),
         SignedRead::Refused(_) => Time::Absent,
     }

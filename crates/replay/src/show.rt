@@ -1,11 +1,11 @@
 // Answers, in the words of the list.
 use crate::words;
+use buf::WordRead;
 use libc::STDOUT_FILENO;
 use row_decode_v2::Row;
 use types::Refusal;
 use types::Time;
 use types::ValueDeletable;
-use utils::WordRead;
 
 pub fn text(s: &[u8]) {
     io::write_all(STDOUT_FILENO, s);
@@ -60,8 +60,8 @@ fn time(t: Time) {
         return;
     };
     let mut eight = [0u8; 8];
-    utils::put_i64(&mut eight, 0, z);
-    match utils::get_u64(&eight, 0) {
+    buf_mut::put_i64(&mut eight, 0, z);
+    match buf::get_u64(&eight, 0) {
         WordRead::Word { value, next: _ } => signed(value),
         WordRead::Refused(r) => refusal(r),
     }

@@ -2,12 +2,12 @@
 use crate::parse;
 use crate::show;
 use crate::words;
+use buf_mut::Put;
 use row_decode_v2::KeyRead;
 use row_decode_v2::RowRead;
 use row_encode_v2::Encoded;
 use row_size_v2::RowFields;
 use row_size_v2::Sized;
-use utils::Put;
 use utils::VarintRead;
 
 // The numbers of the commands that read.

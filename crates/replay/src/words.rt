@@ -1,7 +1,7 @@
 // Words of a text, between single marks. One that isn't there is empty.
 ghost use Prim.Native.Nat.{_≤_, _+_, _-_};
 ghost use lib.ListN.{length};
-use utils::Ordering;
+use keys::Ordering;
 
 // Past the end stand zeros.
 pub fn byte(s: &[u8], i: usize) -> u8 {
@@ -53,7 +53,7 @@ pub fn count(s: &[u8], mark: u8) -> usize {
 }
 
 fn same(a: &[u8], b: &[u8]) -> bool {
-    match utils::compare(a, b) {
+    match keys::compare(a, b) {
         Ordering::Equal => true,
         Ordering::Less => false,
         Ordering::Greater => false,

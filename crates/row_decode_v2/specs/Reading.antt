@@ -10,10 +10,10 @@ use Rattle.types.specs.declared.Refusal.{Refusal}
 use Rattle.types.specs.declared.Refusal.the-variants.{InputEnds}
 use Rattle.utils.specs.declared.VarintRead.{VarintRead}
 use Rattle.utils.specs.declared.VarintRead.the-variants.{Number as VarintNumber, Refused as VarintRefused}
-use Rattle.utils.specs.declared.WordRead.{WordRead}
-use Rattle.utils.specs.declared.WordRead.the-variants.{Word, Refused as WordRefused}
-use Rattle.utils.specs.declared.SignedRead.{SignedRead}
-use Rattle.utils.specs.declared.SignedRead.the-variants.{Number as SignedNumber, Refused as SignedRefused}
+use Rattle.buf.specs.declared.WordRead.{WordRead}
+use Rattle.buf.specs.declared.WordRead.the-variants.{Word, Refused as WordRefused}
+use Rattle.buf.specs.declared.SignedRead.{SignedRead}
+use Rattle.buf.specs.declared.SignedRead.the-variants.{Number as SignedNumber, Refused as SignedRefused}
 use Rattle.row_decode_v2.specs.declared.LengthsRead.{LengthsRead}
 use Rattle.row_decode_v2.specs.declared.LengthsRead.the-variants.{Read as ReadLengths, Refused as LengthsRefused}
 use Rattle.row_decode_v2.specs.declared.Head.{Head}

@@ -10,13 +10,13 @@ ghost use Rattle.types.specs.Says.{saysHeld};
 ghost use Rattle.row_decode_v2.specs.Says.{rowFrom};
 ghost use Rattle.row_decode_v2.specs.Promise.{Decodes, DecodesAt, DecodesKey, RowRefusal};
 ghost use Rattle.row_decode_v2.specs.Reading.{saysLengths, lengthsFrom, saysHead, flagsFrom, saysFlags, flagsGood, heldFrom, bodyFrom, saysBody, saysTimeAt, timesFrom, saysTimes, refusalOfVarint, refusalOfWord, refusalOfSigned, refusalOfLengths, refusalOfHead, refusalOfFlags, refusalOfBody, refusalOfTime, refusalOfTimes};
+use buf::SignedRead;
+use buf::WordRead;
 use types::Kind;
 use types::Refusal;
 use types::Time;
 use types::ValueDeletable;
-use utils::SignedRead;
 use utils::VarintRead;
-use utils::WordRead;
 
 // Where a row, its key's suffix and its value stand, and its other fields.
 pub struct Row {
@@ -294,7 +294,7 @@ fn body_at(s: &[u8], head: Head) -> BodyRead
     if s.len() < next {
         return BodyRead::Refused(Refusal::InputEnds);
     }
-    let word = utils::get_u64(s, seq_at);
+    let word = buf::get_u64(s, seq_at);
     let WordRead::Word {
         value: seq,
         next: flags_at,
@@ -325,7 +325,7 @@ fn time_at(flagged: bool, s: &[u8], at: usize) -> TimeRead
     ensures { λ r. ⌜ saysTimeAt r ≡ timeAt flagged (now (s .entry)) at ⌝ }
 {
     if flagged {
-        let number = utils::get_i64(s, at);
+        let number = buf::get_i64(s, at);
         let SignedRead::Number { value, next } = number else {
             return TimeRead::Refused(signed_refusal(number));
         };

@@ -35,9 +35,9 @@ fn write_body(output: &mut [u8], at: usize, key_suffix: &[u8], value: &[u8], seq
     requires { ⌜ at + length (bodyBytes (now «key_suffix») (now value) seq) ≤ length (now output) ⌝ }
     ensures { λ r. ⌜ Wrote (now (output .entry)) at (bodyBytes (now («key_suffix» .entry)) (now (value .entry)) seq) (now (output .exit)) r ⌝ }
 {
-    let a = row_size_v2::place_after(utils::copy_in(output, at, key_suffix));
-    let b = row_size_v2::place_after(utils::copy_in(output, a, value));
-    row_size_v2::place_after(utils::put_u64(output, b, seq))
+    let a = row_size_v2::place_after(buf_mut::copy_in(output, at, key_suffix));
+    let b = row_size_v2::place_after(buf_mut::copy_in(output, a, value));
+    row_size_v2::place_after(buf_mut::put_u64(output, b, seq))
 }
 
 fn write_time(output: &mut [u8], at: usize, time: Time) -> usize
@@ -46,7 +46,7 @@ fn write_time(output: &mut [u8], at: usize, time: Time) -> usize
 {
     match time {
         Time::Absent => at,
-        Time::At(t) => row_size_v2::place_after(utils::put_i64(output, at, t)),
+        Time::At(t) => row_size_v2::place_after(buf_mut::put_i64(output, at, t)),
     }
 }
 

@@ -10,8 +10,8 @@ use Rattle.types.specs.Number.{number}
 use Rattle.types.specs.Says.{saysKind, saysTime}
 use Rattle.types.specs.declared.Refusal.{Refusal}
 use Rattle.types.specs.declared.Refusal.the-variants.{EmptyKey}
-use Rattle.utils.specs.declared.Put.{Put}
-use Rattle.utils.specs.declared.Put.the-variants.{At as PutAt, Refused as PutRefused}
+use Rattle.buf_mut.specs.declared.Put.{Put}
+use Rattle.buf_mut.specs.declared.Put.the-variants.{At as PutAt, Refused as PutRefused}
 use Rattle.row_size_v2.specs.declared.RowFields.{RowFields}
 use Rattle.row_size_v2.specs.declared.Sized.{Sized}
 use Rattle.row_size_v2.specs.declared.Sized.the-variants.{Bytes as SizedBytes, Refused as SizedRefused}

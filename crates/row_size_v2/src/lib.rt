@@ -9,10 +9,10 @@ ghost use Rattle.types.specs.Says.{saysKind, saysTime};
 ghost use Rattle.row_size_v2.specs.Says.{saysSized};
 ghost use Rattle.row_size_v2.specs.Parts.{keyLength};
 ghost use Rattle.row_size_v2.specs.Promise.{Flagged, Keeps, Sizes, SizeRefusal, PlaceAfter, Restores};
+use buf_mut::Put;
 use types::Kind;
 use types::Refusal;
 use types::Time;
-use utils::Put;
 
 // What a row holds beside its key and its value's bytes, as it is offered.
 pub struct RowFields {
@@ -131,8 +131,8 @@ pub fn restore_full_key(
     if out.len() < n {
         return Restored::Refused(Refusal::KeyBufferTooShort);
     }
-    let at = place_after(utils::copy_in(out, 0, &previous_key[..shared]));
-    Restored::Bytes(place_after(utils::copy_in(out, at, key_suffix)))
+    let at = place_after(buf_mut::copy_in(out, 0, &previous_key[..shared]));
+    Restored::Bytes(place_after(buf_mut::copy_in(out, at, key_suffix)))
 }
 
 // ---- size

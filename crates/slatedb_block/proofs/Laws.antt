@@ -14,9 +14,9 @@ use Rattle.layout.specs.Seek.{Sought, seek, soughtAfter}
 use Rattle.layout.specs.Limits.{maxKey}
 use Rattle.layout.specs.Laws.Answer.{ok-inj, guard-then}
 use Rattle.layout.specs.Place.{splice}
-use Rattle.utils.specs.Promise.{Puts}
-use Rattle.utils.specs.declared.Put.{Put}
-use Rattle.utils.proofs.Laws.{copied}
+use Rattle.buf_mut.specs.Promise.{Puts}
+use Rattle.buf_mut.specs.declared.Put.{Put}
+use Rattle.buf_mut.proofs.Laws.{copied}
 use Rattle.types.specs.Answers.{apart, yes}
 use Rattle.types.specs.Number.{number}
 use Rattle.types.specs.declared.Refusal.{Refusal}

@@ -30,10 +30,10 @@ use block_v2::AddAnswer;
 use block_v2::BlockBuilderV2;
 use block_v2::Made;
 use block_v2::New;
-use row_encode_v2::Encoded;
 use row_decode_v2::Row;
-use row_size_v2::RowFields;
 use row_decode_v2::RowRead;
+use row_encode_v2::Encoded;
+use row_size_v2::RowFields;
 use types::IterationOrder;
 use types::Kind;
 use types::Time;
@@ -249,7 +249,7 @@ fn builder_over(words: &[u64], last_key: &[u8]) -> BlockBuilderV2
 {
     let s = state_in(words);
     let mut key = [0; 1024];
-    utils::copy_in(&mut key, 0, last_key);
+    buf_mut::copy_in(&mut key, 0, last_key);
     builder_from(s, key)
 }
 
@@ -284,7 +284,7 @@ fn put_added(builder: &mut [u64], last_key: &mut [u8], b: BlockBuilderV2)
     ensures { λ _. ⌜ PutsBuilder b (now (builder .exit)) (now («last_key» .exit)) ⌝ }
 {
     put_state(builder, state_of(b));
-    utils::copy_in(last_key, 0, &b.last_key);
+    buf_mut::copy_in(last_key, 0, &b.last_key);
 }
 
 fn kind_in(word: u64) -> KindRead
@@ -310,7 +310,7 @@ fn time_in(has: u64, bits: u64) -> TimeRead
         return TimeRead::Bad;
     };
     if b {
-        return TimeRead::Is(Time::At(utils::from_bits(bits)));
+        return TimeRead::Is(Time::At(numbers::from_bits(bits)));
     }
     TimeRead::Is(Time::Absent)
 }
@@ -370,7 +370,7 @@ fn time_words(time: Time) -> TimeWords
         Time::Absent => TimeWords { has: 0, bits: 0 },
         Time::At(z) => TimeWords {
             has: 1,
-            bits: utils::to_bits(z),
+            bits: numbers::to_bits(z),
         },
     }
 }
@@ -685,7 +685,7 @@ fn put_iterator(cursor: &mut [u64], key: &mut [u8], c: BlockIteratorV2)
     ensures { λ _. ⌜ PutsIterator c (now (cursor .exit)) (now (key .exit)) ⌝ }
 {
     put_cursor(cursor, place_of(c));
-    utils::copy_in(key, 0, &c.key);
+    buf_mut::copy_in(key, 0, &c.key);
 }
 
 // One step, in place: 254, 14, 18, then done, 15, 18, the row's, 19. Good gives the row, and its key to the start of `out`.
@@ -731,7 +731,7 @@ fn iterator_over(p: Place, key: &[u8]) -> BlockIteratorV2
 {
     let order = p.order;
     let mut carried = [0; 1024];
-    utils::copy_in(&mut carried, 0, key);
+    buf_mut::copy_in(&mut carried, 0, key);
     BlockIteratorV2 {
         order,
         region: p.region,

@@ -15,10 +15,10 @@ use Rattle.layout.specs.Laws.Offsets.{offsets-none, offsets-more, trailer-count
 use Rattle.layout.specs.Laws.Splice.{Wrote, wrote-none, wrote-then, wrote-as, wrote-length}
 use Rattle.layout.specs.Laws.Trailer.{length-trailer}
 use Rattle.types.specs.declared.Refusal.{Refusal}
-use Rattle.utils.specs.Promise.{Puts}
-use Rattle.utils.specs.declared.Put.{Put}
-use Rattle.utils.specs.declared.Put.the-variants.{At, Refused}
-use Rattle.utils.proofs.Laws.{puts-short, puts-wrote, puts-at, puts-fits}
+use Rattle.buf_mut.specs.Promise.{Puts}
+use Rattle.buf_mut.specs.declared.Put.{Put}
+use Rattle.buf_mut.specs.declared.Put.the-variants.{At, Refused}
+use Rattle.buf_mut.proofs.Laws.{puts-short, puts-wrote, puts-at, puts-fits}
 use Rattle.block.proofs.put_trailer.Statement.{statement}
 use Rattle.block.proofs.put_trailer.Tie as tie
 

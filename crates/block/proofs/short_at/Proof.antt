@@ -5,7 +5,7 @@ use borrow.Author.Needs.{needs}
 use Rattle.layout.specs.Laws.Place.{fixedAt-two}
 use Rattle.layout.specs.Laws.Trailer.{short-read}
 use Rattle.types.specs.Answers.{yes, apart}
-use Rattle.utils.specs.Says.{saysShort}
+use Rattle.buf.specs.Says.{saysShort}
 use Rattle.block.proofs.short_at.Statement.{statement}
 use Rattle.block.proofs.short_at.Tie as tie
 

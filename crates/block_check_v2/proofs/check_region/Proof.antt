@@ -15,7 +15,7 @@ use Rattle.layout.specs.Trailer.{Trailer, trailerOf, dataOf, regionOf}
 use Rattle.layout.specs.Laws.Tells.{RowEnds, readRow-ends, row-shares}
 use Rattle.layout.specs.Laws.Trailer.{trailerOf-tells}
 use Rattle.types.specs.Answers.{yes, no}
-use Rattle.utils.proofs.Laws.{copied}
+use Rattle.buf_mut.proofs.Laws.{copied}
 use Rattle.block.specs.declared.Region.{Region}
 use Rattle.block.specs.Laws.{region-used}
 use Rattle.block.specs.Says.{trailerFrom, regionFrom, saysRegion, refusalOfRegion}

@@ -2,7 +2,7 @@
 -- The tests are the definition's; after them the copy has room.
 use native.Mathlib.Omega.{arith}
 use Rattle.block_regions_v2.specs.Laws.{gives-past, gives-short, gives-row}
-use Rattle.utils.proofs.Laws.{copied}
+use Rattle.buf_mut.proofs.Laws.{copied}
 use borrow.Author.Needs.{needs}
 use Rattle.block_regions_v2.proofs.give.Statement.{statement}
 use Rattle.block_regions_v2.proofs.give.Tie as tie

@@ -1,7 +1,7 @@
 -- `put_suffix` puts the suffix where it stands in the data over the key, and answers the key's new length.
 -- What it requires is room in both; so the copy is made.
 use mathlib.Core.Path.{refl}
-use Rattle.utils.proofs.Laws.{copied-part}
+use Rattle.buf_mut.proofs.Laws.{copied-part}
 use borrow.Author.Needs.{needs}
 use Rattle.block_regions_v2.proofs.put_suffix.Statement.{statement}
 use Rattle.block_regions_v2.proofs.put_suffix.Tie as tie

@@ -7,7 +7,7 @@ use lib.ListN.{length, take, drop, length-drop}
 use lib.Seq.{length-take-le, take-all}
 use Rattle.layout.specs.Key.{below}
 use Rattle.layout.specs.Laws.Parts.{parts-less, parts-greater, parts-equal}
-use Rattle.utils.proofs.Laws.{compared}
+use Rattle.keys.proofs.Laws.{compared}
 use borrow.Author.Needs.{needs}
 use Rattle.block_regions_v2.proofs.row_below.Statement.{statement}
 use Rattle.block_regions_v2.proofs.row_below.Tie as tie

@@ -3,7 +3,7 @@
 use mathlib.Core.Path.{sym}
 use native.Mathlib.Omega.{arith}
 use lib.Seq.{length-take-le}
-use Rattle.utils.proofs.Laws.{copied}
+use Rattle.buf_mut.proofs.Laws.{copied}
 use borrow.Author.Needs.{needs}
 use Rattle.block_step_v2.proofs.give_key.Statement.{statement}
 use Rattle.block_step_v2.proofs.give_key.Tie as tie

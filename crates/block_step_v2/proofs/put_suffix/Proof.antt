@@ -1,6 +1,6 @@
 -- `put_suffix` puts the suffix, where it stands in the data, over the key.
 -- What it requires is room in the key; so the copy is made.
-use Rattle.utils.proofs.Laws.{copied-part}
+use Rattle.buf_mut.proofs.Laws.{copied-part}
 use borrow.Author.Needs.{needs}
 use Rattle.block_step_v2.proofs.put_suffix.Statement.{statement}
 use Rattle.block_step_v2.proofs.put_suffix.Tie as tie

@@ -9,7 +9,7 @@ use Rattle.layout.specs.Row.{At}
 use Rattle.layout.specs.RowRead.{timeIs}
 use Rattle.layout.specs.Laws.RowExits.{time-short, time-read, time-none}
 use Rattle.types.specs.Answers.{yes, no}
-use Rattle.utils.specs.Says.{saysSigned}
+use Rattle.buf.specs.Says.{saysSigned}
 use Rattle.row_decode_v2.specs.Reading.{refusalOfSigned}
 use borrow.Author.Needs.{needs}
 use Rattle.row_decode_v2.proofs.time_at.Statement.{statement}

@@ -3,7 +3,7 @@
 use native.Mathlib.Omega.{arith}
 use borrow.Author.Needs.{needs}
 use Rattle.layout.specs.Laws.Splice.{wrote-set}
-use Rattle.utils.proofs.Laws.{puts-short, puts-wrote}
+use Rattle.buf_mut.proofs.Laws.{puts-short, puts-wrote}
 use Rattle.utils.proofs.put_byte.Statement.{statement}
 use Rattle.utils.proofs.put_byte.Tie as tie
 

@@ -13,7 +13,7 @@ use Rattle.layout.specs.Varint.{varint, varintIn}
 use Rattle.layout.specs.Laws.Byte.{varintIn-last, varintIn-more, varint-whole}
 use Rattle.layout.specs.Laws.Splice.{sets-splice}
 use Rattle.layout.specs.Laws.Varint.{varintIn-few, varint-few}
-use Rattle.utils.proofs.Laws.{puts-short, puts-wrote}
+use Rattle.buf_mut.proofs.Laws.{puts-short, puts-wrote}
 use Rattle.utils.proofs.put_varint.Statement.{statement}
 use Rattle.utils.proofs.put_varint.Tie as tie
 

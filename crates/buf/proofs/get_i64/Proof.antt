@@ -1,0 +1,53 @@
+-- `get_i64` keeps its promise: the signed number of eight bytes, or 9 where the input ends.
+-- It follows the definition: a refusal of `get_u64` is handed on, and a number that was read goes through `from_bits`.
+use Prim.Native.Nat.{ℕ}
+use mathlib.Core.Path.{_≡_, sym, ap, _∙_}
+use mathlib.Core.List.{List}
+use lib.IntN.{ℤ}
+use mir.Syntax.{w64}
+use mir.Facts.{toZ-ofZ}
+use Rattle.layout.specs.Answer.{ok}
+use Rattle.layout.specs.Fixed.{unbits}
+use Rattle.layout.specs.Laws.Answer.{handed}
+use Rattle.layout.specs.Place.{numAt, fixedAt}
+use Rattle.buf.specs.Says.{saysWord}
+use Rattle.layout.specs.Place.{signed, asSigned, signedAt}
+use borrow.Author.Needs.{needs}
+use Rattle.buf.proofs.get_i64.Statement.{statement}
+use Rattle.buf.proofs.get_i64.Tie as tie
+
+signed-read : (d : List ℕ) (at v n : ℕ) (z : ℤ) → fixedAt 8 d at ≡ ok (numAt v n) → z ≡ unbits v → ok (signed z n) ≡ signedAt d at
+signed-read d at v n z e q = rw (e, q)
+
+get-u64-requires : tie.Need-get-u64-requires
+get-u64-requires c κs = search needs
+
+enum-known-word : tie.Need-enum-known-word
+enum-known-word c = search needs
+
+from-bits-requires : tie.Need-from-bits-requires
+from-bits-requires c κs = search needs
+
+enum-known-word-2 : tie.Need-enum-known-word-2
+enum-known-word-2 c = search needs
+
+returns : tie.Need-returns
+returns c =
+    let m = c .before in
+    let word = sym (m .before .before .before .get-u64 .ensures) ∙ ap saysWord (m .before .word .given .1) in
+    signed-read _ _ _ _ _ word (toZ-ofZ {w = w64} (record { sfits = c .from-bits .ok }) ∙ c .from-bits .ensures)
+
+returns-2 : tie.Need-returns-2
+returns-2 c =
+    handed asSigned (sym (c .before .before .before .get-u64 .ensures) ∙ ap saysWord (c .before .word2 .given .1))
+
+pub get-i64-spec : {M : Type 1} → statement M
+get-i64-spec =
+    tie.close
+    (tie.spec
+    get-u64-requires
+    enum-known-word
+    from-bits-requires
+    enum-known-word-2
+    returns
+    returns-2)

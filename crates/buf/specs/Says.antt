@@ -1,0 +1,45 @@
+-- What each case of an answer says: the values, or the number of the refusal. No two cases say the same.
+use mathlib.Core.Path.{_≡_, ap, sym}
+use Rattle.layout.specs.Answer.{Res, ok, refuse}
+use Rattle.layout.specs.Place.{NumAt, numAt, SignedAt, signed}
+use Rattle.layout.specs.Laws.Answer.{ok-inj}
+use Rattle.types.specs.Answers.{apart, refused-one}
+use Rattle.types.specs.Number.{number}
+use Rattle.buf.specs.declared.ShortRead.{ShortRead}
+use Rattle.buf.specs.declared.ShortRead.the-variants.{Short, Refused as ShortRefused}
+use Rattle.buf.specs.declared.WordRead.{WordRead}
+use Rattle.buf.specs.declared.WordRead.the-variants.{Word, Refused as WordRefused}
+use Rattle.buf.specs.declared.SignedRead.{SignedRead}
+use Rattle.buf.specs.declared.SignedRead.the-variants.{Number as SignedNumber, Refused as SignedRefused}
+
+abbrev pub saysShort : ShortRead → Res NumAt
+saysShort (Short v n) = ok (numAt v n)
+saysShort (ShortRefused r) = refuse (number r)
+
+abbrev pub saysWord : WordRead → Res NumAt
+saysWord (Word v n) = ok (numAt v n)
+saysWord (WordRefused r) = refuse (number r)
+
+abbrev pub saysSigned : SignedRead → Res SignedAt
+saysSigned (SignedNumber z n) = ok (signed z n)
+saysSigned (SignedRefused r) = refuse (number r)
+
+-- ---- one to one
+
+pub saysShort-one : (a b : ShortRead) → saysShort a ≡ saysShort b → a ≡ b
+saysShort-one (Short v n) (Short w m) e = ap (λ (x : NumAt). Short (x .val) (x .next)) (ok-inj e)
+saysShort-one (Short v n) (ShortRefused r) e = absurd (apart e)
+saysShort-one (ShortRefused r) (Short v n) e = absurd (apart (sym e))
+saysShort-one (ShortRefused r) (ShortRefused q) e = ap ShortRefused (refused-one e)
+
+pub saysWord-one : (a b : WordRead) → saysWord a ≡ saysWord b → a ≡ b
+saysWord-one (Word v n) (Word w m) e = ap (λ (x : NumAt). Word (x .val) (x .next)) (ok-inj e)
+saysWord-one (Word v n) (WordRefused r) e = absurd (apart e)
+saysWord-one (WordRefused r) (Word v n) e = absurd (apart (sym e))
+saysWord-one (WordRefused r) (WordRefused q) e = ap WordRefused (refused-one e)
+
+pub saysSigned-one : (a b : SignedRead) → saysSigned a ≡ saysSigned b → a ≡ b
+saysSigned-one (SignedNumber v n) (SignedNumber w m) e = ap (λ (x : SignedAt). SignedNumber (x .val) (x .next)) (ok-inj e)
+saysSigned-one (SignedNumber v n) (SignedRefused r) e = absurd (apart e)
+saysSigned-one (SignedRefused r) (SignedNumber v n) e = absurd (apart (sym e))
+saysSigned-one (SignedRefused r) (SignedRefused q) e = ap SignedRefused (refused-one e)

@@ -1,0 +1,61 @@
+-- A writer's promise from what it did, for the writers; and what it did from its promise, for those who call them.
+use Prim.Native.Nat.{ℕ, _+_, _-_, _≤_, _<_}
+use mathlib.Core.Path.{_≡_, refl, ap, sym, _∙_, subst}
+use mathlib.Core.List.{List}
+use native.Mathlib.Omega.{arith}
+use lib.ListN.{length, take, drop, length-drop}
+use lib.Seq.{length-take-le}
+use Rattle.layout.specs.Place.{splice}
+use Rattle.layout.specs.Laws.Splice.{Wrote, put-short, put-wrote, wrote-put, put-taken}
+use Rattle.types.specs.Number.{number}
+use Rattle.types.specs.declared.Refusal.{Refusal}
+use Rattle.types.specs.declared.Refusal.the-variants.{BufferTooSmall}
+use Rattle.buf_mut.specs.declared.Put.{Put}
+use Rattle.buf_mut.specs.declared.Put.the-variants.{At, Refused}
+use Rattle.buf_mut.specs.Promise.{Puts}
+use Rattle.buf_mut.specs.Says.{saysPut-one}
+
+-- too little room was refused
+pub puts-short : (w buf : List ℕ) (at : ℕ) → length buf < at + length w → Puts w buf at (Refused BufferTooSmall) buf
+puts-short w buf at h =
+    let p = put-short buf at w h in
+    record { answer = p .0; bytes = p .1 }
+
+-- the bytes were written
+pub puts-wrote : {w buf ys : List ℕ} {at n : ℕ} → Wrote buf at w ys n → Puts w buf at (At n) ys
+puts-wrote {w} {buf} {ys} {at} {n} p =
+    let q = put-wrote buf at w p in
+    record { answer = q .0; bytes = q .1 }
+
+-- ---- for callers
+
+module _ {w buf ys : List ℕ} {at : ℕ} where
+  pub puts-at : {n : ℕ} → Puts w buf at (At n) ys → Wrote buf at w ys n
+  puts-at {n} p = wrote-put buf at w ys n (p .answer) (p .bytes)
+
+  pub puts-refused : {r : Refusal} → Puts w buf at (Refused r) ys → (r ≡ BufferTooSmall) × (ys ≡ buf) × (length buf < at + length w)
+  puts-refused {r} p =
+      let short = put-taken buf at w (number r) (p .answer) in
+      let q = put-short buf at w short in
+      (same (saysPut-one (Refused r) (Refused BufferTooSmall) (p .answer ∙ sym (q .0))), p .bytes ∙ sym (q .1), short)
+    where
+      same : {a b : Refusal} → _≡_ {A = Put} (Refused a) (Refused b) → a ≡ b
+      same e = cc
+
+  -- where there is room, it is taken
+  pub puts-fits : {r : Put} → at + length w ≤ length buf → Puts w buf at r ys → r ≡ At (at + length w)
+  puts-fits {r} h p =
+      let q = put-wrote buf at w (record { is = refl; next = refl; room = h }) in
+      saysPut-one r (At (at + length w)) (p .answer ∙ sym (q .0))
+
+-- a copy that had room was made
+pub copied : {w buf ys : List ℕ} {at : ℕ} {p : Put} → at + length w ≤ length buf → Puts w buf at p ys → ys ≡ splice buf at w
+copied {w} {buf} {ys} {at} h q = puts-at (subst (λ (r : Put). Puts w buf at r ys) (puts-fits h q) q) .is
+
+-- so was that of a part of another slice
+pub copied-part : (d : List ℕ) (from n : ℕ) {buf ys : List ℕ} {at : ℕ} {p : Put} → at + n ≤ length buf → from + n ≤ length d → Puts (take (from + n - from) (drop from d)) buf at p ys
+    → ys ≡ splice buf at (take n (drop from d))
+copied-part d from n {buf} {ys} {at} {p} h k q =
+    let is : from + n - from ≡ n = omega arith in
+    let long : length (take n (drop from d)) ≡ n = length-take-le n (drop from d) (rw (length-drop from d) (omega arith)) in
+    copied (rw long h) (subst (λ (m : ℕ). Puts (take m (drop from d)) buf at p ys) is q)
