@@ -1,18 +1,14 @@
--- Each promise admits one outcome: two results, with the buffers that they leave, that both keep it are equal.
+-- Each promise admits one outcome: two results that both keep it are equal.
 use Prim.Native.Nat.{ℕ}
 use mathlib.Core.Path.{_≡_, sym, _∙_}
 use mathlib.Core.Bool.{Bool}
 use mathlib.Core.List.{List}
-use lib.ListN.{take}
-use Rattle.layout.specs.Block.{trailer}
 use Rattle.types.specs.declared.Refusal.{Refusal}
-use Rattle.buf_mut.specs.OneOutcome.{puts-settled}
-use Rattle.buf_mut.specs.declared.Put.{Put}
 use Rattle.block.specs.declared.Trailer.{Trailer}
 use Rattle.block.specs.declared.TrailerRead.{TrailerRead}
 use Rattle.block.specs.declared.RegionRead.{RegionRead}
 use Rattle.block.specs.declared.Tested.{Tested}
-use Rattle.block.specs.Promise.{ReadsTrailer, TestsTrailer, TrailerRefusal, ReadsRegion, RegionRefusal, TestsOffsets, PutsTrailer}
+use Rattle.block.specs.Promise.{ReadsTrailer, TestsTrailer, TrailerRefusal, ReadsRegion, RegionRefusal, TestsOffsets}
 use Rattle.block.specs.Says.{saysTrailer-one, saysRegion-one, saysTested-one}
 
 pub trailer-of-settled : (b : List ℕ) (r q : TrailerRead) → ReadsTrailer b r → ReadsTrailer b q → r ≡ q
@@ -32,7 +28,3 @@ region-refusal-settled a r q m n = m ∙ sym n
 
 pub all-offsets-settled : (b : List ℕ) (t : Trailer) (r q : Tested) → TestsOffsets b t r → TestsOffsets b t q → r ≡ q
 all-offsets-settled b t r q m n = saysTested-one r q (m ∙ sym n)
-
-pub put-trailer-settled : (os : List ℕ) (count : ℕ) (buf : List ℕ) (at : ℕ) (r q : Put) (ys zs : List ℕ) → PutsTrailer os count buf at r ys
-    → PutsTrailer os count buf at q zs → (r ≡ q) × (ys ≡ zs)
-put-trailer-settled os count buf at r q ys zs = puts-settled (trailer (take count os)) buf at r q ys zs

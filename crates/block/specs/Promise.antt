@@ -1,14 +1,10 @@
--- What each public function promises: equations to the definitions, that settle each number answered and each byte lent.
+-- What each public function promises: equations to the definitions, that settle each number answered.
 use Prim.Native.Nat.{ℕ}
 use mathlib.Core.Path.{_≡_}
 use mathlib.Core.Bool.{Bool}
 use mathlib.Core.List.{List}
-use lib.ListN.{take}
-use Rattle.layout.specs.Block.{trailer}
 use Rattle.layout.specs.Trailer.{trailerOf}
 use Rattle.types.specs.declared.Refusal.{Refusal}
-use Rattle.buf_mut.specs.Promise.{Puts}
-use Rattle.buf_mut.specs.declared.Put.{Put}
 use Rattle.block.specs.declared.Trailer.{Trailer}
 use Rattle.block.specs.declared.TrailerRead.{TrailerRead}
 use Rattle.block.specs.declared.RegionRead.{RegionRead}
@@ -34,7 +30,3 @@ RegionRefusal a r = r ≡ refusalOfRegion a
 
 abbrev pub TestsOffsets : List ℕ → Trailer → Tested → Type 0
 TestsOffsets b t a = saysTested a ≡ offsetsAt b (trailerFrom t)
-
--- the trailer of the first `count` offsets, or of all where there are fewer. Its last two bytes hold the low 16 bits of their count
-abbrev pub PutsTrailer : List ℕ → ℕ → List ℕ → ℕ → Put → List ℕ → Type 0
-PutsTrailer os count buf at r buf′ = Puts (trailer (take count os)) buf at r buf′

@@ -1,14 +1,13 @@
-// The trailer of a block, written and read: the restarts' offsets and their count; and the restart regions that the offsets bound.
+// The trailer of a block, read: the restarts' offsets and their count; and the restart regions that the offsets bound.
 // Follows slatedb 0.16.0, src/format/block.rs, and `restart_region_end` of src/block_iterator_v2.rs (Apache License 2.0), and is
-// changed: offsets are read where they stand, each when it is used, and what a block's bytes or a lent buffer can break is a refusal.
+// changed: offsets are read where they stand, each when it is used, and what a block's bytes can break is a refusal.
 ghost use mathlib.Core.Path.{_≡_};
-ghost use Prim.Native.Nat.{_≤_, _<_, _+_, _*_, _%_};
+ghost use Prim.Native.Nat.{_≤_, _<_, _+_, _*_};
 ghost use lib.ListN.{length};
 ghost use Rattle.layout.specs.Trailer.{shortAt, firstOf, regionOf, allOffsets};
 ghost use Rattle.block.specs.Says.{trailerFrom, saysRegion, saysTested};
-ghost use Rattle.block.specs.Promise.{ReadsTrailer, TestsTrailer, TrailerRefusal, ReadsRegion, RegionRefusal, TestsOffsets, PutsTrailer};
+ghost use Rattle.block.specs.Promise.{ReadsTrailer, TestsTrailer, TrailerRefusal, ReadsRegion, RegionRefusal, TestsOffsets};
 use buf::ShortRead;
-use buf_mut::Put;
 use types::Refusal;
 
 // How many restarts there are, and how many bytes of rows.
@@ -181,40 +180,6 @@ pub fn all_offsets(block: &[u8], t: Trailer) -> Tested
         return Tested::Refused(Refusal::BadTrailer);
     }
     offsets_rise(block, t)
-}
-
-// Two bytes hold the low 16 bits of a count.
-fn low_16(n: usize) -> u16
-    ensures { λ r. ⌜ r ≡ n % 65536 ⌝ }
-{
-    (n % 65536) as u16
-}
-
-// Writes the first `count` offsets, or all where there are fewer, and then how many they are. The room is tested before the
-// first store, since a refusal writes nothing.
-pub fn put_trailer(buf: &mut [u8], at: usize, offsets: &[u16], count: usize) -> Put
-    ensures { λ r. ⌜ PutsTrailer (now (offsets .entry)) count (now (buf .entry)) at r (now (buf .exit)) ⌝ }
-{
-    let n = numbers::least(count, offsets.len());
-    if buf.len() < at {
-        return Put::Refused(Refusal::BufferTooSmall);
-    }
-    // Two bytes for each offset, and two for their count.
-    if (buf.len() - at) / 2 <= n {
-        return Put::Refused(Refusal::BufferTooSmall);
-    }
-    let mut next = at;
-    let mut i: usize = 0;
-    while i < n {
-        let p = buf_mut::put_u16(buf, next, offsets[i]);
-        // Never taken: there is room.
-        let Put::At(after) = p else {
-            return p;
-        };
-        next = after;
-        i += 1;
-    }
-    buf_mut::put_u16(buf, next, low_16(n))
 }
 
 // A read that is refused ends its caller's call with its refusal, which a `let .. else` can't bind: these take it out of the

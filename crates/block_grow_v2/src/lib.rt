@@ -431,7 +431,7 @@ pub fn build_in_place(s: State, data: &mut [u8], restarts: &[u16]) -> BuildAnswe
     if s.counter == 0 {
         return BuildAnswer::Refused(Refusal::EmptyBlock);
     }
-    let put = block::put_trailer(data, s.used, restarts, s.restarts);
+    let put = block_encode::put_trailer(data, s.used, restarts, s.restarts);
     match put {
         Put::At(n) => BuildAnswer::Block(n),
         Put::Refused(refusal) => BuildAnswer::Refused(refusal),

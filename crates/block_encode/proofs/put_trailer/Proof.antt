@@ -19,8 +19,8 @@ use Rattle.buf_mut.specs.Promise.{Puts}
 use Rattle.buf_mut.specs.declared.Put.{Put}
 use Rattle.buf_mut.specs.declared.Put.the-variants.{At, Refused}
 use Rattle.buf_mut.proofs.Laws.{puts-short, puts-wrote, puts-at, puts-fits}
-use Rattle.block.proofs.put_trailer.Statement.{statement}
-use Rattle.block.proofs.put_trailer.Tie as tie
+use Rattle.block_encode.proofs.put_trailer.Statement.{statement}
+use Rattle.block_encode.proofs.put_trailer.Tie as tie
 
 -- i of n offsets are written
 record Laying (os start : List ℕ) (at n : ℕ) (buf : List ℕ) (next i : ℕ) : Type 0 where
