@@ -1,0 +1,183 @@
+/* How deep a stack each function of the library uses: it is run on a stack of its own that is painted before, over blocks with short keys and with
+ * the longest, both ways, and the lowest byte that lost its paint is looked for. The most of all runs is printed, and must be at most 16 KiB. */
+#define _GNU_SOURCE
+#include "slatedb_block.h"
+
+#include <stdio.h>
+#include <string.h>
+#include <ucontext.h>
+
+enum { STACK = 256 * 1024, LIMIT = 16 * 1024, DATA = 65536, PLACES = 64, PAINT = 0xA5 };
+
+static _Alignas(64) uint8_t stack[STACK];
+static ucontext_t desk, painted;
+static void (*job)(void);
+
+static uint8_t data[DATA], key[SLATEDB_KEY_BYTES], last[SLATEDB_KEY_BYTES], carried[SLATEDB_KEY_BYTES], out[SLATEDB_KEY_BYTES], encoded[2048];
+static uint16_t restarts[PLACES];
+static slatedb_builder builder;
+static slatedb_cursor cursor;
+static slatedb_fields fields = {.kind = SLATEDB_MERGE, .seq = 1, .has_expire = 1, .expire = 2, .has_create = 1, .create = 3};
+static slatedb_row row;
+static uint64_t count;
+static size_t key_len, block_len;
+static uint8_t answer;
+
+static void run_job(void) {
+    job();
+}
+
+/* The bytes of stack below what it takes to call a function that does nothing. */
+static size_t depth(void (*f)(void)) {
+    memset(stack, PAINT, STACK);
+    job = f;
+    getcontext(&painted);
+    painted.uc_stack.ss_sp = stack;
+    painted.uc_stack.ss_size = STACK;
+    painted.uc_link = &desk;
+    makecontext(&painted, run_job, 0);
+    swapcontext(&desk, &painted);
+    size_t untouched = 0;
+    while (untouched < STACK && stack[untouched] == PAINT) {
+        untouched++;
+    }
+    return STACK - untouched;
+}
+
+static void nothing(void) {
+}
+
+static void call_encode(void) {
+    answer = slatedb_encode(encoded, sizeof encoded, 0, 0, key, key_len, out, 100, SLATEDB_WORDS(&fields), &count);
+}
+
+static void call_decode(void) {
+    answer = slatedb_decode(encoded, sizeof encoded, 0, SLATEDB_WORDS(&row));
+}
+
+static void call_builder_new(void) {
+    answer = slatedb_builder_new(SLATEDB_WORDS(&builder), DATA, 16);
+}
+
+static void call_builder_would_fit(void) {
+    answer = slatedb_builder_would_fit(SLATEDB_WORDS(&builder), last, sizeof last, DATA, PLACES, key, key_len, out, 100, SLATEDB_WORDS(&fields));
+}
+
+static void call_builder_add(void) {
+    answer = slatedb_builder_add(SLATEDB_WORDS(&builder), last, sizeof last, data, DATA, restarts, PLACES, key, key_len, out, 100, SLATEDB_WORDS(&fields));
+}
+
+static void call_builder_is_empty(void) {
+    answer = slatedb_builder_is_empty(SLATEDB_WORDS(&builder), &count);
+}
+
+static void call_builder_build(void) {
+    answer = slatedb_builder_build(SLATEDB_WORDS(&builder), data, DATA, restarts, PLACES, &count);
+}
+
+static void call_check(void) {
+    answer = slatedb_check(data, block_len, &count);
+}
+
+static uint64_t order;
+
+static void call_open(void) {
+    answer = slatedb_open(data, block_len, order, SLATEDB_WORDS(&cursor));
+}
+
+static void call_next(void) {
+    answer = slatedb_next(data, block_len, SLATEDB_WORDS(&cursor), carried, sizeof carried, out, sizeof out, SLATEDB_WORDS(&row));
+}
+
+static void call_seek(void) {
+    answer = slatedb_seek(data, block_len, key, key_len, SLATEDB_WORDS(&cursor), carried, sizeof carried, &count);
+}
+
+static void call_is_empty(void) {
+    answer = slatedb_is_empty(data, block_len, SLATEDB_WORDS(&cursor), &count);
+}
+
+static struct {
+    const char *name;
+    void (*call)(void);
+    size_t most;
+    unsigned good;
+} functions[] = {
+    {"slatedb_encode", call_encode, 0, 0},
+    {"slatedb_decode", call_decode, 0, 0},
+    {"slatedb_builder_new", call_builder_new, 0, 0},
+    {"slatedb_builder_would_fit", call_builder_would_fit, 0, 0},
+    {"slatedb_builder_add", call_builder_add, 0, 0},
+    {"slatedb_builder_is_empty", call_builder_is_empty, 0, 0},
+    {"slatedb_builder_build", call_builder_build, 0, 0},
+    {"slatedb_check", call_check, 0, 0},
+    {"slatedb_open", call_open, 0, 0},
+    {"slatedb_next", call_next, 0, 0},
+    {"slatedb_seek", call_seek, 0, 0},
+    {"slatedb_is_empty", call_is_empty, 0, 0},
+};
+
+enum { FUNCTIONS = sizeof functions / sizeof *functions };
+
+static void measure(void (*f)(void)) {
+    size_t deep = depth(f);
+    for (size_t i = 0; i < FUNCTIONS; i++) {
+        if (functions[i].call == f) {
+            if (functions[i].most < deep) {
+                functions[i].most = deep;
+            }
+            functions[i].good += answer == SLATEDB_GOOD;
+        }
+    }
+}
+
+static void set_key(unsigned i, size_t len) {
+    memset(key, 'k', len);
+    key[len - 1] = (uint8_t)i;
+    key_len = len;
+}
+
+/* Builds a block of rows with keys of this length, and reads it both ways. */
+static void over_keys_of(size_t len, unsigned rows) {
+    set_key(0, len);
+    measure(call_encode);
+    measure(call_decode);
+    measure(call_builder_new);
+    for (unsigned i = 0; i < rows; i++) {
+        set_key(i, len);
+        measure(call_builder_would_fit);
+        measure(call_builder_add);
+        measure(call_builder_is_empty);
+    }
+    measure(call_builder_build);
+    block_len = count;
+    measure(call_check);
+    for (order = SLATEDB_ASCENDING; order <= SLATEDB_DESCENDING; order++) {
+        measure(call_open);
+        do {
+            measure(call_is_empty);
+            measure(call_next);
+        } while (answer == SLATEDB_GOOD);
+        for (unsigned i = 0; i < rows; i++) {
+            set_key(i, len);
+            measure(call_open);
+            measure(call_seek);
+            measure(call_next);
+        }
+    }
+}
+
+int main(void) {
+    size_t base = depth(nothing), most = 0;
+    int failed = 0;
+    over_keys_of(16, 200);
+    over_keys_of(SLATEDB_KEY_BYTES, 50);
+    for (size_t i = 0; i < FUNCTIONS; i++) {
+        size_t deep = functions[i].most - base;
+        printf("%-26s %6zu bytes of stack\n", functions[i].name, deep);
+        most = most < deep ? deep : most;
+        failed |= LIMIT < deep || functions[i].good == 0;
+    }
+    printf("the deepest: %zu of %d bytes\n", most, LIMIT);
+    return failed;
+}
