@@ -131,12 +131,6 @@ uint8_t slatedb_builder_add(uint64_t *builder, size_t builder_len, uint8_t *last
                             const uint8_t *key, size_t key_len, const uint8_t *value, size_t value_len,
                             const uint64_t *fields, size_t fields_len);
 
-/* The same through the method that takes the builder by value, for comparing. */
-uint8_t slatedb_builder_add_by_value(uint64_t *builder, size_t builder_len, uint8_t *last_key, size_t last_key_len,
-                                     uint8_t *data, size_t data_len, uint16_t *restarts, size_t restarts_len,
-                                     const uint8_t *key, size_t key_len, const uint8_t *value, size_t value_len,
-                                     const uint64_t *fields, size_t fields_len);
-
 /* Whether there is no row: 254. *empty: 0 or 1. */
 uint8_t slatedb_builder_is_empty(const uint64_t *builder, size_t builder_len, uint64_t *empty);
 
@@ -156,10 +150,6 @@ uint8_t slatedb_open(const uint8_t *block, size_t block_len, uint64_t order, uin
  * bytes, to the start of `out`. */
 uint8_t slatedb_next(const uint8_t *block, size_t block_len, uint64_t *cursor, size_t cursor_len,
                      uint8_t *key, size_t key_len, uint8_t *out, size_t out_len, uint64_t *row, size_t row_len);
-
-/* The same through the method that takes the cursor by value, for comparing. */
-uint8_t slatedb_next_by_value(const uint8_t *block, size_t block_len, uint64_t *cursor, size_t cursor_len,
-                              uint8_t *key, size_t key_len, uint8_t *out, size_t out_len, uint64_t *row, size_t row_len);
 
 /* Moves the cursor to the target, in its own order: 254, 14, and what the search and the walk meet. Good: the next step
  * gives the first row at or above the target, or descending the last at or below it; done: there is none. *reads: how many

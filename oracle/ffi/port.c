@@ -1,7 +1,7 @@
-/* port.h over the C interface of the proved library: one call a row, each of which tests all that it is handed.
+/* port.h over the C interface of the proved libraries: one call a row, each of which tests all that it is handed.
  * STEP is slatedb_next, or slatedb_next_by_value for the method that takes the cursor by value. */
 #include "port.h"
-#include "slatedb_block.h"
+#include "slatedb_by_value.h"
 
 #ifndef STEP
 #define STEP slatedb_next

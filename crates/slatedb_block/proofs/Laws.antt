@@ -1,34 +1,32 @@
--- What the exits of the exports use, over plain variables: words that are read, and what a good, a refused or a done answer sets and leaves.
-use Prim.Native.Nat.{ℕ, _+_}
-use mathlib.Core.Bool.{Bool, true, false, cond, not}
+-- What the exits of the exports use, over plain variables: what a good, a refused or a done answer sets and leaves.
+use Prim.Native.Nat.{ℕ}
+use mathlib.Core.Bool.{Bool, true, false, cond}
+use mathlib.Core.Logic.{⊎-elim}
 use mathlib.Core.Path.{_≡_, refl, ap, sym, _∙_}
-use mathlib.Core.List.{List, [], append-nil}
-use lib.Dec.{eqb}
-use lib.ListN.{length, take, drop-of-length-le}
+use mathlib.Core.List.{List, [], _∷_}
 use native.Mathlib.Omega.{arith}
-use borrow.Author.Tests.{eq-eqb, ne-eqb, eqb-true, not-false}
+use denote.Enum.Declared.{tagOf}
+use types.Run.{OneOf}
+use lib.ListN.{length, take}
+use borrow.Author.Tests.{eq-eqb, ne-eqb}
 use Rattle.layout.specs.Answer.{Res, ok, refuse, bind}
 use Rattle.layout.specs.Builder.{newBuilder, built, isEmpty as isEmptyBuilder, stateTests, build}
 use Rattle.layout.specs.Cursor.{Direction, ascending, descending, Cursor, cursorOr, openBlock, isEmpty}
 use Rattle.layout.specs.Seek.{Sought, seek, soughtAfter}
 use Rattle.layout.specs.Limits.{maxKey}
-use Rattle.layout.specs.Laws.Answer.{ok-inj, guard-then}
-use Rattle.layout.specs.Place.{splice}
-use Rattle.buf_mut.specs.Promise.{Puts}
-use Rattle.buf_mut.specs.declared.Put.{Put}
-use Rattle.buf_mut.proofs.Laws.{copied}
+use Rattle.layout.specs.Laws.Answer.{ok-inj}
 use Rattle.types.specs.Answers.{apart, yes}
 use Rattle.types.specs.Number.{number}
 use Rattle.types.specs.declared.Refusal.{Refusal}
 use Rattle.types.specs.Says.{saysOrder}
 use Rattle.types.specs.declared.IterationOrder.{IterationOrder}
-use Rattle.block_grow_v2.specs.Says.{saysBuild}
-use Rattle.block_grow_v2.specs.declared.BuildAnswer.the-variants.{Block, Refused as BuildRefused}
 use Rattle.block_v2.specs.Promise.{Makes, Builds}
 use Rattle.block_v2.specs.Says.{saysMade, viewOf as viewOfBuilder}
+use Rattle.block_grow_v2.specs.Says.{saysBuild}
 use Rattle.block_v2.specs.declared.Made.the-variants.{Good as GoodMade, Refused as MadeRefused}
 use Rattle.block_v2.specs.declared.New.{New}
 use Rattle.block_v2.specs.declared.Built.{Built}
+use Rattle.block_grow_v2.specs.declared.BuildAnswer.the-variants.{Block, Refused as BuildRefused}
 use Rattle.block_iterator_v2.specs.Promise.{Opens, TellsEmpty, SeeksTarget}
 use Rattle.block_iterator_v2.specs.Says.{viewOf, saysOpen, saysEmpty, saysSeek, Report, reportIs, reported}
 use Rattle.block_iterator_v2.specs.declared.Opened.{Opened}
@@ -36,65 +34,19 @@ use Rattle.block_iterator_v2.specs.declared.OpenAnswer.the-variants.{Good as Go
 use Rattle.block_iterator_v2.specs.declared.EmptyRead.{EmptyRead}
 use Rattle.block_iterator_v2.specs.declared.EmptyRead.the-variants.{Is as IsEmpty, Refused as EmptyRefused}
 use Rattle.block_iterator_v2.specs.declared.Sought.{Sought as SoughtC}
+use Rattle.block_iterator_v2.specs.declared.SeekAnswer.{SeekAnswer}
+use Rattle.block_iterator_v2.proofs.SeekAnswer.{the-type}
 use Rattle.block_iterator_v2.specs.declared.SeekAnswer.the-variants.{Landed, Done as SeekDone, Refused as SeekRefused}
 use Rattle.block_iterator_v2.specs.declared.BlockIteratorV2.{BlockIteratorV2}
-use Rattle.slatedb_block.specs.Words.{badWords, doneCode, codeOf, counted, oneOf, truthIn, truthWord, orderIn, wordAt, cursorFrom, cursorIn, cursorWords, builderFrom, builderWords}
-use Rattle.slatedb_block.specs.Says.{saysCursor, iteratorFrom, builderFromWords}
 use Rattle.block_step_v2.specs.declared.Place.{Place}
 use Rattle.block_step_v2.specs.Says.{viewIn}
-use Rattle.slatedb_block.specs.declared.CursorRead.the-variants.{Is as IsCursor}
+use Rattle.block_words.specs.Words.{badWords, doneCode, codeOf, truthWord, orderIn, cursorIn, cursorWords, builderFrom, builderWords}
+use Rattle.block_words.specs.Says.{iteratorFrom, builderAlone, stateIn}
+use Rattle.block_words.proofs.Laws.{counted-not, counted-so, went, stayed}
+use Rattle.slatedb_block.specs.Says.{TellsSought}
 use Rattle.slatedb_block.specs.Promise.{Tells, Sets, MakesFlat, EmptiesFlat, BuildsFlat, OpensFlat, TellsFlat, SeeksAs, SeeksFlat}
 
--- ---- words
-
-pub of-0 : {A : Type 0} (a b : A) {w : ℕ} → w ≡ 0 → ok a ≡ oneOf a b w
-of-0 a b e = rw e refl
-
-pub of-1 : {A : Type 0} (a b : A) {w : ℕ} → w ≡ 1 → ok b ≡ oneOf a b w
-of-1 a b e = rw e refl
-
-pub of-none : {A : Type 0} (a b : A) {w : ℕ} → (w ≡ 0 → ⊥) → (w ≡ 1 → ⊥) → refuse badWords ≡ oneOf a b w
-of-none a b {w} h k = rw (ne-eqb w 0 h, ne-eqb w 1 k) refl
-
-pub counted-not : {A : Type 0} (ws : List ℕ) (n : ℕ) (k : Res A) → (length ws ≡ n → ⊥) → counted ws n k ≡ refuse badWords
-counted-not ws n k h = rw (ne-eqb (length ws) n h) refl
-
-pub counted-so : {A : Type 0} (ws : List ℕ) (n : ℕ) (k : Res A) → length ws ≡ n → counted ws n k ≡ k
-counted-so ws n k h = rw (eq-eqb (length ws) n h) refl
-
-pub cursor-short : (ws : List ℕ) → (length ws ≡ 5 → ⊥) → (key : List ℕ) → refuse badWords ≡ cursorIn ws key
-unfolding cursorIn
-cursor-short ws h key = sym (counted-not ws 5 _ h)
-
-pub cursor-no-order : (ws : List ℕ) → length ws ≡ 5 → orderIn (wordAt ws 0) ≡ refuse badWords → (key : List ℕ) → refuse badWords ≡ cursorIn ws key
-unfolding cursorIn
-cursor-no-order ws h o key = sym (counted-so ws 5 _ h ∙ rw o refl)
-
-module _ (ws : List ℕ) (h : length ws ≡ 5) {d : Direction} (o : orderIn (wordAt ws 0) ≡ ok d) where
-  pub cursor-no-mark : truthIn (wordAt ws 4) ≡ refuse badWords → (key : List ℕ) → refuse badWords ≡ cursorIn ws key
-  unfolding cursorIn
-  cursor-no-mark m key = sym (counted-so ws 5 _ h ∙ rw (o, m) refl)
-
-  pub cursor-read : {b : Bool} → truthIn (wordAt ws 4) ≡ ok b → (key : List ℕ) → cursorIn ws key ≡ ok (cursorFrom ws key d b)
-  unfolding cursorIn
-  cursor-read m key = counted-so ws 5 _ h ∙ rw (o, m) refl
-
-pub cursor-loaded : (ws : List ℕ) (p : Place) → length ws ≡ 5 → orderIn (wordAt ws 0) ≡ ok (saysOrder (p .order)) → truthIn (wordAt ws 4) ≡ ok (p .done)
-    → p .region ≡ wordAt ws 1 → p .at ≡ wordAt ws 2 → p .«key_len» ≡ wordAt ws 3 → (key : List ℕ) → saysCursor key (IsCursor p) ≡ cursorIn ws key
-cursor-loaded ws p h o m r a k key = rw (r, a, k) (sym (cursor-read ws h o m key))
-
--- what is a cursor has its five words
-pub cursor-counts : (ws key : List ℕ) (c : Cursor) → cursorIn ws key ≡ ok c → length ws ≡ 5
-unfolding cursorIn
-cursor-counts ws key c e = guard-then (not (eqb (length ws) 5)) badWords _ c e λ t q. eqb-true (length ws) 5 (not-false (eqb (length ws) 5) t)
-
 -- ---- what is set
-
--- a copy over all bytes leaves what was copied
-pub copied-whole : (src : List ℕ) {key ys : List ℕ} {p : Put} → length key ≡ maxKey → length src ≡ maxKey → Puts src key 0 p ys → ys ≡ src
-unfolding splice
-copied-whole src {key} h k q =
-    copied (omega (arith, h, k)) q ∙ rw (drop-of-length-le key {i = 0 + length src} (omega (arith, h, k)), append-nil src) refl
 
 pub tells-good : {want : Res ℕ} {n x : ℕ} → want ≡ ok x → Tells want n 0 x
 tells-good e = rw e (record { answer = refl; number = refl })
@@ -107,19 +59,6 @@ sets-good a e q = rw (e, q) (record { answer = refl; state = refl })
 
 pub sets-refused : {A : Type 0} {want : Res A} {words : A → List ℕ} {ws : List ℕ} {k code : ℕ} → want ≡ refuse k → code ≡ k → Sets want words ws code ws
 sets-refused e q = rw (e, q) (record { answer = refl; state = refl })
-
--- ---- a record's promise, taken apart: an answer that says only whether, with the value beside it
-
-abbrev pub only : {A : Type 0} → Res A → Res (Unit {0})
-only want = bind want λ _. ok tt
-
-pub went : {A : Type 0} (want : Res A) (v : A) → only want ≡ ok tt → ((a : A) → want ≡ ok a → v ≡ a) → want ≡ ok v
-went (ok a) v s is = ap ok (sym (is a refl))
-went (refuse n) v s is = absurd (apart (sym s))
-
-pub stayed : {A : Type 0} (want : Res A) (k : ℕ) → only want ≡ refuse k → want ≡ refuse k
-stayed (ok a) k s = absurd (apart s)
-stayed (refuse n) k s = ap refuse (ap codeOf s)
 
 -- ---- building a block
 
@@ -138,7 +77,7 @@ module _ (ws : List ℕ) (size interval : ℕ) (r : New) (h : length ws ≡ 6) (
 pub empties-short : (ws : List ℕ) (n : ℕ) → (length ws ≡ 6 → ⊥) → EmptiesFlat ws n badWords n
 empties-short ws n h = tells-refused (rw (ne-eqb (length ws) 6 h) refl) refl
 
-pub empties : (ws : List ℕ) (n x : ℕ) (b : Bool) → length ws ≡ 6 → b ≡ isEmptyBuilder (viewOfBuilder (builderFromWords ws)) → x ≡ truthWord b → EmptiesFlat ws n 0 x
+pub empties : (ws : List ℕ) (n x : ℕ) (b : Bool) → length ws ≡ 6 → b ≡ isEmptyBuilder (viewOfBuilder (builderAlone (stateIn ws))) → x ≡ truthWord b → EmptiesFlat ws n 0 x
 unfolding isEmptyBuilder
 empties ws n x b h e q = rw (q, e) (tells-good (rw (eq-eqb (length ws) 6 h) refl))
 
@@ -146,11 +85,11 @@ pub builds-short : (ws bytes places : List ℕ) (n : ℕ) → (length ws ≡ 6 �
 builds-short ws bytes places n h = rw (ne-eqb (length ws) 6 h) (record { told = record { answer = refl; number = refl }; bytes-after = refl })
 
 -- a builder whose last key's bytes are not lent builds what any other builds
-built-any : (ws : List ℕ) (dataLen placesLen : ℕ) → build (viewOfBuilder (builderFromWords ws)) dataLen placesLen ≡ build (builderFrom ws []) dataLen placesLen
+built-any : (ws : List ℕ) (dataLen placesLen : ℕ) → build (viewOfBuilder (builderAlone (stateIn ws))) dataLen placesLen ≡ build (builderFrom ws []) dataLen placesLen
 unfolding build stateTests
 built-any ws dataLen placesLen = refl
 
-module _ (ws bytes places bytes′ : List ℕ) (n : ℕ) (r : Built) (h : length ws ≡ 6) (b : Builds (builderFromWords ws) bytes places r bytes′) where
+module _ (ws bytes places bytes′ : List ℕ) (n : ℕ) (r : Built) (h : length ws ≡ 6) (b : Builds (builderAlone (stateIn ws)) bytes places r bytes′) where
   pub builds-block : {k : ℕ} → r .answer ≡ Block k → BuildsFlat ws bytes places n 0 bytes′ k
   builds-block {k} e =
       let w = yes saysBuild (b .answer) e in
@@ -237,11 +176,22 @@ module _ (b target ws key : List ℕ) (n : ℕ) (p : Place) (r : SoughtC) (h : l
   asked : {ws′ key′ : List ℕ} {code k : ℕ} → wanted ws′ key′ code k → SeeksFlat b target ws key n code ws′ key′ k
   asked w = rw (eq-eqb (length key) maxKey h, is) w
 
-  pub seeks-landed : {k : ℕ} {ws′ key′ : List ℕ} → r .answer ≡ Landed k → ws′ ≡ cursorWords (viewOf (r .iterator)) → key′ ≡ r .iterator .key → SeeksFlat b target ws key n 0 ws′ key′ k
+  seeks-landed : {k : ℕ} {ws′ key′ : List ℕ} → r .answer ≡ Landed k → ws′ ≡ cursorWords (viewOf (r .iterator)) → key′ ≡ r .iterator .key → SeeksFlat b target ws key n 0 ws′ key′ k
   seeks-landed {k} {ws′} {key′} e w q = asked (sought (seek (saysOrder (p .order)) b target) (iteratorFrom p) (r .iterator) false ws key ws′ key′ n k (yes saysSeek (s .answer) e) (s .view) w q)
 
-  pub seeks-done : {k : ℕ} {ws′ key′ : List ℕ} → r .answer ≡ SeekDone k → ws′ ≡ cursorWords (viewOf (r .iterator)) → key′ ≡ r .iterator .key → SeeksFlat b target ws key n doneCode ws′ key′ k
+  seeks-done : {k : ℕ} {ws′ key′ : List ℕ} → r .answer ≡ SeekDone k → ws′ ≡ cursorWords (viewOf (r .iterator)) → key′ ≡ r .iterator .key → SeeksFlat b target ws key n doneCode ws′ key′ k
   seeks-done {k} {ws′} {key′} e w q = asked (sought (seek (saysOrder (p .order)) b target) (iteratorFrom p) (r .iterator) true ws key ws′ key′ n k (yes saysSeek (s .answer) e) (s .view) w q)
 
   pub seeks-refused : {x : Refusal} {code : ℕ} → r .answer ≡ SeekRefused x → code ≡ number x → SeeksFlat b target ws key n code ws key n
   seeks-refused {x} {code} e q = asked (not-sought (seek (saysOrder (p .order)) b target) ws key n (number x) code (yes saysSeek (s .answer) e) q)
+
+  -- an answer that is no refusal, by the tag that is tested
+  told-by : {code k : ℕ} {ws′ key′ : List ℕ} (a : SeekAnswer) → r .answer ≡ a → OneOf (0 ∷ 1 ∷ []) (tagOf the-type a) → TellsSought a n code k
+      → ws′ ≡ cursorWords (viewOf (r .iterator)) → key′ ≡ r .iterator .key → SeeksFlat b target ws key n code ws′ key′ k
+  told-by (Landed m) e o t w q = rw (t .answer, t .number) (seeks-landed e w q)
+  told-by (SeekDone m) e o t w q = rw (t .answer, t .number) (seeks-done e w q)
+  told-by (SeekRefused x) e o t w q = absurd (⊎-elim (λ z. omega (arith, z)) (λ z. omega (arith, z)) o)
+
+  pub seeks-told : {code k : ℕ} {ws′ key′ : List ℕ} → OneOf (0 ∷ 1 ∷ []) (tagOf the-type (r .answer)) → TellsSought (r .answer) n code k
+      → ws′ ≡ cursorWords (viewOf (r .iterator)) → key′ ≡ r .iterator .key → SeeksFlat b target ws key n code ws′ key′ k
+  seeks-told o t w q = told-by (r .answer) refl o t w q

@@ -1,5 +1,3 @@
 pub mod Laws
-pub mod Stores
-pub mod Fields
 pub mod Rows
 pub mod Steps

@@ -5,11 +5,9 @@ use mathlib.Core.List.{List, []}
 use lib.ListN.{length}
 use borrow.Author.Tests.{eq-eqb, ne-eqb}
 use Rattle.layout.specs.Answer.{Res, ok, refuse, bind}
-use Rattle.layout.specs.Builder.{Builder, add, dataAfter, placesAfter}
-use Rattle.layout.specs.Key.{Key}
+use Rattle.layout.specs.Builder.{Builder}
 use Rattle.layout.specs.Limits.{maxKey}
-use Rattle.layout.specs.Place.{splice}
-use Rattle.layout.specs.Row.{Fields, encodeRow, written}
+use Rattle.layout.specs.Row.{encodeRow, written}
 use Rattle.layout.specs.RowRead.{decodeRow}
 use Rattle.layout.specs.Laws.Answer.{ok-inj}
 use Rattle.types.specs.Answers.{apart, yes}
@@ -26,22 +24,23 @@ use Rattle.row_decode_v2.specs.declared.Row.{Row}
 use Rattle.row_size_v2.specs.declared.RowFields.{RowFields}
 use Rattle.row_decode_v2.specs.declared.RowRead.{RowRead}
 use Rattle.row_decode_v2.specs.declared.RowRead.the-variants.{Read as ReadRow, Refused as RowRefused}
+use Rattle.block_v2.specs.Promise.{Fits}
 use Rattle.block_grow_v2.specs.Promise.{AddsInPlace, lastAfter}
-use Rattle.block_grow_v2.specs.Says.{viewFrom, stateFrom, saysFit, saysGrown}
+use Rattle.block_grow_v2.specs.Says.{stateFrom, viewFrom, saysFit, saysGrown}
+use Rattle.block_v2.specs.Says.{builderFrom as builderOver}
 use Rattle.block_grow_v2.specs.declared.Fit.{Fit}
 use Rattle.block_grow_v2.specs.declared.Fit.the-variants.{Yes, Refused as FitRefused}
 use Rattle.block_grow_v2.specs.declared.Grown.{Grown}
 use Rattle.block_grow_v2.specs.declared.Grown.the-variants.{Row as GrownRow, Refused as GrownRefused}
 use Rattle.block_grow_v2.specs.declared.State.{State}
-use Rattle.block_v2.specs.Promise.{Fits, Adds, builderAfter}
-use Rattle.block_v2.specs.Says.{builderFrom as builderOver, viewOf, saysAdd}
-use Rattle.block_v2.specs.declared.AddAnswer.the-variants.{Good as GoodAdd, Refused as AddRefused}
-use Rattle.block_v2.specs.declared.Added.{Added}
-use Rattle.block_v2.specs.declared.BlockBuilderV2.{BlockBuilderV2}
-use Rattle.slatedb_block.specs.Words.{badWords, codeOf, builderFrom, builderWords, fieldsIn, rowWords}
-use Rattle.slatedb_block.specs.Says.{stateIn}
-use Rattle.slatedb_block.specs.Promise.{Lays, EncodesFlat, DecodesFlat, FitsFlat, Gain, AddsAs, AddsFlat}
-use Rattle.slatedb_block.proofs.Laws.{counted-not, counted-so, sets-good, sets-refused, only, stayed}
+use Rattle.block_words.specs.Words.{badWords, codeOf, builderFrom, builderWords, fieldsIn, rowWords}
+use Rattle.block_words.specs.Says.{stateIn}
+use Rattle.block_words.specs.Exports.{AddsFlat}
+use Rattle.block_words.proofs.Laws.{counted-not, counted-so}
+use Rattle.block_words.proofs.Adds.{added, unadded, addWanted, adds-asked}
+use Rattle.slatedb_block.specs.Says.{PutsGrown}
+use Rattle.slatedb_block.specs.Promise.{Lays, EncodesFlat, DecodesFlat, FitsFlat}
+use Rattle.slatedb_block.proofs.Laws.{sets-good, sets-refused}
 
 -- ---- encode
 
@@ -98,27 +97,7 @@ module _ (ws last : List ℕ) (dataLen placesLen : ℕ) (key value fs : List ℕ
     pub fits-refused : {x : Refusal} {code : ℕ} → a ≡ FitRefused x → code ≡ number x → FitsFlat ws last dataLen placesLen key value fs code
     fits-refused {x} e q = rw (eq-eqb (length ws) 6 h, eq-eqb (length last) maxKey k, is) (q ∙ sym (ap codeOf (yes saysFit p e)))
 
--- ---- adding a row
-
-abbrev gained : Fields → Builder → Res Gain
-gained f w = ok (record { builder = w; fields = f })
-
--- the builder is wanted, and this is what is left with it
-module _ (want : Res Builder) (v : Builder) (key : Key) (f : Fields) (ws last bytes places bytes′ places′ : List ℕ) (b : bytes′ ≡ dataAfter want v key f bytes)
-    (o : places′ ≡ placesAfter want v places) where
-  added : (w : Builder) → want ≡ ok w → {ws′ last′ : List ℕ} → ws′ ≡ builderWords w → last′ ≡ splice last 0 key
-      → AddsAs (bind want (gained f)) v key ws last bytes places 0 ws′ last′ bytes′ places′
-  added w e s l =
-      let h = rw e at b in
-      let g = rw e at o in
-      rw e (record { answer = refl; state = s; last-after = l; bytes-after = h; places-after = g })
-
-  unadded : (k : ℕ) → want ≡ refuse k → {code : ℕ} {last′ : List ℕ} → code ≡ k → last′ ≡ last
-      → AddsAs (bind want (gained f)) v key ws last bytes places code ws last′ bytes′ places′
-  unadded k e q l =
-      let h = rw e at b in
-      let g = rw e at o in
-      rw e (record { answer = q; state = refl; last-after = l; bytes-after = h; places-after = g })
+-- ---- adding a row in place
 
 grown : (want : Res Builder) (t : State) → (bind want λ v. ok (stateFrom v)) ≡ ok t → {C : Type 0} → ((w : Builder) → want ≡ ok w → stateFrom w ≡ t → C) → C
 grown (ok w) t e k = k w refl (ok-inj e)
@@ -128,62 +107,30 @@ ungrown : (want : Res Builder) (k : ℕ) → (bind want λ v. ok (stateFrom v)) 
 ungrown (ok w) k e = absurd (apart e)
 ungrown (refuse n) k e = ap refuse (ap codeOf e)
 
-some : {A : Type 0} (want : Res A) → only want ≡ ok tt → {C : Type 0} → ((w : A) → want ≡ ok w → C) → C
-some (ok w) e k = k w refl
-some (refuse n) e k = absurd (apart (sym e))
+module _ (ws last bytes places key value fs : List ℕ) (f : RowFields) (h : length ws ≡ 6) (k : length last ≡ maxKey) (is : fieldsIn fs value ≡ ok (fieldsFrom f value)) where
+  abbrev wanted : Res Builder
+  wanted = addWanted ws last bytes places key value f
 
-module _ (ws last bytes places key value fs : List ℕ) where
-  pub adds-short : (length ws ≡ 6 → ⊥) → AddsFlat ws last bytes places key value fs badWords ws last bytes places
-  adds-short h = rw (ne-eqb (length ws) 6 h) (record { answer = refl; state = refl; last-after = refl; bytes-after = refl; places-after = refl })
+  module _ (r : Grown) (last′ bytes′ places′ : List ℕ) (p : AddsInPlace (stateIn ws) last bytes places key value f r last′ bytes′ places′) where
+    adds-grown : {t : State} {ws′ : List ℕ} → r ≡ GrownRow t → ws′ ≡ builderWords (viewFrom t []) → AddsFlat ws last bytes places key value fs 0 ws′ last′ bytes′ places′
+    adds-grown {t} e s =
+        let q = rw (eq-eqb (length last) maxKey k) at p in
+        grown wanted t (yes saysGrown (q .answer) e) λ w z same.
+        adds-asked ws last bytes places key value fs f h k is
+        (added wanted (builderFrom ws last) key (fieldsFrom f value) ws last bytes places bytes′ places′ (q .bytes-after) (q .places-after) w z
+        (s ∙ ap (λ (x : State). builderWords (viewFrom x [])) (sym same))
+        (q .last-after ∙ ap (λ (x : Res Builder). lastAfter x key last) z))
 
-  pub adds-no-key : length ws ≡ 6 → (length last ≡ maxKey → ⊥) → AddsFlat ws last bytes places key value fs badWords ws last bytes places
-  adds-no-key h k = rw (eq-eqb (length ws) 6 h, ne-eqb (length last) maxKey k) (record { answer = refl; state = refl; last-after = refl; bytes-after = refl; places-after = refl })
+    adds-refused : {x : Refusal} {code : ℕ} → r ≡ GrownRefused x → code ≡ number x → AddsFlat ws last bytes places key value fs code ws last′ bytes′ places′
+    adds-refused {x} e c =
+        let q = rw (eq-eqb (length last) maxKey k) at p in
+        let z = ungrown wanted (number x) (yes saysGrown (q .answer) e) in
+        adds-asked ws last bytes places key value fs f h k is
+        (unadded wanted (builderFrom ws last) key (fieldsFrom f value) ws last bytes places bytes′ places′ (q .bytes-after) (q .places-after) (number x) z c
+        (q .last-after ∙ ap (λ (x : Res Builder). lastAfter x key last) z))
 
-  pub adds-bad : length ws ≡ 6 → length last ≡ maxKey → fieldsIn fs value ≡ refuse badWords → AddsFlat ws last bytes places key value fs badWords ws last bytes places
-  adds-bad h k e =
-      rw (eq-eqb (length ws) 6 h, eq-eqb (length last) maxKey k, e) (record { answer = refl; state = refl; last-after = refl; bytes-after = refl; places-after = refl })
-
-  module _ (f : RowFields) (h : length ws ≡ 6) (k : length last ≡ maxKey) (is : fieldsIn fs value ≡ ok (fieldsFrom f value)) where
-    abbrev wanted : Res Builder
-    wanted = add (builderFrom ws last) (length bytes) (length places) key (fieldsFrom f value)
-
-    asked : {code : ℕ} {ws′ last′ bytes′ places′ : List ℕ}
-        → AddsAs (bind wanted (gained (fieldsFrom f value))) (builderFrom ws last) key ws last bytes places code ws′ last′ bytes′ places′
-        → AddsFlat ws last bytes places key value fs code ws′ last′ bytes′ places′
-    asked a = rw (eq-eqb (length ws) 6 h, eq-eqb (length last) maxKey k, is) a
-
-    -- in place
-    module _ (r : Grown) (last′ bytes′ places′ : List ℕ) (p : AddsInPlace (stateIn ws) last bytes places key value f r last′ bytes′ places′) where
-      pub adds-grown : {t : State} {ws′ : List ℕ} → r ≡ GrownRow t → ws′ ≡ builderWords (viewFrom t []) → AddsFlat ws last bytes places key value fs 0 ws′ last′ bytes′ places′
-      adds-grown {t} e s =
-          let q = rw (eq-eqb (length last) maxKey k) at p in
-          grown wanted t (yes saysGrown (q .answer) e) λ w z is.
-          asked
-          (added wanted (builderFrom ws last) key (fieldsFrom f value) ws last bytes places bytes′ places′ (q .bytes-after) (q .places-after) w z
-          (s ∙ ap (λ (x : State). builderWords (viewFrom x [])) (sym is))
-          (q .last-after ∙ ap (λ (x : Res Builder). lastAfter x key last) z))
-
-      pub adds-refused : {x : Refusal} {code : ℕ} → r ≡ GrownRefused x → code ≡ number x → AddsFlat ws last bytes places key value fs code ws last′ bytes′ places′
-      adds-refused {x} e c =
-          let q = rw (eq-eqb (length last) maxKey k) at p in
-          let z = ungrown wanted (number x) (yes saysGrown (q .answer) e) in
-          asked
-          (unadded wanted (builderFrom ws last) key (fieldsFrom f value) ws last bytes places bytes′ places′ (q .bytes-after) (q .places-after) (number x) z c
-          (q .last-after ∙ ap (λ (x : Res Builder). lastAfter x key last) z))
-
-    -- by value
-    module _ (r : Added) (bytes′ places′ : List ℕ) (p : Adds (builderOver (stateIn ws) last) bytes places key value f r bytes′ places′) where
-      pub adds-good : {ws′ last′ : List ℕ} → r .answer ≡ GoodAdd → ws′ ≡ builderWords (viewOf (r .builder)) → last′ ≡ r .builder .«last_key»
-          → AddsFlat ws last bytes places key value fs 0 ws′ last′ bytes′ places′
-      adds-good e s l =
-          some wanted (yes saysAdd (p .answer) e) λ w z.
-          let whole = p .whole ∙ ap (λ (x : Res Builder). builderAfter x key (builderOver (stateIn ws) last)) z in
-          asked
-          (added wanted (builderFrom ws last) key (fieldsFrom f value) ws last bytes places bytes′ places′ (p .bytes-after) (p .places-after) w z
-          (s ∙ ap (λ (x : BlockBuilderV2). builderWords (viewOf x)) whole)
-          (l ∙ ap (λ (x : BlockBuilderV2). x .«last_key») whole))
-
-      pub adds-turned-down : {x : Refusal} {code : ℕ} → r .answer ≡ AddRefused x → code ≡ number x → AddsFlat ws last bytes places key value fs code ws last bytes′ places′
-      adds-turned-down {x} e c =
-          let z = stayed wanted (number x) (yes saysAdd (p .answer) e) in
-          asked (unadded wanted (builderFrom ws last) key (fieldsFrom f value) ws last bytes places bytes′ places′ (p .bytes-after) (p .places-after) (number x) z c refl)
+  -- whatever was answered, and what `put_grown` left of it
+  pub adds-put : (r : Grown) (last′ bytes′ places′ : List ℕ) → AddsInPlace (stateIn ws) last bytes places key value f r last′ bytes′ places′ → {code : ℕ} {ws′ : List ℕ}
+      → PutsGrown r ws code ws′ → AddsFlat ws last bytes places key value fs code ws′ last′ bytes′ places′
+  adds-put (GrownRow t) last′ bytes′ places′ p g = rw (g .answer) (adds-grown (GrownRow t) last′ bytes′ places′ p refl (g .state))
+  adds-put (GrownRefused x) last′ bytes′ places′ p g = rw (g .state) (adds-refused (GrownRefused x) last′ bytes′ places′ p refl (g .answer))

@@ -1,128 +1,55 @@
--- A step: what each of its exits leaves, in place and by value alike, from the answer, the cursor and the buffer that the step below promised.
+-- A step in place: what each of its exits leaves, from what `next_in_place` promised.
 use Prim.Native.Nat.{ℕ}
-use mathlib.Core.Path.{_≡_, refl, ap, subst, sym, _∙_}
+use mathlib.Core.Path.{_≡_, refl, ap, sym, _∙_}
 use mathlib.Core.List.{List}
-use lib.ListN.{length, take}
-use borrow.Author.Tests.{eq-eqb, ne-eqb}
-use Rattle.layout.specs.Answer.{Res, ok, refuse, bind}
-use Rattle.layout.specs.Cursor.{Cursor, Answer, found, done, Step, stepIs, next, cursorAfter, keyAfter}
+use lib.ListN.{length}
+use Rattle.layout.specs.Answer.{ok}
+use Rattle.layout.specs.Cursor.{next}
 use Rattle.layout.specs.Limits.{maxKey}
-use Rattle.layout.specs.RowRead.{RowRead as RowReadL}
-use Rattle.layout.specs.Laws.Answer.{ok-inj}
-use Rattle.types.specs.Answers.{apart, yes}
+use Rattle.types.specs.Answers.{yes}
 use Rattle.types.specs.Number.{number}
 use Rattle.types.specs.declared.Refusal.{Refusal}
 use Rattle.row_decode_v2.specs.Says.{rowFrom}
 use Rattle.row_decode_v2.specs.declared.Row.{Row}
 use Rattle.block_step_v2.specs.Lent.{lent-whole}
 use Rattle.block_step_v2.specs.Promise.{StepsInPlace, Moves}
-use Rattle.block_step_v2.specs.Says.{viewIn, row as row-told, none, toldOf, told, saysMoved, placeAfter, told-row, told-apart}
+use Rattle.block_step_v2.specs.Says.{viewIn, saysMoved, placeAfter}
 use Rattle.block_step_v2.specs.declared.Moved.{Moved}
 use Rattle.block_step_v2.specs.declared.Moved.the-variants.{Found, Done, Refused}
 use Rattle.block_step_v2.specs.declared.Place.{Place}
-use Rattle.block_iterator_v2.specs.Promise.{StepsNext}
-use Rattle.block_iterator_v2.specs.Says.{viewOf, saysNext}
-use Rattle.block_iterator_v2.specs.declared.Next.{Next}
-use Rattle.block_iterator_v2.specs.declared.NextAnswer.the-variants.{Found as NextFound, Done as NextDone, Refused as NextRefused}
-use Rattle.slatedb_block.specs.Words.{badWords, doneCode, codeOf, cursorIn, cursorWords, rowWords}
-use Rattle.slatedb_block.specs.Says.{iteratorOver}
-use Rattle.slatedb_block.specs.Promise.{StepsAs, StepsFlat}
+use Rattle.block_words.specs.Words.{doneCode, cursorIn, cursorWords, rowWords}
+use Rattle.block_words.specs.Exports.{StepsFlat}
+use Rattle.slatedb_block.specs.Says.{PutsMoved}
+use Rattle.block_words.proofs.Steps.{stepped, ended, refused, told-refused, steps-asked}
 
--- ---- a step that is wanted of the cursor c, and the cursor d, key buffer and row that it left
+module _ (b ws key out row : List ℕ) (p : Place) (h : length row ≡ 13) (k : length key ≡ maxKey) (is : cursorIn ws key ≡ ok (viewIn p key)) where
+  module _ (r : Moved) (key′ out′ : List ℕ) (m : StepsInPlace p key b out r key′ out′) where
+    whole : Moves (next (viewIn p key) b (length out)) p key out r key′ out′
+    whole = rw (lent-whole p key b (length out) k refl) at m
 
-module _ (d : Cursor) (ws key out row ws′ key′ out′ : List ℕ) (w : ws′ ≡ cursorWords d) (k : take (d .keyLen) key′ ≡ d .key) where
-  -- with the step taken apart into its cursor and its answer
-  found-row : (a : Answer) (r : RowReadL) {row′ : List ℕ} → ok (toldOf a) ≡ ok (row-told r) → out′ ≡ keyAfter (ok (stepIs d a)) out → row′ ≡ rowWords r
-      → StepsAs (ok (stepIs d a)) ws key out row 0 ws′ key′ out′ row′
-  found-row (found s given) r e o q = record { answer = refl; state = w; key-bytes = k; lent = o; row-words = q ∙ sym (ap rowWords (told-row (ok-inj e))) }
-  found-row done r e o q = absurd (told-apart (sym (ok-inj e)))
+    moved-found : {q : Place} {x : Row} {ws′ row′ : List ℕ} → r ≡ Found q x → ws′ ≡ cursorWords (viewIn q key′) → row′ ≡ rowWords (rowFrom x)
+        → StepsFlat b ws key out row 0 ws′ key′ out′ row′
+    moved-found {q} {x} {ws′} e w z =
+        steps-asked b ws key out row p h k is
+        (stepped (viewIn q key′) ws key out row ws′ key′ out′ w refl (viewIn p key) (next (viewIn p key) b (length out)) (rowFrom x) (yes saysMoved (whole .answer) e)
+        (sym (ap (λ (y : Moved). viewIn (placeAfter y p) key′) e) ∙ whole .view) (whole .lent) z)
 
-  none-left : (a : Answer) → ok (toldOf a) ≡ ok none → out′ ≡ keyAfter (ok (stepIs d a)) out → StepsAs (ok (stepIs d a)) ws key out row doneCode ws′ key′ out′ row
-  none-left (found s given) e o = absurd (told-apart (ok-inj e))
-  none-left done e o = record { answer = refl; state = w; key-bytes = k; lent = o; row-words = refl }
+    moved-done : {q : Place} {ws′ : List ℕ} → r ≡ Done q → ws′ ≡ cursorWords (viewIn q key′) → StepsFlat b ws key out row doneCode ws′ key′ out′ row
+    moved-done {q} {ws′} e w =
+        steps-asked b ws key out row p h k is
+        (ended (viewIn q key′) ws key out row ws′ key′ out′ w refl (viewIn p key) (next (viewIn p key) b (length out)) (yes saysMoved (whole .answer) e)
+        (sym (ap (λ (y : Moved). viewIn (placeAfter y p) key′) e) ∙ whole .view) (whole .lent))
 
-  module _ (c : Cursor) where
-    stepped : (want : Res Step) (r : RowReadL) {row′ : List ℕ} → bind want told ≡ ok (row-told r) → d ≡ cursorAfter want c → out′ ≡ keyAfter want out → row′ ≡ rowWords r
-        → StepsAs want ws key out row 0 ws′ key′ out′ row′
-    stepped (ok s) r {row′} e v o q =
-        subst (λ (x : Cursor). StepsAs (ok (stepIs x (s .answer))) ws key out row 0 ws′ key′ out′ row′) v
-        (found-row (s .answer) r e o q)
-    stepped (refuse n) r e v o q = absurd (apart (sym e))
+    moved-refused : {x : Refusal} {code : ℕ} → r ≡ Refused x → code ≡ number x → StepsFlat b ws key out row code ws key′ out′ row
+    moved-refused {x} {code} e q =
+        let said = yes saysMoved (whole .answer) e in
+        let z = told-refused (next (viewIn p key) b (length out)) (number x) said in
+        steps-asked b ws key out row p h k is
+        (refused ws key out row out′ key′ (next (viewIn p key) b (length out)) (number x) code said q z (whole .lent) (rw z at (whole .whole)))
 
-    ended : (want : Res Step) → bind want told ≡ ok none → d ≡ cursorAfter want c → out′ ≡ keyAfter want out → StepsAs want ws key out row doneCode ws′ key′ out′ row
-    ended (ok s) e v o =
-        subst (λ (x : Cursor). StepsAs (ok (stepIs x (s .answer))) ws key out row doneCode ws′ key′ out′ row) v
-        (none-left (s .answer) e o)
-    ended (refuse n) e v o = absurd (apart (sym e))
-
-refused : (ws key out row out′ key′ : List ℕ) (want : Res Step) (k code : ℕ) → bind want told ≡ refuse k → code ≡ k → want ≡ refuse k → out′ ≡ keyAfter want out → key′ ≡ key
-    → StepsAs want ws key out row code ws key′ out′ row
-refused ws key out row out′ key′ want k code e q z o b = rw z (record { answer = q; state = refl; key-bytes = b; lent = o ∙ ap (λ (x : Res Step). keyAfter x out) z; row-words = refl })
-
-told-refused : (want : Res Step) (k : ℕ) → bind want told ≡ refuse k → want ≡ refuse k
-told-refused (ok s) k e = absurd (apart e)
-told-refused (refuse n) k e = ap refuse (ap codeOf e)
-
--- ---- the exports
-
-module _ (b ws key out row : List ℕ) where
-  pub steps-no-row : (length row ≡ 13 → ⊥) → StepsFlat b ws key out row badWords ws key out row
-  steps-no-row h = rw (ne-eqb (length row) 13 h) (record { answer = refl; state = refl; key-bytes = refl; lent = refl; row-words = refl })
-
-  pub steps-no-key : length row ≡ 13 → (length key ≡ maxKey → ⊥) → StepsFlat b ws key out row badWords ws key out row
-  steps-no-key h k = rw (eq-eqb (length row) 13 h, ne-eqb (length key) maxKey k) (record { answer = refl; state = refl; key-bytes = refl; lent = refl; row-words = refl })
-
-  pub steps-no-cursor : length row ≡ 13 → length key ≡ maxKey → cursorIn ws key ≡ refuse badWords → StepsFlat b ws key out row badWords ws key out row
-  steps-no-cursor h k e =
-      rw (eq-eqb (length row) 13 h, eq-eqb (length key) maxKey k, e) (record { answer = refl; state = refl; key-bytes = refl; lent = refl; row-words = refl })
-
-  module _ (p : Place) (h : length row ≡ 13) (k : length key ≡ maxKey) (is : cursorIn ws key ≡ ok (viewIn p key)) where
-    asked : {code : ℕ} {ws′ key′ out′ row′ : List ℕ} → StepsAs (next (viewIn p key) b (length out)) ws key out row code ws′ key′ out′ row′
-        → StepsFlat b ws key out row code ws′ key′ out′ row′
-    asked s = rw (eq-eqb (length row) 13 h, eq-eqb (length key) maxKey k, is) s
-
-    -- in place
-    module _ (r : Moved) (key′ out′ : List ℕ) (m : StepsInPlace p key b out r key′ out′) where
-      whole : Moves (next (viewIn p key) b (length out)) p key out r key′ out′
-      whole = rw (lent-whole p key b (length out) k refl) at m
-
-      pub moved-found : {q : Place} {x : Row} {ws′ row′ : List ℕ} → r ≡ Found q x → ws′ ≡ cursorWords (viewIn q key′) → row′ ≡ rowWords (rowFrom x)
-          → StepsFlat b ws key out row 0 ws′ key′ out′ row′
-      moved-found {q} {x} {ws′} e w z =
-          asked
-          (stepped (viewIn q key′) ws key out row ws′ key′ out′ w refl (viewIn p key) (next (viewIn p key) b (length out)) (rowFrom x) (yes saysMoved (whole .answer) e)
-          (sym (ap (λ (y : Moved). viewIn (placeAfter y p) key′) e) ∙ whole .view) (whole .lent) z)
-
-      pub moved-done : {q : Place} {ws′ : List ℕ} → r ≡ Done q → ws′ ≡ cursorWords (viewIn q key′) → StepsFlat b ws key out row doneCode ws′ key′ out′ row
-      moved-done {q} {ws′} e w =
-          asked
-          (ended (viewIn q key′) ws key out row ws′ key′ out′ w refl (viewIn p key) (next (viewIn p key) b (length out)) (yes saysMoved (whole .answer) e)
-          (sym (ap (λ (y : Moved). viewIn (placeAfter y p) key′) e) ∙ whole .view) (whole .lent))
-
-      pub moved-refused : {x : Refusal} {code : ℕ} → r ≡ Refused x → code ≡ number x → StepsFlat b ws key out row code ws key′ out′ row
-      moved-refused {x} {code} e q =
-          let said = yes saysMoved (whole .answer) e in
-          let z = told-refused (next (viewIn p key) b (length out)) (number x) said in
-          asked (refused ws key out row out′ key′ (next (viewIn p key) b (length out)) (number x) code said q z (whole .lent) (rw z at (whole .whole)))
-
-    -- by value
-    module _ (r : Next) (out′ : List ℕ) (s : StepsNext (iteratorOver p key) b out r out′) where
-      pub next-found : {x : Row} {ws′ key′ row′ : List ℕ} → r .answer ≡ NextFound x → ws′ ≡ cursorWords (viewOf (r .iterator)) → key′ ≡ r .iterator .key → row′ ≡ rowWords (rowFrom x)
-          → StepsFlat b ws key out row 0 ws′ key′ out′ row′
-      next-found {x} {ws′} {key′} e w q z =
-          asked
-          (stepped (viewOf (r .iterator)) ws key out row ws′ key′ out′ w (ap (take (r .iterator .«key_len»)) q) (viewIn p key) (next (viewIn p key) b (length out)) (rowFrom x)
-          (yes saysNext (s .answer) e) (s .view) (s .lent) z)
-
-      pub next-done : {ws′ key′ : List ℕ} → r .answer ≡ NextDone → ws′ ≡ cursorWords (viewOf (r .iterator)) → key′ ≡ r .iterator .key
-          → StepsFlat b ws key out row doneCode ws′ key′ out′ row
-      next-done {ws′} {key′} e w q =
-          asked
-          (ended (viewOf (r .iterator)) ws key out row ws′ key′ out′ w (ap (take (r .iterator .«key_len»)) q) (viewIn p key) (next (viewIn p key) b (length out))
-          (yes saysNext (s .answer) e) (s .view) (s .lent))
-
-      pub next-refused : {x : Refusal} {code : ℕ} → r .answer ≡ NextRefused x → code ≡ number x → StepsFlat b ws key out row code ws key out′ row
-      next-refused {x} {code} e q =
-          let said = yes saysNext (s .answer) e in
-          let z = told-refused (next (viewIn p key) b (length out)) (number x) said in
-          asked (refused ws key out row out′ key (next (viewIn p key) b (length out)) (number x) code said q z (s .lent) refl)
+  -- whatever was answered, and what `put_moved` left of it
+  pub moved-put : (r : Moved) (key′ out′ : List ℕ) → StepsInPlace p key b out r key′ out′ → {code : ℕ} {ws′ row′ : List ℕ} → PutsMoved r ws row code ws′ row′
+      → StepsFlat b ws key out row code ws′ key′ out′ row′
+  moved-put (Found q x) key′ out′ m g = rw (g .answer) (moved-found (Found q x) key′ out′ m refl (g .state) (g .row-words))
+  moved-put (Done q) key′ out′ m g = rw (g .answer, g .row-words) (moved-done (Done q) key′ out′ m refl (g .state))
+  moved-put (Refused x) key′ out′ m g = rw (g .state, g .row-words) (moved-refused (Refused x) key′ out′ m refl (g .answer))

@@ -1,16 +1,15 @@
 -- Each promise admits one outcome: two codes, with the words, numbers and bytes that they leave, that both keep it are equal; but for the key bytes past the length of
--- the key that a moved cursor carries. The functions by value keep the promises of the others, so one law is for both.
+-- the key that a sought cursor carries. The laws of `slatedb_builder_add` and `slatedb_next` are those of the functions by value too: `OneOutcome` of `block_words`.
 use Prim.Native.Nat.{ℕ}
 use mathlib.Core.Path.{_≡_, sym, _∙_}
 use mathlib.Core.List.{List}
-use lib.ListN.{length, take}
-use Rattle.layout.specs.Answer.{Res, ok, refuse, bind}
-use Rattle.layout.specs.Cursor.{Cursor, next}
+use Rattle.layout.specs.Answer.{Res, bind}
 use Rattle.layout.specs.Key.{Key}
 use Rattle.layout.specs.Limits.{maxKey}
 use Rattle.layout.specs.Seek.{seek}
-use Rattle.slatedb_block.specs.Words.{counted, cursorIn}
-use Rattle.slatedb_block.specs.Promise.{Tells, Sets, EncodesFlat, DecodesFlat, MakesFlat, FitsFlat, AddsFlat, EmptiesFlat, BuildsFlat, ChecksFlat, OpensFlat, TellsFlat, KeyLeft, StepsFlat, SeeksFlat}
+use Rattle.block_words.specs.Words.{counted, cursorIn}
+use Rattle.block_words.specs.OneOutcome.{SameKey, same-key}
+use Rattle.slatedb_block.specs.Promise.{Tells, Sets, EncodesFlat, DecodesFlat, MakesFlat, FitsFlat, EmptiesFlat, BuildsFlat, ChecksFlat, OpensFlat, TellsFlat, SeeksFlat}
 
 tells-settled : {want : Res ℕ} {n c d x y : ℕ} → Tells want n c x → Tells want n d y → (c ≡ d) × (x ≡ y)
 tells-settled a b = (a .answer ∙ sym (b .answer), a .number ∙ sym (b .number))
@@ -36,18 +35,6 @@ pub builder-would-fit-settled : (ws last : List ℕ) (dataLen placesLen : ℕ) (
     → FitsFlat ws last dataLen placesLen key value fs c → FitsFlat ws last dataLen placesLen key value fs d → c ≡ d
 builder-would-fit-settled ws last dataLen placesLen key value fs c d a b = a ∙ sym b
 
--- slatedb_builder_add and slatedb_builder_add_by_value
-pub builder-add-settled : (ws last bytes places : List ℕ) (key : Key) (value fs : List ℕ) (c d : ℕ) (vs ws′ ks ls ys zs os ps : List ℕ)
-    → AddsFlat ws last bytes places key value fs c vs ks ys os → AddsFlat ws last bytes places key value fs d ws′ ls zs ps
-    → (c ≡ d) × (vs ≡ ws′) × (ks ≡ ls) × (ys ≡ zs) × (os ≡ ps)
-builder-add-settled ws last bytes places key value fs c d vs ws′ ks ls ys zs os ps a b = (
-  a .answer ∙ sym (b .answer),
-  a .state ∙ sym (b .state),
-  a .last-after ∙ sym (b .last-after),
-  a .bytes-after ∙ sym (b .bytes-after),
-  a .places-after ∙ sym (b .places-after),
-)
-
 pub builder-is-empty-settled : (ws : List ℕ) (n c d x y : ℕ) → EmptiesFlat ws n c x → EmptiesFlat ws n d y → (c ≡ d) × (x ≡ y)
 builder-is-empty-settled ws n c d x y a b = tells-settled a b
 
@@ -69,27 +56,6 @@ open-settled b order ws c d ys zs m l = sets-settled m l
 
 pub is-empty-settled : (b ws : List ℕ) (n c d x y : ℕ) → TellsFlat b ws n c x → TellsFlat b ws n d y → (c ≡ d) × (x ≡ y)
 is-empty-settled b ws n c d x y m l = tells-settled m l
-
--- key bytes that agree: as far as the cursor's key goes, and after a refusal whole
-abbrev pub SameKey : {A : Type 0} → Res A → (A → Cursor) → List ℕ → List ℕ → Type 0
-SameKey (ok a) left ks ls = take (left a .keyLen) ks ≡ take (left a .keyLen) ls
-SameKey (refuse n) left ks ls = ks ≡ ls
-
-same-key : {A : Type 0} (want : Res A) (left : A → Cursor) (key ks ls : List ℕ) → KeyLeft want left key ks → KeyLeft want left key ls → SameKey want left ks ls
-same-key (ok a) left key ks ls m l = m ∙ sym l
-same-key (refuse n) left key ks ls m l = m ∙ sym l
-
--- slatedb_next and slatedb_next_by_value
-pub next-settled : (b ws key out row : List ℕ) (c d : ℕ) (vs us ks ls ys zs rs qs : List ℕ)
-    → StepsFlat b ws key out row c vs ks ys rs → StepsFlat b ws key out row d us ls zs qs
-    → (c ≡ d) × (vs ≡ us) × SameKey (counted row 13 (counted key maxKey (bind (cursorIn ws key) λ k. next k b (length out)))) (λ s. s .cursor) ks ls × (ys ≡ zs) × (rs ≡ qs)
-next-settled b ws key out row c d vs us ks ls ys zs rs qs m l = (
-  m .answer ∙ sym (l .answer),
-  m .state ∙ sym (l .state),
-  same-key (counted row 13 (counted key maxKey (bind (cursorIn ws key) λ k. next k b (length out)))) (λ s. s .cursor) key ks ls (m .key-bytes) (l .key-bytes),
-  m .lent ∙ sym (l .lent),
-  m .row-words ∙ sym (l .row-words),
-)
 
 pub seek-settled : (b target ws key : List ℕ) (n c d : ℕ) (vs us ks ls : List ℕ) (x y : ℕ)
     → SeeksFlat b target ws key n c vs ks x → SeeksFlat b target ws key n d us ls y

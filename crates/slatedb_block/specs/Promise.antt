@@ -1,20 +1,21 @@
 -- What each function promises: the code that it answers, and what each lent word and byte is after it, as equations to the definitions of `layout`.
+-- `AddsFlat` and `StepsFlat`, which the functions by value keep too, are in `Exports` of `block_words`.
 use Prim.Native.Nat.{ℕ}
 use mathlib.Core.Bool.{cond}
 use mathlib.Core.Path.{_≡_}
 use mathlib.Core.List.{List, []}
-use lib.ListN.{length, take}
+use lib.ListN.{length}
 use Rattle.layout.specs.Answer.{Res, ok, refuse, bind}
 use Rattle.layout.specs.Limits.{maxKey}
 use Rattle.layout.specs.Key.{Key}
-use Rattle.layout.specs.Place.{splice}
-use Rattle.layout.specs.Row.{Fields, encodeRow, written}
+use Rattle.layout.specs.Row.{encodeRow, written}
 use Rattle.layout.specs.RowRead.{decodeRow}
-use Rattle.layout.specs.Builder.{Builder, newBuilder, isEmpty as isEmptyBuilder, wouldFit, add, dataAfter, placesAfter, build, blockAfter}
+use Rattle.layout.specs.Builder.{Builder, newBuilder, isEmpty as isEmptyBuilder, wouldFit, build, blockAfter}
 use Rattle.layout.specs.Check.{check}
-use Rattle.layout.specs.Cursor.{Cursor, openBlock, isEmpty, Answer, found, done, Step, next, keyAfter}
+use Rattle.layout.specs.Cursor.{openBlock, isEmpty}
 use Rattle.layout.specs.Seek.{Sought, seek}
-use Rattle.slatedb_block.specs.Words.{doneCode, codeOf, setBy, counted, truthWord, orderIn, cursorIn, cursorWords, builderFrom, builderIn, builderWords, fieldsIn, rowWords}
+use Rattle.block_words.specs.Words.{doneCode, codeOf, setBy, counted, truthWord, orderIn, cursorIn, cursorWords, builderFrom, builderIn, builderWords, fieldsIn, rowWords}
+use Rattle.block_words.specs.Exports.{KeyLeft}
 
 -- a number that is wanted in a lent word
 pub record Tells (want : Res ℕ) (n code n′ : ℕ) : Type 0 where
@@ -48,26 +49,6 @@ abbrev pub FitsFlat : List ℕ → Key → ℕ → ℕ → Key → List ℕ → 
 FitsFlat ws last dataLen placesLen key value fs code =
     code ≡ codeOf (counted ws 6 (counted last maxKey (bind (fieldsIn fs value) λ f. wouldFit (builderFrom ws last) dataLen placesLen key f)))
 
--- a row that is added: the builder then, and what was offered with the key
-pub record Gain : Type 0 where
-  pub builder : Builder
-  pub fields : Fields
-
-abbrev pub gain : Builder → List ℕ → List ℕ → Key → Fields → Res Gain
-gain v bytes places key f = bind (add v (length bytes) (length places) key f) λ w. ok (record { builder = w; fields = f })
-
-pub record AddsAs (want : Res Gain) (v : Builder) (key : Key) (ws last bytes places : List ℕ) (code : ℕ) (ws′ last′ bytes′ places′ : List ℕ) : Type 0 where
-  pub answer : code ≡ codeOf want
-  pub state : ws′ ≡ setBy want (λ g. builderWords (g .builder)) ws
-  pub last-after : last′ ≡ setBy want (λ g. splice last 0 key) last
-  pub bytes-after : bytes′ ≡ setBy want (λ g. dataAfter (ok (g .builder)) v key (g .fields) bytes) bytes
-  pub places-after : places′ ≡ setBy want (λ g. placesAfter (ok (g .builder)) v places) places
-
-abbrev pub AddsFlat : List ℕ → Key → List ℕ → List ℕ → Key → List ℕ → List ℕ → ℕ → List ℕ → List ℕ → List ℕ → List ℕ → Type 0
-AddsFlat ws last bytes places key value fs code ws′ last′ bytes′ places′ =
-    AddsAs (counted ws 6 (counted last maxKey (bind (fieldsIn fs value) λ f. gain (builderFrom ws last) bytes places key f))) (builderFrom ws last) key ws last bytes places
-    code ws′ last′ bytes′ places′
-
 -- the bytes of the last key tell nothing: none are lent
 abbrev pub EmptiesFlat : List ℕ → ℕ → ℕ → ℕ → Type 0
 EmptiesFlat ws n code n′ = Tells (bind (builderIn ws []) λ v. ok (truthWord (isEmptyBuilder v))) n code n′
@@ -89,35 +70,6 @@ OpensFlat b order ws code ws′ = Sets (counted ws 5 (bind (orderIn order) λ d.
 
 abbrev pub TellsFlat : List ℕ → List ℕ → ℕ → ℕ → ℕ → Type 0
 TellsFlat b ws n code n′ = Tells (bind (cursorIn ws []) λ c. bind (isEmpty c b) λ e. ok (truthWord e)) n code n′
-
--- the key's bytes beside the cursor that a call leaves: those of its key; a refusal leaves them all
-abbrev pub KeyLeft : {A : Type 0} → Res A → (A → Cursor) → List ℕ → List ℕ → Type 0
-KeyLeft (ok a) left key key′ = take (left a .keyLen) key′ ≡ left a .key
-KeyLeft (refuse n) left key key′ = key′ ≡ key
-
--- "done" has a code of its own
-abbrev pub answerCode : Answer → ℕ
-answerCode (found r key) = 0
-answerCode done = doneCode
-
-abbrev pub stepCode : Res Step → ℕ
-stepCode (ok s) = answerCode (s .answer)
-stepCode (refuse n) = n
-
-abbrev pub rowGiven : List ℕ → Answer → List ℕ
-rowGiven row (found r key) = rowWords r
-rowGiven row done = row
-
-pub record StepsAs (want : Res Step) (ws key out row : List ℕ) (code : ℕ) (ws′ key′ out′ row′ : List ℕ) : Type 0 where
-  pub answer : code ≡ stepCode want
-  pub state : ws′ ≡ setBy want (λ s. cursorWords (s .cursor)) ws
-  pub key-bytes : KeyLeft want (λ s. s .cursor) key key′
-  pub lent : out′ ≡ keyAfter want out
-  pub row-words : row′ ≡ setBy want (λ s. rowGiven row (s .answer)) row
-
-abbrev pub StepsFlat : List ℕ → List ℕ → List ℕ → List ℕ → List ℕ → ℕ → List ℕ → List ℕ → List ℕ → List ℕ → Type 0
-StepsFlat b ws key out row code ws′ key′ out′ row′ =
-    StepsAs (counted row 13 (counted key maxKey (bind (cursorIn ws key) λ c. next c b (length out)))) ws key out row code ws′ key′ out′ row′
 
 abbrev pub seekCode : Res Sought → ℕ
 seekCode (ok s) = cond (s .cursor .mark) doneCode 0

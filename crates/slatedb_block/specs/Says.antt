@@ -1,115 +1,67 @@
--- What the private functions answer: words as the cases and structs of the crates below.
+-- What the private functions leave, by the case of the answer that they are given: a code, and lent words.
 use Prim.Native.Nat.{ℕ}
-use mathlib.Core.Bool.{Bool}
-use mathlib.Core.List.{List}
 use mathlib.Core.Path.{_≡_}
-use lib.ListN.{replicate}
-use Rattle.layout.specs.Answer.{Res, ok, refuse}
-use Rattle.layout.specs.Cursor.{Direction, Cursor}
-use Rattle.layout.specs.Limits.{maxKey}
-use Rattle.layout.specs.Fixed.{bits}
-use Rattle.layout.specs.Row.{Kind as KindL, Time as TimeL, Fields}
-use Rattle.block_iterator_v2.specs.declared.BlockIteratorV2.{BlockIteratorV2}
-use Rattle.block_iterator_v2.specs.Says.{viewOf}
-use Rattle.block_grow_v2.specs.declared.State.{State}
-use Rattle.block_v2.specs.declared.BlockBuilderV2.{BlockBuilderV2}
-use Rattle.block_v2.specs.Says.{builderFrom, viewOf as viewOfBuilder}
-use Rattle.types.specs.Says.{saysOrder, saysKind, saysTime}
-use Rattle.types.specs.declared.Time.{Time}
-use Rattle.types.specs.declared.Time.the-variants.{Absent, At}
-use Rattle.types.specs.declared.ValueDeletable.{ValueDeletable}
-use Rattle.types.specs.declared.ValueDeletable.the-variants.{Value, Tombstone, Merge}
-use Rattle.row_size_v2.specs.Says.{fieldsFrom}
-use Rattle.block_step_v2.specs.declared.Place.{Place}
+use mathlib.Core.List.{List, []}
+use Rattle.types.specs.Number.{number}
+use Rattle.row_decode_v2.specs.Says.{rowFrom}
+use Rattle.block_grow_v2.specs.Says.{viewFrom}
+use Rattle.block_grow_v2.specs.declared.Grown.{Grown}
+use Rattle.block_grow_v2.specs.declared.Grown.the-variants.{Row as GrownRow, Refused as GrownRefused}
 use Rattle.block_step_v2.specs.Says.{viewIn}
-use Rattle.slatedb_block.specs.declared.TruthRead.{TruthRead}
-use Rattle.slatedb_block.specs.declared.TruthRead.the-variants.{Is as IsTruth, Bad as BadTruth}
-use Rattle.slatedb_block.specs.declared.OrderRead.{OrderRead}
-use Rattle.slatedb_block.specs.declared.OrderRead.the-variants.{Is as IsOrder, Bad as BadOrder}
-use Rattle.slatedb_block.specs.declared.CursorRead.{CursorRead}
-use Rattle.slatedb_block.specs.declared.CursorRead.the-variants.{Is as IsCursor, Bad as BadCursor}
-use Rattle.slatedb_block.specs.declared.KindRead.{KindRead}
-use Rattle.slatedb_block.specs.declared.KindRead.the-variants.{Is as IsKind, Bad as BadKind}
-use Rattle.slatedb_block.specs.declared.TimeRead.{TimeRead}
-use Rattle.slatedb_block.specs.declared.TimeRead.the-variants.{Is as IsTime, Bad as BadTime}
-use Rattle.slatedb_block.specs.declared.FieldsRead.{FieldsRead}
-use Rattle.slatedb_block.specs.declared.FieldsRead.the-variants.{Is as IsFields, Bad as BadFields}
-use Rattle.slatedb_block.specs.declared.HeldWords.{HeldWords}
-use Rattle.slatedb_block.specs.declared.TimeWords.{TimeWords}
-use Rattle.slatedb_block.specs.Words.{badWords, wordAt, cursorIn, cursorWords, builderWords, fieldsIn}
+use Rattle.block_step_v2.specs.declared.Moved.{Moved}
+use Rattle.block_step_v2.specs.declared.Moved.the-variants.{Found, Done, Refused}
+use Rattle.block_iterator_v2.specs.declared.SeekAnswer.{SeekAnswer}
+use Rattle.block_iterator_v2.specs.declared.SeekAnswer.the-variants.{Landed, Done as SeekDone, Refused as SeekRefused}
+use Rattle.block_words.specs.Words.{doneCode, builderWords, cursorWords, rowWords}
 
-abbrev pub saysTruth : TruthRead → Res Bool
-saysTruth (IsTruth b) = ok b
-saysTruth BadTruth = refuse badWords
+-- ---- a row added
 
-abbrev pub saysOrdered : OrderRead → Res Direction
-saysOrdered (IsOrder o) = ok (saysOrder o)
-saysOrdered BadOrder = refuse badWords
+abbrev pub grownCode : Grown → ℕ
+grownCode (GrownRow t) = 0
+grownCode (GrownRefused x) = number x
 
-abbrev pub saysCursor : List ℕ → CursorRead → Res Cursor
-saysCursor key (IsCursor p) = ok (viewIn p key)
-saysCursor key BadCursor = refuse badWords
+abbrev pub grownWords : Grown → List ℕ → List ℕ
+grownWords (GrownRow t) ws = builderWords (viewFrom t [])
+grownWords (GrownRefused x) ws = ws
 
--- whatever bytes stand beside the words
-abbrev pub LoadsCursor : List ℕ → CursorRead → Type 0
-LoadsCursor ws r = (key : List ℕ) → saysCursor key r ≡ cursorIn ws key
+pub record PutsGrown (g : Grown) (ws : List ℕ) (code : ℕ) (ws′ : List ℕ) : Type 0 where
+  pub answer : code ≡ grownCode g
+  pub state : ws′ ≡ grownWords g ws
 
-abbrev pub placeOf : BlockIteratorV2 → Place
-placeOf c = record { order = c .order; region = c .region; at = c .at; «key_len» = c .«key_len»; done = c .done }
+-- ---- a step
 
-abbrev pub iteratorOver : Place → List ℕ → BlockIteratorV2
-iteratorOver p key = record { order = p .order; region = p .region; at = p .at; key = key; «key_len» = p .«key_len»; done = p .done }
+abbrev pub movedCode : Moved → ℕ
+movedCode (Found p r) = 0
+movedCode (Done p) = doneCode
+movedCode (Refused x) = number x
 
--- its key's bytes tell nothing
-abbrev pub iteratorFrom : Place → BlockIteratorV2
-iteratorFrom p = iteratorOver p (replicate maxKey 0)
+abbrev pub movedWords : Moved → List ℕ → List ℕ
+movedWords (Found p r) ws = cursorWords (viewIn p [])
+movedWords (Done p) ws = cursorWords (viewIn p [])
+movedWords (Refused x) ws = ws
 
-abbrev pub stateIn : List ℕ → State
-stateIn ws =
-    record {
-      «block_size» = wordAt ws 0;
-      «restart_interval» = wordAt ws 1;
-      used = wordAt ws 2;
-      restarts = wordAt ws 3;
-      counter = wordAt ws 4;
-      «last_key_len» = wordAt ws 5;
-    }
+abbrev pub movedRow : Moved → List ℕ → List ℕ
+movedRow (Found p r) row = rowWords (rowFrom r)
+movedRow (Done p) row = row
+movedRow (Refused x) row = row
 
--- its last key's bytes tell nothing
-abbrev pub builderFromWords : List ℕ → BlockBuilderV2
-builderFromWords ws = builderFrom (stateIn ws) (replicate maxKey 0)
+pub record PutsMoved (m : Moved) (ws row : List ℕ) (code : ℕ) (ws′ row′ : List ℕ) : Type 0 where
+  pub answer : code ≡ movedCode m
+  pub state : ws′ ≡ movedWords m ws
+  pub row-words : row′ ≡ movedRow m row
 
-pub record PutsBuilder (b : BlockBuilderV2) (ws last : List ℕ) : Type 0 where
-  pub words : ws ≡ builderWords (viewOfBuilder b)
-  pub bytes : last ≡ b .«last_key»
+-- ---- a seek
 
-pub record PutsIterator (c : BlockIteratorV2) (ws key : List ℕ) : Type 0 where
-  pub words : ws ≡ cursorWords (viewOf c)
-  pub bytes : key ≡ c .key
+abbrev pub soughtCode : SeekAnswer → ℕ
+soughtCode (Landed n) = 0
+soughtCode (SeekDone n) = doneCode
+soughtCode (SeekRefused x) = number x
 
--- ---- a row's fields
+abbrev pub soughtReads : SeekAnswer → ℕ → ℕ
+soughtReads (Landed n) old = n
+soughtReads (SeekDone n) old = n
+soughtReads (SeekRefused x) old = old
 
-abbrev pub saysKindRead : KindRead → Res KindL
-saysKindRead (IsKind k) = ok (saysKind k)
-saysKindRead BadKind = refuse badWords
-
-abbrev pub saysTimeRead : TimeRead → Res TimeL
-saysTimeRead (IsTime t) = ok (saysTime t)
-saysTimeRead BadTime = refuse badWords
-
-abbrev pub saysFields : List ℕ → FieldsRead → Res Fields
-saysFields v (IsFields f) = ok (fieldsFrom f v)
-saysFields v BadFields = refuse badWords
-
--- whatever value is offered with them
-abbrev pub LoadsFields : List ℕ → FieldsRead → Type 0
-LoadsFields ws r = (v : List ℕ) → saysFields v r ≡ fieldsIn ws v
-
-abbrev pub heldFrom : ValueDeletable → HeldWords
-heldFrom (Value start n) = record { kind = 0; start = start; len = n }
-heldFrom Tombstone = record { kind = 1; start = 0; len = 0 }
-heldFrom (Merge start n) = record { kind = 2; start = start; len = n }
-
-abbrev pub timeWordsOf : Time → TimeWords
-timeWordsOf Absent = record { has = 0; bits = 0 }
-timeWordsOf (At z) = record { has = 1; bits = bits z }
+pub record TellsSought (a : SeekAnswer) (n code n′ : ℕ) : Type 0 where
+  pub answer : code ≡ soughtCode a
+  pub number : n′ ≡ soughtReads a n

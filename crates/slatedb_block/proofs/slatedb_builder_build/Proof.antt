@@ -1,15 +1,29 @@
 -- Building keeps its promise: what is built doesn't depend on the last key's bytes, which are not lent.
 -- Each exit is one law of `Laws`.
+use mathlib.Core.Path.{ap, _∙_}
+use Rattle.block_words.specs.Says.{builderAlone}
+use Rattle.block_words.proofs.Laws.{state-none, state-counts, state-is}
 use Rattle.slatedb_block.proofs.Laws.{builds-short, builds-block, builds-refused}
 use borrow.Author.Needs.{needs}
 use Rattle.slatedb_block.proofs.slatedb_builder_build.Statement.{statement}
 use Rattle.slatedb_block.proofs.slatedb_builder_build.Tie as tie
 
-returns : tie.Need-returns
-returns c = builds-short (c .before .before .before .before .args .builder .now) _ _ _ (c .if1 .taken)
+state-in-requires : tie.Need-state-in-requires
+state-in-requires c κs = search needs
 
-builder-in-requires : tie.Need-builder-in-requires
-builder-in-requires c κs = search needs
+enum-known-words : tie.Need-enum-known-words
+enum-known-words c = search needs
+
+enum-told : tie.Need-enum-told
+enum-told c = search needs
+
+returns : tie.Need-returns
+returns c =
+    let start = c .before .before .before .before .before .before in
+    builds-short (start .args .builder .now) _ _ _ (state-none (start .args .builder .now) (c .before .before .state-in .ensures) (c .enum-told .given .1))
+
+builder-of-requires : tie.Need-builder-of-requires
+builder-of-requires c κs = search needs
 
 build-requires : tie.Need-build-requires
 build-requires c κs = search needs
@@ -29,8 +43,11 @@ same-length c = search needs
 returns-2 : tie.Need-returns-2
 returns-2 c =
     let after-build = c .before .before .before .before .before in
-    let start = after-build .before .before .before .before .before .before .before in
-    builds-block (start .args .builder .now) _ _ _ _ _ (after-build .before .before .before .if1 .left) (rw (after-build .before .before .builder-in .ensures) at (after-build .build .ensures)) (c .before .answer .given .1)
+    let words = after-build .before .before .before .before in
+    let loaded = words .before .before in
+    let start = loaded .before .before .before .before in
+    let made = after-build .before .before .builder-of .ensures ∙ ap builderAlone (state-is (start .args .builder .now) (loaded .state-in .ensures) (words .words .given .1)) in
+    builds-block (start .args .builder .now) _ _ _ _ _ (state-counts (start .args .builder .now) (loaded .state-in .ensures) (words .words .given .1)) (rw made at (after-build .build .ensures)) (c .before .answer .given .1)
 
 same-length-2 : tie.Need-same-length-2
 same-length-2 c = search needs
@@ -38,15 +55,21 @@ same-length-2 c = search needs
 returns-3 : tie.Need-returns-3
 returns-3 c =
     let after-build = c .before .before .before .before .before .before in
-    let start = after-build .before .before .before .before .before .before .before in
-    builds-refused (start .args .builder .now) _ _ _ _ _ (after-build .before .before .before .if1 .left) (rw (after-build .before .before .builder-in .ensures) at (after-build .build .ensures)) (c .before .before .answer2 .given .1) (c .number .ensures)
+    let words = after-build .before .before .before .before in
+    let loaded = words .before .before in
+    let start = loaded .before .before .before .before in
+    let made = after-build .before .before .builder-of .ensures ∙ ap builderAlone (state-is (start .args .builder .now) (loaded .state-in .ensures) (words .words .given .1)) in
+    builds-refused (start .args .builder .now) _ _ _ _ _ (state-counts (start .args .builder .now) (loaded .state-in .ensures) (words .words .given .1)) (rw made at (after-build .build .ensures)) (c .before .before .answer2 .given .1) (c .number .ensures)
 
 pub slatedb-builder-build-spec : {M : Type 1} → statement M
 slatedb-builder-build-spec =
     tie.close
     (tie.spec
+    state-in-requires
+    enum-known-words
+    enum-told
     returns
-    builder-in-requires
+    builder-of-requires
     build-requires
     enum-known-answer
     enum-known-answer-2

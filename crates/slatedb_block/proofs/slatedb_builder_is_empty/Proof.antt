@@ -1,14 +1,28 @@
 -- The question keeps its promise: whether there is no row doesn't depend on the last key's bytes, which are not lent.
+use mathlib.Core.Path.{ap, _∙_}
+use Rattle.block_words.specs.Says.{builderAlone}
+use Rattle.block_words.proofs.Laws.{state-none, state-counts, state-is}
 use Rattle.slatedb_block.proofs.Laws.{empties-short, empties}
 use borrow.Author.Needs.{needs}
 use Rattle.slatedb_block.proofs.slatedb_builder_is_empty.Statement.{statement}
 use Rattle.slatedb_block.proofs.slatedb_builder_is_empty.Tie as tie
 
-returns : tie.Need-returns
-returns c = empties-short (c .before .before .args .builder .now) _ (c .if1 .taken)
+state-in-requires : tie.Need-state-in-requires
+state-in-requires c κs = search needs
 
-builder-in-requires : tie.Need-builder-in-requires
-builder-in-requires c κs = search needs
+enum-known-words : tie.Need-enum-known-words
+enum-known-words c = search needs
+
+enum-told : tie.Need-enum-told
+enum-told c = search needs
+
+returns : tie.Need-returns
+returns c =
+    let start = c .before .before .before .before in
+    empties-short (start .args .builder .now) _ (state-none (start .args .builder .now) (c .before .before .state-in .ensures) (c .enum-told .given .1))
+
+builder-of-requires : tie.Need-builder-of-requires
+builder-of-requires c κs = search needs
 
 is-empty-requires : tie.Need-is-empty-requires
 is-empty-requires c κs = search needs
@@ -17,9 +31,22 @@ truth-word-requires : tie.Need-truth-word-requires
 truth-word-requires c κs = search needs
 
 returns-2 : tie.Need-returns-2
-returns-2 c = empties (c .before .before .before .before .before .args .builder .now) _ _ _ (c .before .before .before .if1 .left) (rw (c .before .before .builder-in .ensures) at (c .before .is-empty .ensures)) (c .truth-word .ensures)
+returns-2 c =
+    let words = c .before .before .before .before in
+    let loaded = words .before .before in
+    let start = loaded .before .before in
+    let made = c .before .before .builder-of .ensures ∙ ap builderAlone (state-is (start .args .builder .now) (loaded .state-in .ensures) (words .words .given .1)) in
+    empties (start .args .builder .now) _ _ _ (state-counts (start .args .builder .now) (loaded .state-in .ensures) (words .words .given .1)) (rw made at (c .before .is-empty .ensures)) (c .truth-word .ensures)
 
 pub slatedb-builder-is-empty-spec : {M : Type 1} → statement M
 slatedb-builder-is-empty-spec =
     tie.close
-    (tie.spec returns builder-in-requires is-empty-requires truth-word-requires returns-2)
+    (tie.spec
+    state-in-requires
+    enum-known-words
+    enum-told
+    returns
+    builder-of-requires
+    is-empty-requires
+    truth-word-requires
+    returns-2)

@@ -1,4 +1,5 @@
 -- A new builder keeps its promise: its words are those of its view, and a refusal leaves the words as they were.
+use Rattle.block_words.proofs.Laws.{stored}
 use Rattle.slatedb_block.proofs.Laws.{makes-short, makes-good, makes-refused}
 use borrow.Author.Needs.{needs}
 use Rattle.slatedb_block.proofs.slatedb_builder_new.Statement.{statement}
@@ -32,7 +33,7 @@ returns-2 : tie.Need-returns-2
 returns-2 c =
     let after-enum-told = c .before .before .before .before .before in
     let start = after-enum-told .before .before .before .before .before in
-    makes-good (start .args .builder .now) _ _ _ (after-enum-told .before .before .before .if1 .left) (after-enum-told .before .before .make .ensures) (after-enum-told .enum-told .given .1) (rw (c .before .before .before .state-of .ensures) at (c .before .before .put-state .ensures))
+    makes-good (start .args .builder .now) _ _ _ (after-enum-told .before .before .before .if1 .left) (after-enum-told .before .before .make .ensures) (after-enum-told .enum-told .given .1) (rw (c .before .before .before .state-of .ensures) at (stored (after-enum-told .before .before .before .if1 .left) (c .before .before .put-state .ensures)))
 
 returns-3 : tie.Need-returns-3
 returns-3 c =

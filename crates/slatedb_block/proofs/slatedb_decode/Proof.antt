@@ -1,5 +1,6 @@
 -- Decoding keeps its promise: the number of words first, then the row that `decode` promised, as words.
 -- Each exit is one law of `Rows`.
+use Rattle.block_words.proofs.Laws.{stored}
 use Rattle.slatedb_block.proofs.Rows.{decodes-short, decodes-good, decodes-refused}
 use borrow.Author.Needs.{needs}
 use Rattle.slatedb_block.proofs.slatedb_decode.Statement.{statement}
@@ -30,7 +31,7 @@ returns-2 : tie.Need-returns-2
 returns-2 c =
     let after-read = c .before .before .before .before .before in
     let start = after-read .before .before .before .before .before .before in
-    decodes-good _ _ (start .args .row .now) _ (after-read .before .before .before .if1 .left) (after-read .before .before .decode .ensures) (after-read .read .given .1) (c .before .before .put-row .ensures)
+    decodes-good _ _ (start .args .row .now) _ (after-read .before .before .before .if1 .left) (after-read .before .before .decode .ensures) (after-read .read .given .1) (stored (after-read .before .before .before .if1 .left) (c .before .before .put-row .ensures))
 
 returns-3 : tie.Need-returns-3
 returns-3 c =

@@ -1,7 +1,7 @@
 -- The question keeps its promise: whether a row is left doesn't depend on the key's bytes, which are not lent.
 use Rattle.types.specs.Answers.{yes}
 use mathlib.Core.List.{[]}
-use Rattle.slatedb_block.specs.Says.{saysCursor}
+use Rattle.block_words.specs.Says.{saysCursor}
 use Rattle.slatedb_block.proofs.Laws.{empty-no-cursor, empty-told, empty-refused}
 use borrow.Author.Needs.{needs}
 use Rattle.slatedb_block.proofs.slatedb_is_empty.Statement.{statement}

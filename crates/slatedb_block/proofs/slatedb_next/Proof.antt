@@ -1,14 +1,15 @@
 -- A step in place keeps its promise: the words that mean nothing first, then what `next_in_place` promised of the cursor in the words.
--- Each exit is one law of `Steps`.
+-- Each exit is one law of a `Steps`.
 use mathlib.Core.Path.{_≡_}
 use lib.ListN.{length}
 use Rattle.layout.specs.Answer.{ok}
 use Rattle.types.specs.Answers.{yes}
 use Rattle.block_step_v2.specs.Says.{viewIn}
-use Rattle.slatedb_block.specs.Words.{cursorIn}
-use Rattle.slatedb_block.specs.Says.{saysCursor}
-use Rattle.slatedb_block.proofs.Laws.{cursor-counts}
-use Rattle.slatedb_block.proofs.Steps.{steps-no-row, steps-no-key, steps-no-cursor, moved-found, moved-done, moved-refused}
+use Rattle.block_words.specs.Words.{cursorIn}
+use Rattle.block_words.specs.Says.{saysCursor}
+use Rattle.block_words.proofs.Laws.{cursor-counts}
+use Rattle.block_words.proofs.Steps.{steps-no-row, steps-no-key, steps-no-cursor}
+use Rattle.slatedb_block.proofs.Steps.{moved-put}
 use borrow.Author.Needs.{needs}
 use Rattle.slatedb_block.proofs.slatedb_next.Statement.{statement}
 use Rattle.slatedb_block.proofs.slatedb_next.Tie as tie
@@ -53,26 +54,10 @@ returns-3 c =
 next-in-place-requires : tie.Need-next-in-place-requires
 next-in-place-requires c κs = search needs
 
-enum-known-moved : tie.Need-enum-known-moved
-enum-known-moved c = search needs
-
-put-cursor-requires : tie.Need-put-cursor-requires
-put-cursor-requires c κs = five-words (c .before .before .before .before .before .before .before .before .before .before .before .before)
-
-put-row-requires : tie.Need-put-row-requires
-put-row-requires c κs = c .before .before .before .before .before .before .before .before .before .before .before .before .before .before .before .before .before .before .before .before .before .if1 .left
-
-enum-known-moved-2 : tie.Need-enum-known-moved-2
-enum-known-moved-2 c = search needs
-
-put-cursor-requires-2 : tie.Need-put-cursor-requires-2
-put-cursor-requires-2 c κs = five-words (c .before .before .before .before .before .before .before .before .before .before .before .before)
-
-enum-known-moved-3 : tie.Need-enum-known-moved-3
-enum-known-moved-3 c = search needs
-
-number-requires : tie.Need-number-requires
-number-requires c κs = search needs
+put-moved-requires : tie.Need-put-moved-requires
+put-moved-requires c κs =
+    let known = c .before .before .before .before .before .before .before .before .before .before in
+    (five-words known, known .before .before .before .before .before .if1 .left)
 
 same-length-2 : tie.Need-same-length-2
 same-length-2 c = search needs
@@ -88,44 +73,11 @@ same-length-5 c = search needs
 
 returns-4 : tie.Need-returns-4
 returns-4 c =
-    let after-put-cursor = c .before .before .before .before .before .before in
-    let after-next-in-place = after-put-cursor .before .before .before .before .before .before .before .before .before in
+    let after-put-moved = c .before .before .before .before in
+    let after-next-in-place = after-put-moved .before .before .before .before .before .before .before in
     let known = after-next-in-place .before .before .before .before in
     let start = entry known in
-    moved-found _ (start .args .cursor .now) (start .args .key .now) (start .args .out .now) (start .args .row .now) (known .loaded .given .0 .0) (known .before .before .before .before .before .if1 .left) (known .before .before .before .before .if2 .left) (cursor-read known) _ _ _ (after-next-in-place .next-in-place .ensures) (after-put-cursor .before .before .before .moved .given .1) (after-put-cursor .put-cursor .ensures) (c .before .before .put-row .ensures)
-
-same-length-6 : tie.Need-same-length-6
-same-length-6 c = search needs
-
-same-length-7 : tie.Need-same-length-7
-same-length-7 c = search needs
-
-same-length-8 : tie.Need-same-length-8
-same-length-8 c = search needs
-
-returns-5 : tie.Need-returns-5
-returns-5 c =
-    let after-moved2 = c .before .before .before .before .before in
-    let after-next-in-place = after-moved2 .before .before .before .before .before .before in
-    let known = after-next-in-place .before .before .before .before in
-    let start = entry known in
-    moved-done _ (start .args .cursor .now) (start .args .key .now) (start .args .out .now) (start .args .row .now) (known .loaded .given .0 .0) (known .before .before .before .before .before .if1 .left) (known .before .before .before .before .if2 .left) (cursor-read known) _ _ _ (after-next-in-place .next-in-place .ensures) (after-moved2 .moved2 .given .1) (c .before .before .put-cursor2 .ensures)
-
-same-length-9 : tie.Need-same-length-9
-same-length-9 c = search needs
-
-same-length-10 : tie.Need-same-length-10
-same-length-10 c = search needs
-
-same-length-11 : tie.Need-same-length-11
-same-length-11 c = search needs
-
-returns-6 : tie.Need-returns-6
-returns-6 c =
-    let after-next-in-place = c .before .before .before .before .before .before .before .before in
-    let known = after-next-in-place .before .before .before .before in
-    let start = entry known in
-    moved-refused _ (start .args .cursor .now) (start .args .key .now) (start .args .out .now) (start .args .row .now) (known .loaded .given .0 .0) (known .before .before .before .before .before .if1 .left) (known .before .before .before .before .if2 .left) (cursor-read known) _ _ _ (after-next-in-place .next-in-place .ensures) (c .before .before .moved3 .given .1) (c .number .ensures)
+    moved-put _ (start .args .cursor .now) (start .args .key .now) (start .args .out .now) (start .args .row .now) (known .loaded .given .0 .0) (known .before .before .before .before .before .if1 .left) (known .before .before .before .before .if2 .left) (cursor-read known) _ _ _ (after-next-in-place .next-in-place .ensures) (after-put-moved .put-moved .ensures)
 
 pub slatedb-next-spec : {M : Type 1} → statement M
 slatedb-next-spec =
@@ -139,23 +91,9 @@ slatedb-next-spec =
     same-length
     returns-3
     next-in-place-requires
-    enum-known-moved
-    put-cursor-requires
-    put-row-requires
-    enum-known-moved-2
-    put-cursor-requires-2
-    enum-known-moved-3
-    number-requires
+    put-moved-requires
     same-length-2
     same-length-3
     same-length-4
     same-length-5
-    returns-4
-    same-length-6
-    same-length-7
-    same-length-8
-    returns-5
-    same-length-9
-    same-length-10
-    same-length-11
-    returns-6)
+    returns-4)

@@ -1,6 +1,7 @@
 -- Opening keeps its promise: the number of words and the order first, then the cursor that `new` promised, as words.
 use Rattle.types.specs.Answers.{yes}
-use Rattle.slatedb_block.specs.Says.{saysOrdered}
+use Rattle.block_words.specs.Says.{saysOrdered}
+use Rattle.block_words.proofs.Laws.{stored}
 use Rattle.slatedb_block.proofs.Laws.{opens-short, opens-no-order, opens-good, opens-refused}
 use borrow.Author.Needs.{needs}
 use Rattle.slatedb_block.proofs.slatedb_open.Statement.{statement}
@@ -49,7 +50,7 @@ returns-3 c =
     let after-enum-told2 = c .before .before .before .before .before in
     let after-order-in = after-enum-told2 .before .before .before .before .before .before in
     let start = after-order-in .before .before .before .before in
-    opens-good (start .args .block .now) (start .args .order) (start .args .cursor .now) _ _ (after-order-in .before .if1 .left) (yes saysOrdered (after-order-in .order-in .ensures) (after-enum-told2 .before .before .before .before .ordered .given .1)) (after-enum-told2 .before .before .new .ensures) (after-enum-told2 .enum-told2 .given .1) (rw (c .before .before .before .place-of .ensures) at (c .before .before .put-cursor .ensures))
+    opens-good (start .args .block .now) (start .args .order) (start .args .cursor .now) _ _ (after-order-in .before .if1 .left) (yes saysOrdered (after-order-in .order-in .ensures) (after-enum-told2 .before .before .before .before .ordered .given .1)) (after-enum-told2 .before .before .new .ensures) (after-enum-told2 .enum-told2 .given .1) (rw (c .before .before .before .place-of .ensures) at (stored (after-order-in .before .if1 .left) (c .before .before .put-cursor .ensures)))
 
 returns-4 : tie.Need-returns-4
 returns-4 c =

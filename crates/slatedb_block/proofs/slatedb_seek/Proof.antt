@@ -5,9 +5,10 @@ use lib.ListN.{length}
 use Rattle.layout.specs.Answer.{ok}
 use Rattle.types.specs.Answers.{yes}
 use Rattle.block_step_v2.specs.Says.{viewIn}
-use Rattle.slatedb_block.specs.Words.{cursorIn}
-use Rattle.slatedb_block.specs.Says.{saysCursor}
-use Rattle.slatedb_block.proofs.Laws.{cursor-counts, seeks-short, seeks-no-cursor, seeks-landed, seeks-done, seeks-refused}
+use Rattle.block_words.specs.Words.{cursorIn}
+use Rattle.block_words.specs.Says.{saysCursor}
+use Rattle.block_words.proofs.Laws.{cursor-counts, put-words, put-bytes}
+use Rattle.slatedb_block.proofs.Laws.{seeks-short, seeks-no-cursor, seeks-told, seeks-refused}
 use borrow.Author.Needs.{needs}
 use Rattle.slatedb_block.proofs.slatedb_seek.Statement.{statement}
 use Rattle.slatedb_block.proofs.slatedb_seek.Tie as tie
@@ -50,62 +51,39 @@ seek-requires c κs = search needs
 enum-known-answer : tie.Need-enum-known-answer
 enum-known-answer c = search needs
 
-put-iterator-requires : tie.Need-put-iterator-requires
-put-iterator-requires c κs =
-    let known = c .before .before .before .before .before .before .before .before in
-    (five-words known, known .before .before .before .before .if1 .left)
-
-enum-known-answer-2 : tie.Need-enum-known-answer-2
-enum-known-answer-2 c = search needs
-
-put-iterator-requires-2 : tie.Need-put-iterator-requires-2
-put-iterator-requires-2 c κs =
-    let known = c .before .before .before .before .before .before .before .before in
-    (five-words known, known .before .before .before .before .if1 .left)
-
-enum-known-answer-3 : tie.Need-enum-known-answer-3
-enum-known-answer-3 c = search needs
-
 number-requires : tie.Need-number-requires
 number-requires c κs = search needs
 
 same-length-2 : tie.Need-same-length-2
 same-length-2 c = search needs
 
-same-length-3 : tie.Need-same-length-3
-same-length-3 c = search needs
-
 returns-3 : tie.Need-returns-3
 returns-3 c =
-    let after-put-iterator = c .before .before .before .before in
-    let after-seek = after-put-iterator .before .before .before .before .before .before in
-    let known = after-seek .before .before .before in
-    let start = entry known in
-    seeks-landed _ _ _ _ _ (known .loaded .given .0 .0) _ (known .before .before .before .before .if1 .left) (cursor-read known) (rw (after-seek .before .iterator-of .ensures) at (after-seek .seek .ensures)) (after-put-iterator .before .before .before .before .answer .given .1) (after-put-iterator .put-iterator .ensures .words) (after-put-iterator .put-iterator .ensures .bytes)
+    let after-iterator-of = c .before .before .before .before .before in
+    let known = after-iterator-of .before .before in
+    seeks-refused _ _ _ _ _ (known .loaded .given .0 .0) _ (known .before .before .before .before .if1 .left) (cursor-read known) (rw (after-iterator-of .iterator-of .ensures) at (c .before .before .before .before .seek .ensures)) (c .before .before .answer .given .1) (c .number .ensures)
+
+put-iterator-requires : tie.Need-put-iterator-requires
+put-iterator-requires c κs = search needs
+
+tell-sought-requires : tie.Need-tell-sought-requires
+tell-sought-requires c κs = search needs
+
+same-length-3 : tie.Need-same-length-3
+same-length-3 c = search needs
 
 same-length-4 : tie.Need-same-length-4
 same-length-4 c = search needs
 
-same-length-5 : tie.Need-same-length-5
-same-length-5 c = search needs
-
 returns-4 : tie.Need-returns-4
 returns-4 c =
-    let after-put-iterator2 = c .before .before .before .before in
-    let after-seek = after-put-iterator2 .before .before .before .before .before .before in
+    let after-put-iterator = c .before .before .before .before .before .before in
+    let not-refused = after-put-iterator .before .before .before in
+    let after-seek = not-refused .before in
     let known = after-seek .before .before .before in
-    let start = entry known in
-    seeks-done _ _ _ _ _ (known .loaded .given .0 .0) _ (known .before .before .before .before .if1 .left) (cursor-read known) (rw (after-seek .before .iterator-of .ensures) at (after-seek .seek .ensures)) (after-put-iterator2 .before .before .before .before .answer2 .given .1) (after-put-iterator2 .put-iterator2 .ensures .words) (after-put-iterator2 .put-iterator2 .ensures .bytes)
-
-same-length-6 : tie.Need-same-length-6
-same-length-6 c = search needs
-
-returns-5 : tie.Need-returns-5
-returns-5 c =
-    let after-iterator-of = c .before .before .before .before .before in
-    let known = after-iterator-of .before .before in
-    let start = entry known in
-    seeks-refused _ _ _ _ _ (known .loaded .given .0 .0) _ (known .before .before .before .before .if1 .left) (cursor-read known) (rw (after-iterator-of .iterator-of .ensures) at (c .before .before .before .before .seek .ensures)) (c .before .before .answer3 .given .1) (c .number .ensures)
+    let put = after-put-iterator .put-iterator .ensures in
+    let whole = known .before .before .before .before .if1 .left in
+    seeks-told _ _ _ _ _ (known .loaded .given .0 .0) _ (known .before .before .before .before .if1 .left) (cursor-read known) (rw (after-seek .before .iterator-of .ensures) at (after-seek .seek .ensures)) (not-refused .match2 .keys2) (c .tell-sought .ensures) (put-words _ _ _ (five-words known) whole put) (put-bytes _ _ _ (five-words known) whole put)
 
 pub slatedb-seek-spec : {M : Type 1} → statement M
 slatedb-seek-spec =
@@ -120,16 +98,11 @@ slatedb-seek-spec =
     iterator-of-requires
     seek-requires
     enum-known-answer
-    put-iterator-requires
-    enum-known-answer-2
-    put-iterator-requires-2
-    enum-known-answer-3
     number-requires
     same-length-2
-    same-length-3
     returns-3
+    put-iterator-requires
+    tell-sought-requires
+    same-length-3
     same-length-4
-    same-length-5
-    returns-4
-    same-length-6
-    returns-5)
+    returns-4)

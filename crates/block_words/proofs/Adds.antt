@@ -1,0 +1,57 @@
+-- Adding a row over lent words: what each exit leaves, in place and by value alike, from the builder that is wanted.
+use Prim.Native.Nat.{ℕ}
+use mathlib.Core.Path.{_≡_, refl}
+use mathlib.Core.List.{List}
+use lib.ListN.{length}
+use borrow.Author.Tests.{eq-eqb, ne-eqb}
+use Rattle.layout.specs.Answer.{Res, ok, refuse, bind}
+use Rattle.layout.specs.Builder.{Builder, add, dataAfter, placesAfter}
+use Rattle.layout.specs.Key.{Key}
+use Rattle.layout.specs.Limits.{maxKey}
+use Rattle.layout.specs.Place.{splice}
+use Rattle.layout.specs.Row.{Fields}
+use Rattle.row_size_v2.specs.Says.{fieldsFrom}
+use Rattle.row_size_v2.specs.declared.RowFields.{RowFields}
+use Rattle.block_words.specs.Words.{badWords, builderFrom, builderWords, fieldsIn}
+use Rattle.block_words.specs.Exports.{Gain, AddsAs, AddsFlat}
+
+abbrev pub gained : Fields → Builder → Res Gain
+gained f w = ok (record { builder = w; fields = f })
+
+-- the builder is wanted, and this is what is left with it
+module _ (want : Res Builder) (v : Builder) (key : Key) (f : Fields) (ws last bytes places bytes′ places′ : List ℕ) (b : bytes′ ≡ dataAfter want v key f bytes)
+    (o : places′ ≡ placesAfter want v places) where
+  pub added : (w : Builder) → want ≡ ok w → {ws′ last′ : List ℕ} → ws′ ≡ builderWords w → last′ ≡ splice last 0 key
+      → AddsAs (bind want (gained f)) v key ws last bytes places 0 ws′ last′ bytes′ places′
+  added w e s l =
+      let h = rw e at b in
+      let g = rw e at o in
+      rw e (record { answer = refl; state = s; last-after = l; bytes-after = h; places-after = g })
+
+  pub unadded : (k : ℕ) → want ≡ refuse k → {code : ℕ} {last′ : List ℕ} → code ≡ k → last′ ≡ last
+      → AddsAs (bind want (gained f)) v key ws last bytes places code ws last′ bytes′ places′
+  unadded k e q l =
+      let h = rw e at b in
+      let g = rw e at o in
+      rw e (record { answer = q; state = refl; last-after = l; bytes-after = h; places-after = g })
+
+-- the builder that is wanted
+abbrev pub addWanted : List ℕ → List ℕ → List ℕ → List ℕ → List ℕ → List ℕ → RowFields → Res Builder
+addWanted ws last bytes places key value f = add (builderFrom ws last) (length bytes) (length places) key (fieldsFrom f value)
+
+module _ (ws last bytes places key value fs : List ℕ) where
+  pub adds-short : (length ws ≡ 6 → ⊥) → AddsFlat ws last bytes places key value fs badWords ws last bytes places
+  adds-short h = rw (ne-eqb (length ws) 6 h) (record { answer = refl; state = refl; last-after = refl; bytes-after = refl; places-after = refl })
+
+  pub adds-no-key : length ws ≡ 6 → (length last ≡ maxKey → ⊥) → AddsFlat ws last bytes places key value fs badWords ws last bytes places
+  adds-no-key h k = rw (eq-eqb (length ws) 6 h, ne-eqb (length last) maxKey k) (record { answer = refl; state = refl; last-after = refl; bytes-after = refl; places-after = refl })
+
+  pub adds-bad : length ws ≡ 6 → length last ≡ maxKey → fieldsIn fs value ≡ refuse badWords → AddsFlat ws last bytes places key value fs badWords ws last bytes places
+  adds-bad h k e =
+      rw (eq-eqb (length ws) 6 h, eq-eqb (length last) maxKey k, e) (record { answer = refl; state = refl; last-after = refl; bytes-after = refl; places-after = refl })
+
+  module _ (f : RowFields) (h : length ws ≡ 6) (k : length last ≡ maxKey) (is : fieldsIn fs value ≡ ok (fieldsFrom f value)) where
+    pub adds-asked : {code : ℕ} {ws′ last′ bytes′ places′ : List ℕ}
+        → AddsAs (bind (addWanted ws last bytes places key value f) (gained (fieldsFrom f value))) (builderFrom ws last) key ws last bytes places code ws′ last′ bytes′ places′
+        → AddsFlat ws last bytes places key value fs code ws′ last′ bytes′ places′
+    adds-asked a = rw (eq-eqb (length ws) 6 h, eq-eqb (length last) maxKey k, is) a

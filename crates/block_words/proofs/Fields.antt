@@ -1,0 +1,101 @@
+-- The words of a row's fields, read and written: each exit of the functions that do it is one of these laws.
+use Prim.Native.Nat.{ℕ}
+use mathlib.Core.Bool.{true, false}
+use mathlib.Core.Path.{_≡_, refl, ap, sym, _∙_}
+use mathlib.Core.List.{List, [], _∷_}
+use lib.IntN.{ℤ}
+use lib.ListN.{length, set}
+use borrow.Author.Tests.{ne-eqb}
+use Rattle.layout.specs.Answer.{ok, refuse}
+use Rattle.layout.specs.Fixed.{bits, unbits}
+use Rattle.layout.specs.Row.{Kind as KindL, value, tombstone, Time as TimeL, Absent as absent, At as at-time}
+use Rattle.types.specs.Says.{saysKind, saysTime, saysHeld}
+use Rattle.types.specs.declared.Time.{Time}
+use Rattle.types.specs.declared.Time.the-variants.{Absent, At}
+use Rattle.types.specs.declared.ValueDeletable.{ValueDeletable}
+use Rattle.types.specs.declared.ValueDeletable.the-variants.{Value, Tombstone, Merge}
+use Rattle.row_decode_v2.specs.Says.{rowFrom}
+use Rattle.row_decode_v2.specs.declared.Row.{Row}
+use Rattle.row_size_v2.specs.declared.RowFields.{RowFields}
+use Rattle.block_words.specs.Words.{badWords, truthIn, wordAt, kindIn, timeIn, fieldsIn, heldWords, timeWords, rowWords}
+use Rattle.block_words.specs.Says.{saysFields, heldFrom, timeWordsOf}
+use Rattle.block_words.specs.declared.FieldsRead.the-variants.{Is as IsFields}
+use Rattle.block_words.specs.declared.TimeWords.{TimeWords}
+use Rattle.block_words.proofs.Laws.{of-none, counted-not, counted-so}
+use Rattle.block_words.proofs.Stores.{thirteen}
+
+pub kind-none : {w : ℕ} → (w ≡ 2 → ⊥) → (w ≡ 0 → ⊥) → (w ≡ 1 → ⊥) → refuse badWords ≡ kindIn w
+kind-none {w} h i j = rw (ne-eqb w 2 h) (of-none value tombstone i j)
+
+-- ---- a time
+
+module _ (has w : ℕ) where
+  pub time-bad : truthIn has ≡ refuse badWords → refuse badWords ≡ timeIn has w
+  unfolding timeIn
+  time-bad e = rw e refl
+
+  pub time-at : {z : ℤ} → truthIn has ≡ ok true → z ≡ unbits w → ok (at-time z) ≡ timeIn has w
+  unfolding timeIn
+  time-at e q = rw (e, q) refl
+
+  pub time-absent : truthIn has ≡ ok false → ok absent ≡ timeIn has w
+  unfolding timeIn
+  time-absent e = rw e refl
+
+-- ---- fields
+
+pub fields-short : (ws : List ℕ) → (length ws ≡ 6 → ⊥) → (v : List ℕ) → refuse badWords ≡ fieldsIn ws v
+unfolding fieldsIn
+fields-short ws h v = sym (counted-not ws 6 _ h)
+
+module _ (ws : List ℕ) (h : length ws ≡ 6) where
+  pub fields-no-kind : kindIn (wordAt ws 0) ≡ refuse badWords → (v : List ℕ) → refuse badWords ≡ fieldsIn ws v
+  unfolding fieldsIn
+  fields-no-kind k v = sym (counted-so ws 6 _ h ∙ rw k refl)
+
+  pub fields-no-expire : {a : KindL} → kindIn (wordAt ws 0) ≡ ok a → timeIn (wordAt ws 2) (wordAt ws 3) ≡ refuse badWords → (v : List ℕ) → refuse badWords ≡ fieldsIn ws v
+  unfolding fieldsIn
+  fields-no-expire k e v = sym (counted-so ws 6 _ h ∙ rw (k, e) refl)
+
+  pub fields-no-create : {a : KindL} {b : TimeL} → kindIn (wordAt ws 0) ≡ ok a → timeIn (wordAt ws 2) (wordAt ws 3) ≡ ok b → timeIn (wordAt ws 4) (wordAt ws 5) ≡ refuse badWords
+      → (v : List ℕ) → refuse badWords ≡ fieldsIn ws v
+  unfolding fieldsIn
+  fields-no-create k e c v = sym (counted-so ws 6 _ h ∙ rw (k, e, c) refl)
+
+  pub fields-loaded : (f : RowFields) → kindIn (wordAt ws 0) ≡ ok (saysKind (f .kind)) → timeIn (wordAt ws 2) (wordAt ws 3) ≡ ok (saysTime (f .expire))
+      → timeIn (wordAt ws 4) (wordAt ws 5) ≡ ok (saysTime (f .create)) → f .seq ≡ wordAt ws 1 → (v : List ℕ) → saysFields v (IsFields f) ≡ fieldsIn ws v
+  unfolding fieldsIn
+  fields-loaded f k e c s v = sym (counted-so ws 6 _ h ∙ rw (k, e, c, s) refl)
+
+-- a time's words
+pub timed : (t : Time) (z : ℤ) (b : ℕ) → t ≡ At z → b ≡ bits z → _≡_ {A = TimeWords} (record { has = 1; bits = b }) (timeWordsOf t)
+timed t z b e q = rw (e, q) refl
+
+-- ---- a row
+
+held-words : (h : ValueDeletable) (rest : List ℕ) → heldFrom h .kind ∷ heldFrom h .start ∷ heldFrom h .len ∷ rest ≡ heldWords (saysHeld h) rest
+held-words (Value start n) rest = refl
+held-words Tombstone rest = refl
+held-words (Merge start n) rest = refl
+
+time-words : (t : Time) (rest : List ℕ) → timeWordsOf t .has ∷ timeWordsOf t .bits ∷ rest ≡ timeWords (saysTime t) rest
+time-words Absent rest = refl
+time-words (At z) rest = refl
+
+pub row-words : (r : Row)
+    → r .start ∷ r .next ∷ r .shared ∷ r .«suffix_at» ∷ r .«suffix_len» ∷ heldFrom (r .held) .kind ∷ heldFrom (r .held) .start ∷ heldFrom (r .held) .len ∷ r .seq
+    ∷ timeWordsOf (r .expire) .has ∷ timeWordsOf (r .expire) .bits ∷ timeWordsOf (r .create) .has ∷ timeWordsOf (r .create) .bits ∷ []
+    ≡ rowWords (rowFrom r)
+row-words r =
+    ap (λ (x : List ℕ). r .start ∷ r .next ∷ r .shared ∷ r .«suffix_at» ∷ r .«suffix_len» ∷ x)
+    (ap (λ (x : List ℕ). heldFrom (r .held) .kind ∷ heldFrom (r .held) .start ∷ heldFrom (r .held) .len ∷ r .seq ∷ x)
+    (ap (λ (x : List ℕ). timeWordsOf (r .expire) .has ∷ timeWordsOf (r .expire) .bits ∷ x) (time-words (r .create) []) ∙ time-words (r .expire) (timeWords (saysTime (r .create)) []))
+    ∙ held-words (r .held) (r .seq ∷ timeWords (saysTime (r .expire)) (timeWords (saysTime (r .create)) [])))
+
+-- a row's words, all stored
+pub row-stored : (ws : List ℕ) (r : Row) → length ws ≡ 13
+    → set (set (set (set (set (set (set (set (set (set (set (set (set ws 0 (r .start)) 1 (r .next)) 2 (r .shared)) 3 (r .«suffix_at»)) 4 (r .«suffix_len»)) 5 (heldFrom (r .held) .kind)) 6 (heldFrom (r .held) .start)) 7 (heldFrom (r .held) .len)) 8 (r .seq)) 9 (timeWordsOf (r .expire) .has)) 10 (timeWordsOf (r .expire) .bits)) 11 (timeWordsOf (r .create) .has)) 12 (timeWordsOf (r .create) .bits)
+    ≡ rowWords (rowFrom r)
+row-stored ws r h =
+    thirteen ws (r .start) (r .next) (r .shared) (r .«suffix_at») (r .«suffix_len») (heldFrom (r .held) .kind) (heldFrom (r .held) .start) (heldFrom (r .held) .len) (r .seq) (timeWordsOf (r .expire) .has) (timeWordsOf (r .expire) .bits) (timeWordsOf (r .create) .has) (timeWordsOf (r .create) .bits) h
+    ∙ row-words r

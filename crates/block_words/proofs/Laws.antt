@@ -1,0 +1,150 @@
+-- Words that are loaded and stored, over plain variables: what the exits of the functions here, and of the exports above, use.
+use Prim.Native.Nat.{ℕ, _+_}
+use mathlib.Core.Bool.{Bool, true, false, not}
+use mathlib.Core.Path.{_≡_, refl, ap, sym, _∙_}
+use mathlib.Core.List.{List, append-nil}
+use lib.Dec.{eqb}
+use lib.ListN.{length, drop-of-length-le, replicate}
+use native.Mathlib.Omega.{arith}
+use borrow.Author.Tests.{eq-eqb, ne-eqb, eqb-true, not-false, le-ltb}
+use Rattle.layout.specs.Answer.{Res, ok, refuse, bind}
+use Rattle.layout.specs.Cursor.{Direction, Cursor}
+use Rattle.layout.specs.Limits.{maxKey}
+use Rattle.layout.specs.Laws.Answer.{guard-then, ok-inj}
+use Rattle.layout.specs.Place.{splice, afterPut}
+use Rattle.buf_mut.specs.Promise.{Puts}
+use Rattle.buf_mut.specs.declared.Put.{Put}
+use Rattle.buf_mut.proofs.Laws.{copied}
+use Rattle.types.specs.Answers.{apart, yes}
+use Rattle.types.specs.Says.{saysOrder}
+use Rattle.block_v2.specs.Says.{builderFrom as builderOver}
+use Rattle.block_v2.specs.declared.BlockBuilderV2.{BlockBuilderV2}
+use Rattle.block_grow_v2.specs.declared.State.{State}
+use Rattle.block_iterator_v2.specs.Says.{viewOf}
+use Rattle.block_iterator_v2.specs.declared.BlockIteratorV2.{BlockIteratorV2}
+use Rattle.block_step_v2.specs.declared.Place.{Place}
+use Rattle.block_words.specs.Words.{badWords, codeOf, counted, oneOf, truthIn, orderIn, wordAt, cursorFrom, cursorIn, cursorWords}
+use Rattle.block_words.specs.Says.{saysCursor, saysState, stateIn}
+use Rattle.block_words.specs.declared.CursorRead.the-variants.{Is as IsCursor}
+use Rattle.block_words.specs.declared.StateRead.{StateRead}
+use Rattle.block_words.specs.declared.StateRead.the-variants.{Is as IsState, Bad as BadState}
+use Rattle.block_words.specs.Promise.{Stores, roomy, PutsIterator, LoadsState, MakesOver}
+
+-- ---- words
+
+pub of-0 : {A : Type 0} (a b : A) {w : ℕ} → w ≡ 0 → ok a ≡ oneOf a b w
+of-0 a b e = rw e refl
+
+pub of-1 : {A : Type 0} (a b : A) {w : ℕ} → w ≡ 1 → ok b ≡ oneOf a b w
+of-1 a b e = rw e refl
+
+pub of-none : {A : Type 0} (a b : A) {w : ℕ} → (w ≡ 0 → ⊥) → (w ≡ 1 → ⊥) → refuse badWords ≡ oneOf a b w
+of-none a b {w} h k = rw (ne-eqb w 0 h, ne-eqb w 1 k) refl
+
+pub counted-not : {A : Type 0} (ws : List ℕ) (n : ℕ) (k : Res A) → (length ws ≡ n → ⊥) → counted ws n k ≡ refuse badWords
+counted-not ws n k h = rw (ne-eqb (length ws) n h) refl
+
+pub counted-so : {A : Type 0} (ws : List ℕ) (n : ℕ) (k : Res A) → length ws ≡ n → counted ws n k ≡ k
+counted-so ws n k h = rw (eq-eqb (length ws) n h) refl
+
+pub cursor-short : (ws : List ℕ) → (length ws ≡ 5 → ⊥) → (key : List ℕ) → refuse badWords ≡ cursorIn ws key
+unfolding cursorIn
+cursor-short ws h key = sym (counted-not ws 5 _ h)
+
+pub cursor-no-order : (ws : List ℕ) → length ws ≡ 5 → orderIn (wordAt ws 0) ≡ refuse badWords → (key : List ℕ) → refuse badWords ≡ cursorIn ws key
+unfolding cursorIn
+cursor-no-order ws h o key = sym (counted-so ws 5 _ h ∙ rw o refl)
+
+module _ (ws : List ℕ) (h : length ws ≡ 5) {d : Direction} (o : orderIn (wordAt ws 0) ≡ ok d) where
+  pub cursor-no-mark : truthIn (wordAt ws 4) ≡ refuse badWords → (key : List ℕ) → refuse badWords ≡ cursorIn ws key
+  unfolding cursorIn
+  cursor-no-mark m key = sym (counted-so ws 5 _ h ∙ rw (o, m) refl)
+
+  pub cursor-read : {b : Bool} → truthIn (wordAt ws 4) ≡ ok b → (key : List ℕ) → cursorIn ws key ≡ ok (cursorFrom ws key d b)
+  unfolding cursorIn
+  cursor-read m key = counted-so ws 5 _ h ∙ rw (o, m) refl
+
+pub cursor-loaded : (ws : List ℕ) (p : Place) → length ws ≡ 5 → orderIn (wordAt ws 0) ≡ ok (saysOrder (p .order)) → truthIn (wordAt ws 4) ≡ ok (p .done)
+    → p .region ≡ wordAt ws 1 → p .at ≡ wordAt ws 2 → p .«key_len» ≡ wordAt ws 3 → (key : List ℕ) → saysCursor key (IsCursor p) ≡ cursorIn ws key
+cursor-loaded ws p h o m r a k key = rw (r, a, k) (sym (cursor-read ws h o m key))
+
+-- what is a cursor has its five words
+pub cursor-counts : (ws key : List ℕ) (c : Cursor) → cursorIn ws key ≡ ok c → length ws ≡ 5
+unfolding cursorIn
+cursor-counts ws key c e = guard-then (not (eqb (length ws) 5)) badWords _ c e λ t q. eqb-true (length ws) 5 (not-false (eqb (length ws) 5) t)
+
+-- a builder's words, as `state_in` answered of them
+module _ (ws : List ℕ) {r : StateRead} (l : LoadsState ws r) where
+  pub state-none : r ≡ BadState → length ws ≡ 6 → ⊥
+  state-none e h = apart (sym (counted-so ws 6 (ok (stateIn ws)) h) ∙ yes saysState l e)
+
+  pub state-counts : {s : State} → r ≡ IsState s → length ws ≡ 6
+  state-counts {s} e = guard-then (not (eqb (length ws) 6)) badWords (ok (stateIn ws)) s (yes saysState l e) λ t q. eqb-true (length ws) 6 (not-false (eqb (length ws) 6) t)
+
+  pub state-is : {s : State} → r ≡ IsState s → s ≡ stateIn ws
+  state-is {s} e = sym (ok-inj (sym (counted-so ws 6 (ok (stateIn ws)) (state-counts e)) ∙ yes saysState l e))
+
+-- ---- what is stored
+
+-- a copy over all bytes leaves what was copied
+pub copied-whole : (src : List ℕ) {key ys : List ℕ} {p : Put} → length key ≡ maxKey → length src ≡ maxKey → Puts src key 0 p ys → ys ≡ src
+unfolding splice
+copied-whole src {key} h k q =
+    copied (omega (arith, h, k)) q ∙ rw (drop-of-length-le key {i = 0 + length src} (omega (arith, h, k)), append-nil src) refl
+
+abbrev zeros : List ℕ
+zeros = replicate maxKey 0
+
+-- a builder over a last key of as many bytes as it must have
+pub over-whole : (last : List ℕ) {s t : State} {r : BlockBuilderV2} → length last ≡ maxKey → s ≡ t → MakesOver s last r → r ≡ builderOver t last
+unfolding afterPut splice
+over-whole last {s} {t} {r} h e m =
+    m ∙ rw (e, le-ltb (length zeros) (0 + length last) (omega (arith, h)), drop-of-length-le zeros {i = 0 + length last} (omega (arith, h)), append-nil last) refl
+
+-- of a store: words of another number are left
+pub stores-none : {n : ℕ} {new : List ℕ} (ws : List ℕ) → (length ws ≡ n → ⊥) → Stores n new ws false ws
+stores-none {n} ws h = record { answer = sym (ne-eqb (length ws) n h); state = rw (ne-eqb (length ws) n h) refl }
+
+pub stores-all : {n : ℕ} {new ws′ : List ℕ} (ws : List ℕ) → length ws ≡ n → ws′ ≡ new → Stores n new ws true ws′
+stores-all {n} ws h q = record { answer = sym (eq-eqb (length ws) n h); state = rw (eq-eqb (length ws) n h) q }
+
+-- words that are as many as they must be are stored to
+pub stored : {n : ℕ} {new ws ws′ : List ℕ} {r : Bool} → length ws ≡ n → Stores n new ws r ws′ → ws′ ≡ new
+stored {n} {new} {ws} h s = rw (eq-eqb (length ws) n h) at (s .state)
+
+module _ (c : BlockIteratorV2) (ws key : List ℕ) where
+  pub iterator-no-words : (length ws ≡ 5 → ⊥) → PutsIterator c ws key false ws key
+  iterator-no-words h =
+      let is : roomy ws key ≡ false = rw (ne-eqb (length ws) 5 h) refl in
+      record { answer = sym is; words = rw is refl; bytes = rw is refl }
+
+  pub iterator-no-key : length ws ≡ 5 → (length key ≡ maxKey → ⊥) → PutsIterator c ws key false ws key
+  iterator-no-key h k =
+      let is : roomy ws key ≡ false = rw (eq-eqb (length ws) 5 h, ne-eqb (length key) maxKey k) refl in
+      record { answer = sym is; words = rw is refl; bytes = rw is refl }
+
+  module _ (h : length ws ≡ 5) (k : length key ≡ maxKey) where
+    enough : roomy ws key ≡ true
+    enough = rw (eq-eqb (length ws) 5 h, eq-eqb (length key) maxKey k) refl
+
+    pub iterator-put : {ws′ key′ : List ℕ} → ws′ ≡ cursorWords (viewOf c) → key′ ≡ c .key → PutsIterator c ws key true ws′ key′
+    iterator-put w b = record { answer = sym enough; words = rw enough w; bytes = rw enough b }
+
+    pub put-words : {r : Bool} {ws′ key′ : List ℕ} → PutsIterator c ws key r ws′ key′ → ws′ ≡ cursorWords (viewOf c)
+    put-words p = rw enough at (p .words)
+
+    pub put-bytes : {r : Bool} {ws′ key′ : List ℕ} → PutsIterator c ws key r ws′ key′ → key′ ≡ c .key
+    put-bytes p = rw enough at (p .bytes)
+
+-- ---- a record's promise, taken apart: an answer that says only whether, with the value beside it
+
+abbrev pub only : {A : Type 0} → Res A → Res (Unit {0})
+only want = bind want λ _. ok tt
+
+pub went : {A : Type 0} (want : Res A) (v : A) → only want ≡ ok tt → ((a : A) → want ≡ ok a → v ≡ a) → want ≡ ok v
+went (ok a) v s is = ap ok (sym (is a refl))
+went (refuse n) v s is = absurd (apart (sym s))
+
+pub stayed : {A : Type 0} (want : Res A) (k : ℕ) → only want ≡ refuse k → want ≡ refuse k
+stayed (ok a) k s = absurd (apart s)
+stayed (refuse n) k s = ap refuse (ap codeOf s)

@@ -1,0 +1,28 @@
+-- A value's words, by its three cases: each is the definition's own line.
+use mathlib.Core.Path.{ap, sym}
+use Rattle.block_words.specs.Says.{heldFrom}
+use borrow.Author.Needs.{needs}
+use Rattle.block_words.proofs.held_words.Statement.{statement}
+use Rattle.block_words.proofs.held_words.Tie as tie
+
+enum-known-held : tie.Need-enum-known-held
+enum-known-held c = search needs
+
+enum-told : tie.Need-enum-told
+enum-told c = search needs
+
+enum-known-held-2 : tie.Need-enum-known-held-2
+enum-known-held-2 c = search needs
+
+returns : tie.Need-returns
+returns c = ap heldFrom (sym (c .before .held .given .1))
+
+returns-2 : tie.Need-returns-2
+returns-2 c = ap heldFrom (sym (c .enum-told .given .1))
+
+returns-3 : tie.Need-returns-3
+returns-3 c = ap heldFrom (sym (c .before .held2 .given .1))
+
+pub held-words-spec : {M : Type 1} → statement M
+held-words-spec =
+    tie.close (tie.spec enum-known-held enum-told enum-known-held-2 returns returns-2 returns-3)

@@ -1,0 +1,20 @@
+-- A word is a kind exactly when the definition says so: the tests go through its cases in order.
+use mathlib.Core.Path.{refl}
+use Rattle.block_words.proofs.Fields.{kind-none}
+use Rattle.block_words.proofs.kind_in.Statement.{statement}
+use Rattle.block_words.proofs.kind_in.Tie as tie
+
+returns : tie.Need-returns
+returns c = rw (c .if1 .taken) refl
+
+returns-2 : tie.Need-returns-2
+returns-2 c = rw (c .if2 .taken) refl
+
+returns-3 : tie.Need-returns-3
+returns-3 c = rw (c .if3 .taken) refl
+
+returns-4 : tie.Need-returns-4
+returns-4 c = kind-none (c .before .before .if1 .left) (c .before .if2 .left) (c .if3 .left)
+
+pub kind-in-spec : {M : Type 1} → statement M
+kind-in-spec = tie.close (tie.spec returns returns-2 returns-3 returns-4)

@@ -1,0 +1,55 @@
+-- Five words stored one by one are the words of the cursor: with every place set, nothing of the old list is left. Words of another number are left.
+use Rattle.block_words.proofs.Stores.{five}
+use Rattle.block_words.proofs.Laws.{stores-none, stores-all}
+use native.Mathlib.Omega.{arith}
+use lib.ListN.{length-set}
+use borrow.Author.Needs.{needs}
+use Rattle.block_words.proofs.put_cursor.Statement.{statement}
+use Rattle.block_words.proofs.put_cursor.Tie as tie
+
+returns : tie.Need-returns
+returns c = stores-none _ (c .if1 .taken)
+
+order-word-requires : tie.Need-order-word-requires
+order-word-requires c κs = search needs
+
+slice-write-words : tie.Need-slice-write-words
+slice-write-words c = search needs
+
+slice-write-words-2 : tie.Need-slice-write-words-2
+slice-write-words-2 c = search needs
+
+slice-write-words-3 : tie.Need-slice-write-words-3
+slice-write-words-3 c = search needs
+
+slice-write-words-4 : tie.Need-slice-write-words-4
+slice-write-words-4 c = search needs
+
+truth-word-requires : tie.Need-truth-word-requires
+truth-word-requires c κs = search needs
+
+slice-write-words-5 : tie.Need-slice-write-words-5
+slice-write-words-5 c = simp length-set (omega (arith, c .before .before .if1 .left))
+
+same-length : tie.Need-same-length
+same-length c = search needs
+
+returns-2 : tie.Need-returns-2
+returns-2 c =
+    let start = c .before .before .before .before in
+    stores-all (start .args .words .now) (c .before .before .if1 .left) (rw (c .before .order-word .ensures, c .truth-word .ensures) (five (start .args .words .now) _ _ _ _ _ (c .before .before .if1 .left)))
+
+pub put-cursor-spec : {M : Type 1} → statement M
+put-cursor-spec =
+    tie.close
+    (tie.spec
+    returns
+    order-word-requires
+    slice-write-words
+    slice-write-words-2
+    slice-write-words-3
+    slice-write-words-4
+    truth-word-requires
+    slice-write-words-5
+    same-length
+    returns-2)

@@ -1,0 +1,49 @@
+-- A cursor is stored: its words are those of its view, and its key's bytes are all copied. Where either has another number, both are left.
+use mathlib.Core.Path.{_≡_}
+use lib.ListN.{length}
+use Rattle.block_words.proofs.Laws.{copied-whole, stored, iterator-no-words, iterator-no-key, iterator-put}
+use borrow.Author.Needs.{needs}
+use Rattle.block_words.proofs.put_iterator.Statement.{statement}
+use Rattle.block_words.proofs.put_iterator.Tie as tie
+
+returns : tie.Need-returns
+returns c = iterator-no-words _ _ _ (c .if1 .taken)
+
+returns-2 : tie.Need-returns-2
+returns-2 c = iterator-no-key _ _ _ (c .before .if1 .left) (c .if2 .taken)
+
+place-of-requires : tie.Need-place-of-requires
+place-of-requires c κs = search needs
+
+put-cursor-requires : tie.Need-put-cursor-requires
+put-cursor-requires c κs = search needs
+
+copy-in-requires : tie.Need-copy-in-requires
+copy-in-requires c κs = search needs
+
+same-length : tie.Need-same-length
+same-length c = search needs
+
+same-length-2 : tie.Need-same-length-2
+same-length-2 c = search needs
+
+returns-3 : tie.Need-returns-3
+returns-3 c =
+    let after-put-cursor = c .before .before .before .before .before .before .before .before .before in
+    let enough = after-put-cursor .before .before .before in
+    let start = enough .before .before .before .before in
+    let whole : length (start .args .t3 .key) ≡ 1024 = search needs in
+    iterator-put (start .args .t3) _ _ (enough .before .if1 .left) (enough .if2 .left) (rw (after-put-cursor .before .place-of .ensures) at (stored (enough .before .if1 .left) (after-put-cursor .put-cursor .ensures))) (copied-whole (start .args .t3 .key) (enough .if2 .left) whole (c .before .before .copy-in .ensures))
+
+pub put-iterator-spec : {M : Type 1} → statement M
+put-iterator-spec =
+    tie.close
+    (tie.spec
+    returns
+    returns-2
+    place-of-requires
+    put-cursor-requires
+    copy-in-requires
+    same-length
+    same-length-2
+    returns-3)

@@ -1,0 +1,92 @@
+-- Thirteen words stored one by one are the words of the row: with every place set, nothing of the old list is left. Words of another number are left.
+use native.Mathlib.Omega.{arith}
+use lib.ListN.{length-set}
+use Rattle.block_words.proofs.Laws.{stores-none, stores-all}
+use Rattle.block_words.proofs.Fields.{row-stored}
+use borrow.Author.Needs.{needs}
+use Rattle.block_words.proofs.put_row.Statement.{statement}
+use Rattle.block_words.proofs.put_row.Tie as tie
+
+returns : tie.Need-returns
+returns c = stores-none _ (c .if1 .taken)
+
+held-words-requires : tie.Need-held-words-requires
+held-words-requires c κs = search needs
+
+time-words-requires : tie.Need-time-words-requires
+time-words-requires c κs = search needs
+
+time-words-requires-2 : tie.Need-time-words-requires-2
+time-words-requires-2 c κs = search needs
+
+slice-write-words : tie.Need-slice-write-words
+slice-write-words c = search needs
+
+slice-write-words-2 : tie.Need-slice-write-words-2
+slice-write-words-2 c = search needs
+
+slice-write-words-3 : tie.Need-slice-write-words-3
+slice-write-words-3 c = search needs
+
+slice-write-words-4 : tie.Need-slice-write-words-4
+slice-write-words-4 c = simp length-set (omega (arith, c .before .before .before .if1 .left))
+
+slice-write-words-5 : tie.Need-slice-write-words-5
+slice-write-words-5 c = simp length-set (omega (arith, c .before .before .before .if1 .left))
+
+slice-write-words-6 : tie.Need-slice-write-words-6
+slice-write-words-6 c = simp length-set (omega (arith, c .before .before .before .if1 .left))
+
+slice-write-words-7 : tie.Need-slice-write-words-7
+slice-write-words-7 c = simp length-set (omega (arith, c .before .before .before .if1 .left))
+
+slice-write-words-8 : tie.Need-slice-write-words-8
+slice-write-words-8 c = simp length-set (omega (arith, c .before .before .before .if1 .left))
+
+slice-write-words-9 : tie.Need-slice-write-words-9
+slice-write-words-9 c = simp length-set (omega (arith, c .before .before .before .if1 .left))
+
+slice-write-words-10 : tie.Need-slice-write-words-10
+slice-write-words-10 c = simp length-set (omega (arith, c .before .before .before .if1 .left))
+
+slice-write-words-11 : tie.Need-slice-write-words-11
+slice-write-words-11 c = simp length-set (omega (arith, c .before .before .before .if1 .left))
+
+slice-write-words-12 : tie.Need-slice-write-words-12
+slice-write-words-12 c = simp length-set (omega (arith, c .before .before .before .if1 .left))
+
+slice-write-words-13 : tie.Need-slice-write-words-13
+slice-write-words-13 c = simp length-set (omega (arith, c .before .before .before .if1 .left))
+
+same-length : tie.Need-same-length
+same-length c = simp length-set
+
+returns-2 : tie.Need-returns-2
+returns-2 c =
+    let counted = c .before .before .before in
+    let start = counted .before .before in
+    stores-all (start .args .words .now) (counted .if1 .left) (rw (c .before .before .held-words .ensures, c .before .time-words .ensures, c .time-words2 .ensures) (row-stored (start .args .words .now) (start .args .row) (counted .if1 .left)))
+
+pub put-row-spec : {M : Type 1} → statement M
+put-row-spec =
+    tie.close
+    (tie.spec
+    returns
+    held-words-requires
+    time-words-requires
+    time-words-requires-2
+    slice-write-words
+    slice-write-words-2
+    slice-write-words-3
+    slice-write-words-4
+    slice-write-words-5
+    slice-write-words-6
+    slice-write-words-7
+    slice-write-words-8
+    slice-write-words-9
+    slice-write-words-10
+    slice-write-words-11
+    slice-write-words-12
+    slice-write-words-13
+    same-length
+    returns-2)

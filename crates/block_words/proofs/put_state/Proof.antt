@@ -1,0 +1,49 @@
+-- Six words stored one by one are the words of the builder: with every place set, nothing of the old list is left. Words of another number are left.
+use native.Mathlib.Omega.{arith}
+use lib.ListN.{length-set}
+use Rattle.block_words.proofs.Laws.{stores-none, stores-all}
+use Rattle.block_words.proofs.Stores.{six}
+use borrow.Author.Needs.{needs}
+use Rattle.block_words.proofs.put_state.Statement.{statement}
+use Rattle.block_words.proofs.put_state.Tie as tie
+
+returns : tie.Need-returns
+returns c = stores-none _ (c .if1 .taken)
+
+slice-write-words : tie.Need-slice-write-words
+slice-write-words c = search needs
+
+slice-write-words-2 : tie.Need-slice-write-words-2
+slice-write-words-2 c = search needs
+
+slice-write-words-3 : tie.Need-slice-write-words-3
+slice-write-words-3 c = search needs
+
+slice-write-words-4 : tie.Need-slice-write-words-4
+slice-write-words-4 c = search needs
+
+slice-write-words-5 : tie.Need-slice-write-words-5
+slice-write-words-5 c = simp length-set (omega (arith, c .if1 .left))
+
+slice-write-words-6 : tie.Need-slice-write-words-6
+slice-write-words-6 c = simp length-set (omega (arith, c .if1 .left))
+
+same-length : tie.Need-same-length
+same-length c = search needs
+
+returns-2 : tie.Need-returns-2
+returns-2 c = stores-all (c .before .args .words .now) (c .if1 .left) (six (c .before .args .words .now) _ _ _ _ _ _ (c .if1 .left))
+
+pub put-state-spec : {M : Type 1} → statement M
+put-state-spec =
+    tie.close
+    (tie.spec
+    returns
+    slice-write-words
+    slice-write-words-2
+    slice-write-words-3
+    slice-write-words-4
+    slice-write-words-5
+    slice-write-words-6
+    same-length
+    returns-2)

@@ -1,0 +1,75 @@
+-- A builder's words become its state: each word that is read is the one that the definition names. Words of another number are none.
+use mathlib.Core.Path.{sym}
+use Rattle.layout.specs.Answer.{ok}
+use Rattle.block_words.specs.Says.{stateIn}
+use Rattle.block_words.proofs.Laws.{counted-not, counted-so}
+use borrow.Author.Needs.{needs}
+use Rattle.block_words.proofs.state_in.Statement.{statement}
+use Rattle.block_words.proofs.state_in.Tie as tie
+
+returns : tie.Need-returns
+returns c =
+    let words = c .before .before .args .words .now in
+    sym (counted-not words 6 (ok (stateIn words)) (c .if1 .taken))
+
+shared-slice-read-size : tie.Need-shared-slice-read-size
+shared-slice-read-size c = search needs
+
+size-requires : tie.Need-size-requires
+size-requires c κs = search needs
+
+shared-slice-read-size-2 : tie.Need-shared-slice-read-size-2
+shared-slice-read-size-2 c = search needs
+
+size-requires-2 : tie.Need-size-requires-2
+size-requires-2 c κs = search needs
+
+shared-slice-read-size-3 : tie.Need-shared-slice-read-size-3
+shared-slice-read-size-3 c = search needs
+
+size-requires-3 : tie.Need-size-requires-3
+size-requires-3 c κs = search needs
+
+shared-slice-read-size-4 : tie.Need-shared-slice-read-size-4
+shared-slice-read-size-4 c = search needs
+
+size-requires-4 : tie.Need-size-requires-4
+size-requires-4 c κs = search needs
+
+shared-slice-read-size-5 : tie.Need-shared-slice-read-size-5
+shared-slice-read-size-5 c = search needs
+
+size-requires-5 : tie.Need-size-requires-5
+size-requires-5 c κs = search needs
+
+shared-slice-read-size-6 : tie.Need-shared-slice-read-size-6
+shared-slice-read-size-6 c = search needs
+
+size-requires-6 : tie.Need-size-requires-6
+size-requires-6 c κs = search needs
+
+returns-2 : tie.Need-returns-2
+returns-2 c =
+    let after-size3 = c .before .before .before .before .before .before in
+    let counted = after-size3 .before .before .before .before .before .before in
+    let words = counted .before .before .args .words .now in
+    rw (after-size3 .before .before .before .before .size .ensures, after-size3 .before .before .size2 .ensures, after-size3 .size3 .ensures, c .before .before .before .before .size4 .ensures, c .before .before .size5 .ensures, c .size6 .ensures) (sym (counted-so words 6 (ok (stateIn words)) (counted .if1 .left)))
+
+pub state-in-spec : {M : Type 1} → statement M
+state-in-spec =
+    tie.close
+    (tie.spec
+    returns
+    shared-slice-read-size
+    size-requires
+    shared-slice-read-size-2
+    size-requires-2
+    shared-slice-read-size-3
+    size-requires-3
+    shared-slice-read-size-4
+    size-requires-4
+    shared-slice-read-size-5
+    size-requires-5
+    shared-slice-read-size-6
+    size-requires-6
+    returns-2)

@@ -1,0 +1,48 @@
+-- Two words are a time exactly when the definition says so: whether there is one, and its bits.
+use mir.Syntax.{w64}
+use mir.Facts.{toZ-ofZ}
+use mathlib.Core.Path.{ap, _∙_}
+use Rattle.layout.specs.Answer.{ok}
+use Rattle.types.specs.Answers.{yes}
+use Rattle.block_words.specs.Says.{saysTruth}
+use Rattle.block_words.proofs.Fields.{time-bad, time-at, time-absent}
+use borrow.Author.Needs.{needs}
+use Rattle.block_words.proofs.time_in.Statement.{statement}
+use Rattle.block_words.proofs.time_in.Tie as tie
+
+truth-in-requires : tie.Need-truth-in-requires
+truth-in-requires c κs = search needs
+
+enum-known-there : tie.Need-enum-known-there
+enum-known-there c = search needs
+
+enum-told : tie.Need-enum-told
+enum-told c = search needs
+
+returns : tie.Need-returns
+returns c = time-bad (c .before .before .before .args .has) (c .before .before .before .args .bits) (yes saysTruth (c .before .before .truth-in .ensures) (c .enum-told .given .1))
+
+from-bits-requires : tie.Need-from-bits-requires
+from-bits-requires c κs = search needs
+
+returns-2 : tie.Need-returns-2
+returns-2 c =
+    let after-truth-in = c .before .before .before .before .before in
+    time-at (after-truth-in .before .args .has) (after-truth-in .before .args .bits) (yes saysTruth (after-truth-in .truth-in .ensures) (c .before .before .before .there .given .1) ∙ ap ok (c .before .if1 .taken)) (toZ-ofZ {w = w64} (record { sfits = c .from-bits .ok }) ∙ c .from-bits .ensures)
+
+returns-3 : tie.Need-returns-3
+returns-3 c =
+    let start = c .before .before .before .before .before in
+    time-absent (start .args .has) (start .args .bits) (yes saysTruth (c .before .before .before .before .truth-in .ensures) (c .before .before .there .given .1) ∙ ap ok (c .if1 .left))
+
+pub time-in-spec : {M : Type 1} → statement M
+time-in-spec =
+    tie.close
+    (tie.spec
+    truth-in-requires
+    enum-known-there
+    enum-told
+    returns
+    from-bits-requires
+    returns-2
+    returns-3)

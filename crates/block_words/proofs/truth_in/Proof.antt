@@ -1,0 +1,17 @@
+-- A word is a truth exactly when the definition says so: 0, 1, or none.
+use mathlib.Core.Bool.{true, false}
+use Rattle.block_words.proofs.Laws.{of-0, of-1, of-none}
+use Rattle.block_words.proofs.truth_in.Statement.{statement}
+use Rattle.block_words.proofs.truth_in.Tie as tie
+
+returns : tie.Need-returns
+returns c = of-0 false true (c .if1 .taken)
+
+returns-2 : tie.Need-returns-2
+returns-2 c = of-1 false true (c .if2 .taken)
+
+returns-3 : tie.Need-returns-3
+returns-3 c = of-none false true (c .before .if1 .left) (c .if2 .left)
+
+pub truth-in-spec : {M : Type 1} → statement M
+truth-in-spec = tie.close (tie.spec returns returns-2 returns-3)

@@ -1,0 +1,107 @@
+-- Each promise admits one outcome: two results, with the words and bytes that they leave, that both keep it are equal; but for the key bytes past the length of
+-- the key that a cursor carries after a step.
+use Prim.Native.Nat.{ℕ}
+use mathlib.Core.Bool.{Bool}
+use mathlib.Core.Path.{_≡_, sym, _∙_}
+use mathlib.Core.List.{List, []}
+use lib.ListN.{length, take}
+use Rattle.layout.specs.Answer.{Res, ok, refuse, bind}
+use Rattle.layout.specs.Cursor.{Cursor, next}
+use Rattle.layout.specs.Key.{Key}
+use Rattle.layout.specs.Limits.{maxKey}
+use Rattle.row_decode_v2.specs.declared.Row.{Row}
+use Rattle.block_v2.specs.declared.BlockBuilderV2.{BlockBuilderV2}
+use Rattle.block_grow_v2.specs.declared.State.{State}
+use Rattle.block_step_v2.specs.declared.Place.{Place}
+use Rattle.block_iterator_v2.specs.declared.BlockIteratorV2.{BlockIteratorV2}
+use Rattle.block_words.specs.declared.OrderRead.{OrderRead}
+use Rattle.block_words.specs.declared.CursorRead.{CursorRead}
+use Rattle.block_words.specs.declared.StateRead.{StateRead}
+use Rattle.block_words.specs.declared.FieldsRead.{FieldsRead}
+use Rattle.block_words.specs.Words.{counted, cursorIn}
+use Rattle.block_words.specs.Says.{saysOrdered-one, saysCursor-one, saysState-one, saysFields-one}
+use Rattle.block_words.specs.Promise.{Stores, TellsTruth, LoadsOrder, LoadsCursor, PutsCursor, PlacesCursor, PutsIterator, LoadsState, TakesState, PutsState, MakesOver, LoadsFields, PutsRow}
+use Rattle.block_words.specs.Exports.{AddsFlat, KeyLeft, StepsFlat}
+
+stores-settled : {n : ℕ} {new ws : List ℕ} {r q : Bool} {ys zs : List ℕ} → Stores n new ws r ys → Stores n new ws q zs → (r ≡ q) × (ys ≡ zs)
+stores-settled a b = (a .answer ∙ sym (b .answer), a .state ∙ sym (b .state))
+
+-- ---- single words
+
+pub truth-word-settled : (b : Bool) (r q : ℕ) → TellsTruth b r → TellsTruth b q → r ≡ q
+truth-word-settled b r q m n = m ∙ sym n
+
+pub order-in-settled : (w : ℕ) (r q : OrderRead) → LoadsOrder w r → LoadsOrder w q → r ≡ q
+order-in-settled w r q m n = saysOrdered-one r q (m ∙ sym n)
+
+-- ---- a cursor
+
+pub cursor-in-settled : (ws : List ℕ) (r q : CursorRead) → LoadsCursor ws r → LoadsCursor ws q → r ≡ q
+cursor-in-settled ws r q m n = saysCursor-one [] r q (m [] ∙ sym (n []))
+
+pub put-cursor-settled : (p : Place) (ws : List ℕ) (r q : Bool) (ys zs : List ℕ) → PutsCursor p ws r ys → PutsCursor p ws q zs → (r ≡ q) × (ys ≡ zs)
+put-cursor-settled p ws r q ys zs m n = stores-settled m n
+
+pub place-of-settled : (c : BlockIteratorV2) (r q : Place) → PlacesCursor c r → PlacesCursor c q → r ≡ q
+place-of-settled c r q m n = m ∙ sym n
+
+pub put-iterator-settled : (c : BlockIteratorV2) (ws key : List ℕ) (r q : Bool) (ys zs ks ls : List ℕ) → PutsIterator c ws key r ys ks → PutsIterator c ws key q zs ls
+    → (r ≡ q) × (ys ≡ zs) × (ks ≡ ls)
+put-iterator-settled c ws key r q ys zs ks ls m n = (m .answer ∙ sym (n .answer), m .words ∙ sym (n .words), m .bytes ∙ sym (n .bytes))
+
+-- ---- a builder
+
+pub state-in-settled : (ws : List ℕ) (r q : StateRead) → LoadsState ws r → LoadsState ws q → r ≡ q
+state-in-settled ws r q m n = saysState-one r q (m ∙ sym n)
+
+pub state-of-settled : (b : BlockBuilderV2) (r q : State) → TakesState b r → TakesState b q → r ≡ q
+state-of-settled b r q m n = m ∙ sym n
+
+pub put-state-settled : (s : State) (ws : List ℕ) (r q : Bool) (ys zs : List ℕ) → PutsState s ws r ys → PutsState s ws q zs → (r ≡ q) × (ys ≡ zs)
+put-state-settled s ws r q ys zs m n = stores-settled m n
+
+pub builder-over-settled : (s : State) (last : List ℕ) (r q : BlockBuilderV2) → MakesOver s last r → MakesOver s last q → r ≡ q
+builder-over-settled s last r q m n = m ∙ sym n
+
+-- ---- a row
+
+pub fields-in-settled : (ws : List ℕ) (r q : FieldsRead) → LoadsFields ws r → LoadsFields ws q → r ≡ q
+fields-in-settled ws r q m n = saysFields-one [] r q (m [] ∙ sym (n []))
+
+pub put-row-settled : (row : Row) (ws : List ℕ) (r q : Bool) (ys zs : List ℕ) → PutsRow row ws r ys → PutsRow row ws q zs → (r ≡ q) × (ys ≡ zs)
+put-row-settled row ws r q ys zs m n = stores-settled m n
+
+-- ---- the exports of the crates above
+
+-- adding a row, in place and by value
+pub builder-add-settled : (ws last bytes places : List ℕ) (key : Key) (value fs : List ℕ) (c d : ℕ) (vs ws′ ks ls ys zs os ps : List ℕ)
+    → AddsFlat ws last bytes places key value fs c vs ks ys os → AddsFlat ws last bytes places key value fs d ws′ ls zs ps
+    → (c ≡ d) × (vs ≡ ws′) × (ks ≡ ls) × (ys ≡ zs) × (os ≡ ps)
+builder-add-settled ws last bytes places key value fs c d vs ws′ ks ls ys zs os ps a b = (
+  a .answer ∙ sym (b .answer),
+  a .state ∙ sym (b .state),
+  a .last-after ∙ sym (b .last-after),
+  a .bytes-after ∙ sym (b .bytes-after),
+  a .places-after ∙ sym (b .places-after),
+)
+
+-- key bytes that agree: as far as the cursor's key goes, and after a refusal whole
+abbrev pub SameKey : {A : Type 0} → Res A → (A → Cursor) → List ℕ → List ℕ → Type 0
+SameKey (ok a) left ks ls = take (left a .keyLen) ks ≡ take (left a .keyLen) ls
+SameKey (refuse n) left ks ls = ks ≡ ls
+
+pub same-key : {A : Type 0} (want : Res A) (left : A → Cursor) (key ks ls : List ℕ) → KeyLeft want left key ks → KeyLeft want left key ls → SameKey want left ks ls
+same-key (ok a) left key ks ls m l = m ∙ sym l
+same-key (refuse n) left key ks ls m l = m ∙ sym l
+
+-- a step, in place and by value
+pub next-settled : (b ws key out row : List ℕ) (c d : ℕ) (vs us ks ls ys zs rs qs : List ℕ)
+    → StepsFlat b ws key out row c vs ks ys rs → StepsFlat b ws key out row d us ls zs qs
+    → (c ≡ d) × (vs ≡ us) × SameKey (counted row 13 (counted key maxKey (bind (cursorIn ws key) λ k. next k b (length out)))) (λ s. s .cursor) ks ls × (ys ≡ zs) × (rs ≡ qs)
+next-settled b ws key out row c d vs us ks ls ys zs rs qs m l = (
+  m .answer ∙ sym (l .answer),
+  m .state ∙ sym (l .state),
+  same-key (counted row 13 (counted key maxKey (bind (cursorIn ws key) λ k. next k b (length out)))) (λ s. s .cursor) key ks ls (m .key-bytes) (l .key-bytes),
+  m .lent ∙ sym (l .lent),
+  m .row-words ∙ sym (l .row-words),
+)

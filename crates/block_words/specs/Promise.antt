@@ -1,0 +1,86 @@
+-- What each public function promises: equations to the definitions, that settle each case and number answered and each word and byte lent.
+use Prim.Native.Nat.{ℕ}
+use mathlib.Core.Bool.{Bool, false, cond}
+use mathlib.Core.Path.{_≡_}
+use mathlib.Core.List.{List, []}
+use lib.Dec.{eqb}
+use lib.ListN.{length, replicate}
+use Rattle.layout.specs.Answer.{ok}
+use Rattle.layout.specs.Limits.{maxKey}
+use Rattle.layout.specs.Place.{afterPut}
+use Rattle.row_decode_v2.specs.Says.{rowFrom}
+use Rattle.row_decode_v2.specs.declared.Row.{Row}
+use Rattle.block_v2.specs.Says.{stateOf, builderFrom}
+use Rattle.block_grow_v2.specs.Says.{viewFrom}
+use Rattle.block_v2.specs.declared.BlockBuilderV2.{BlockBuilderV2}
+use Rattle.block_grow_v2.specs.declared.State.{State}
+use Rattle.block_step_v2.specs.Says.{viewIn}
+use Rattle.block_step_v2.specs.declared.Place.{Place}
+use Rattle.block_iterator_v2.specs.Says.{viewOf}
+use Rattle.block_iterator_v2.specs.declared.BlockIteratorV2.{BlockIteratorV2}
+use Rattle.block_words.specs.declared.OrderRead.{OrderRead}
+use Rattle.block_words.specs.declared.CursorRead.{CursorRead}
+use Rattle.block_words.specs.declared.StateRead.{StateRead}
+use Rattle.block_words.specs.declared.FieldsRead.{FieldsRead}
+use Rattle.block_words.specs.Words.{counted, truthWord, orderIn, cursorIn, cursorWords, builderWords, fieldsIn, rowWords}
+use Rattle.block_words.specs.Says.{saysOrdered, saysCursor, placeOf, saysState, stateIn, saysFields}
+
+-- a store of n words: whether there were as many, and what they are then; others are left
+pub record Stores (n : ℕ) (new ws : List ℕ) (r : Bool) (ws′ : List ℕ) : Type 0 where
+  pub answer : r ≡ eqb (length ws) n
+  pub state : ws′ ≡ cond (eqb (length ws) n) new ws
+
+-- ---- single words
+
+abbrev pub TellsTruth : Bool → ℕ → Type 0
+TellsTruth b r = r ≡ truthWord b
+
+abbrev pub LoadsOrder : ℕ → OrderRead → Type 0
+LoadsOrder w r = saysOrdered r ≡ orderIn w
+
+-- ---- a cursor
+
+-- whatever bytes stand beside the words
+abbrev pub LoadsCursor : List ℕ → CursorRead → Type 0
+LoadsCursor ws r = (key : List ℕ) → saysCursor key r ≡ cursorIn ws key
+
+abbrev pub PutsCursor : Place → List ℕ → Bool → List ℕ → Type 0
+PutsCursor p ws r ws′ = Stores 5 (cursorWords (viewIn p [])) ws r ws′
+
+-- its numbers, without its key's bytes
+abbrev pub PlacesCursor : BlockIteratorV2 → Place → Type 0
+PlacesCursor c r = r ≡ placeOf c
+
+-- words and key bytes are as many as a cursor has
+abbrev pub roomy : List ℕ → List ℕ → Bool
+roomy ws key = cond (eqb (length ws) 5) (eqb (length key) maxKey) false
+
+pub record PutsIterator (c : BlockIteratorV2) (ws key : List ℕ) (r : Bool) (ws′ key′ : List ℕ) : Type 0 where
+  pub answer : r ≡ roomy ws key
+  pub words : ws′ ≡ cond (roomy ws key) (cursorWords (viewOf c)) ws
+  pub bytes : key′ ≡ cond (roomy ws key) (c .key) key
+
+-- ---- a builder
+
+abbrev pub LoadsState : List ℕ → StateRead → Type 0
+LoadsState ws r = saysState r ≡ counted ws 6 (ok (stateIn ws))
+
+-- its numbers, without its last key's bytes
+abbrev pub TakesState : BlockBuilderV2 → State → Type 0
+TakesState b r = r ≡ stateOf b
+
+abbrev pub PutsState : State → List ℕ → Bool → List ℕ → Type 0
+PutsState s ws r ws′ = Stores 6 (builderWords (viewFrom s [])) ws r ws′
+
+-- the lent bytes lie at the start of the last key's, which are zeros; more than these are not copied
+abbrev pub MakesOver : State → List ℕ → BlockBuilderV2 → Type 0
+MakesOver s last r = r ≡ builderFrom s (afterPut (replicate maxKey 0) 0 last)
+
+-- ---- a row
+
+-- whatever value is offered with them
+abbrev pub LoadsFields : List ℕ → FieldsRead → Type 0
+LoadsFields ws r = (v : List ℕ) → saysFields v r ≡ fieldsIn ws v
+
+abbrev pub PutsRow : Row → List ℕ → Bool → List ℕ → Type 0
+PutsRow row ws r ws′ = Stores 13 (rowWords (rowFrom row)) ws r ws′

@@ -1,0 +1,54 @@
+-- What is left is by the two cases of the answer: with a row, the words of its state; with none, the words that were there.
+use mathlib.Core.Path.{ap, sym, _∙_}
+use Rattle.block_grow_v2.specs.declared.Grown.{Grown}
+use Rattle.block_words.proofs.Laws.{stored}
+use Rattle.slatedb_block.specs.Says.{grownCode, grownWords}
+use borrow.Author.Needs.{needs}
+use Rattle.slatedb_block.proofs.put_grown.Statement.{statement}
+use Rattle.slatedb_block.proofs.put_grown.Tie as tie
+
+enum-known-grown : tie.Need-enum-known-grown
+enum-known-grown c = search needs
+
+put-state-requires : tie.Need-put-state-requires
+put-state-requires c κs = search needs
+
+enum-known-grown-2 : tie.Need-enum-known-grown-2
+enum-known-grown-2 c = search needs
+
+number-requires : tie.Need-number-requires
+number-requires c κs = search needs
+
+same-length : tie.Need-same-length
+same-length c = search needs
+
+returns : tie.Need-returns
+returns c =
+    let put = c .before .before in
+    let known = put .before .before .before in
+    let start = known .before .before .before in
+    record {
+      answer = sym (ap grownCode (known .grown .given .1));
+      state = stored (start .pre) (put .put-state .ensures) ∙ sym (ap (λ (g : Grown). grownWords g (start .args .builder .now)) (known .grown .given .1));
+    }
+
+returns-2 : tie.Need-returns-2
+returns-2 c =
+    let known = c .before .before in
+    let start = known .before .before .before in
+    record {
+      answer = c .number .ensures ∙ sym (ap grownCode (known .grown2 .given .1));
+      state = sym (ap (λ (g : Grown). grownWords g (start .args .builder .now)) (known .grown2 .given .1));
+    }
+
+pub put-grown-spec : {M : Type 1} → statement M
+put-grown-spec =
+    tie.close
+    (tie.spec
+    enum-known-grown
+    put-state-requires
+    enum-known-grown-2
+    number-requires
+    same-length
+    returns
+    returns-2)

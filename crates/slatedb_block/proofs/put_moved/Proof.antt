@@ -1,0 +1,89 @@
+-- What is left is by the three cases of the answer: the cursor's words where it moved, the row's where one was found.
+use mathlib.Core.Path.{ap, sym, _∙_}
+use Rattle.block_step_v2.specs.declared.Moved.{Moved}
+use Rattle.block_words.proofs.Laws.{stored}
+use Rattle.slatedb_block.specs.Says.{movedCode, movedWords, movedRow}
+use borrow.Author.Needs.{needs}
+use Rattle.slatedb_block.proofs.put_moved.Statement.{statement}
+use Rattle.slatedb_block.proofs.put_moved.Tie as tie
+
+enum-known-moved : tie.Need-enum-known-moved
+enum-known-moved c = search needs
+
+put-cursor-requires : tie.Need-put-cursor-requires
+put-cursor-requires c κs = search needs
+
+put-row-requires : tie.Need-put-row-requires
+put-row-requires c κs = search needs
+
+enum-known-moved-2 : tie.Need-enum-known-moved-2
+enum-known-moved-2 c = search needs
+
+put-cursor-requires-2 : tie.Need-put-cursor-requires-2
+put-cursor-requires-2 c κs = search needs
+
+enum-known-moved-3 : tie.Need-enum-known-moved-3
+enum-known-moved-3 c = search needs
+
+number-requires : tie.Need-number-requires
+number-requires c κs = search needs
+
+same-length : tie.Need-same-length
+same-length c = search needs
+
+same-length-2 : tie.Need-same-length-2
+same-length-2 c = search needs
+
+returns : tie.Need-returns
+returns c =
+    let after-put-row = c .before .before in
+    let after-put-cursor = after-put-row .before .before .before .before in
+    let known = after-put-cursor .before .before .before in
+    let start = known .before .before .before .before in
+    record {
+      answer = sym (ap movedCode (known .moved .given .1));
+      state = stored (start .pre .0) (after-put-cursor .put-cursor .ensures) ∙ sym (ap (λ (m : Moved). movedWords m (start .args .cursor .now)) (known .moved .given .1));
+      row-words = stored (start .pre .1) (after-put-row .put-row .ensures) ∙ sym (ap (λ (m : Moved). movedRow m (start .args .row .now)) (known .moved .given .1));
+    }
+
+same-length-3 : tie.Need-same-length-3
+same-length-3 c = search needs
+
+returns-2 : tie.Need-returns-2
+returns-2 c =
+    let after-put-cursor2 = c .before .before in
+    let known = after-put-cursor2 .before .before .before in
+    let start = known .before .before .before .before in
+    record {
+      answer = sym (ap movedCode (known .moved2 .given .1));
+      state = stored (start .pre .0) (after-put-cursor2 .put-cursor2 .ensures) ∙ sym (ap (λ (m : Moved). movedWords m (start .args .cursor .now)) (known .moved2 .given .1));
+      row-words = sym (ap (λ (m : Moved). movedRow m (start .args .row .now)) (known .moved2 .given .1));
+    }
+
+returns-3 : tie.Need-returns-3
+returns-3 c =
+    let known = c .before .before in
+    let start = known .before .before .before .before in
+    record {
+      answer = c .number .ensures ∙ sym (ap movedCode (known .moved3 .given .1));
+      state = sym (ap (λ (m : Moved). movedWords m (start .args .cursor .now)) (known .moved3 .given .1));
+      row-words = sym (ap (λ (m : Moved). movedRow m (start .args .row .now)) (known .moved3 .given .1));
+    }
+
+pub put-moved-spec : {M : Type 1} → statement M
+put-moved-spec =
+    tie.close
+    (tie.spec
+    enum-known-moved
+    put-cursor-requires
+    put-row-requires
+    enum-known-moved-2
+    put-cursor-requires-2
+    enum-known-moved-3
+    number-requires
+    same-length
+    same-length-2
+    returns
+    same-length-3
+    returns-2
+    returns-3)
