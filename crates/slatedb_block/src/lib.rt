@@ -9,6 +9,10 @@ ghost use Rattle.block_words.specs.Says.{builderAlone, iteratorFrom};
 ghost use Rattle.slatedb_block.specs.Says.{PutsGrown, PutsMoved, TellsSought};
 ghost use Rattle.slatedb_block.specs.Promise.{EncodesFlat, DecodesFlat, MakesFlat, FitsFlat, EmptiesFlat, BuildsFlat, ChecksFlat, OpensFlat, TellsFlat, SeeksFlat};
 use block_check_v2::Checked;
+use block_grow_v2::BuildAnswer;
+use block_grow_v2::Fit;
+use block_grow_v2::Grown;
+use block_grow_v2::State;
 use block_iterator_v2::BlockIteratorV2;
 use block_iterator_v2::EmptyRead;
 use block_iterator_v2::OpenAnswer;
@@ -16,18 +20,14 @@ use block_iterator_v2::SeekAnswer;
 use block_step_v2::Moved;
 use block_step_v2::Place;
 use block_v2::BlockBuilderV2;
-use block_grow_v2::BuildAnswer;
-use block_grow_v2::Fit;
-use block_grow_v2::Grown;
 use block_v2::Made;
 use block_v2::New;
-use block_grow_v2::State;
 use block_words::CursorRead;
 use block_words::FieldsRead;
 use block_words::OrderRead;
 use block_words::StateRead;
-use row_encode_v2::Encoded;
 use row_decode_v2::RowRead;
+use row_encode_v2::Encoded;
 
 // ---- one row
 
