@@ -6,7 +6,7 @@ use mathlib.Core.Bool.{Bool, true, false, cond, not}
 use mathlib.Core.List.{List, [], _∷_}
 use native.Mathlib.Omega.{arith}
 use lib.Dec.{eqb}
-use lib.ListN.{length, take, getD, set}
+use lib.ListN.{length, take, getD, set, replicate}
 use lib.Seq.{length-take-le, getD-take}
 use borrow.Author.Tests.{eq-eqb, ne-eqb}
 use Rattle.layout.specs.Answer.{Res, ok, refuse, bind, guard}
@@ -21,7 +21,9 @@ use Rattle.types.specs.Says.{saysOrder}
 use Rattle.types.specs.declared.Refusal.{Refusal}
 use Rattle.types.specs.declared.IterationOrder.{IterationOrder}
 use Rattle.block_iterator_v2.specs.Promise.{Opens}
-use Rattle.block_iterator_v2.specs.Says.{viewOf, saysOpen}
+use Rattle.block_step_v2.specs.Says.{viewIn}
+use Rattle.block_step_v2.specs.declared.Place.{Place}
+use Rattle.block_iterator_v2.specs.Says.{placeOf, viewOf, saysOpen}
 use Rattle.block_iterator_v2.specs.declared.Opened.{Opened}
 use Rattle.block_iterator_v2.specs.declared.OpenAnswer.the-variants.{Good as GoodOpen, Refused as OpenRefused}
 use Rattle.slatedb_walks.specs.Walk.{lastByte, amount, Walk, walkIs, withRow, onward, walk, badWords, doneCode, orderIn, wrapped, walkBlock}
@@ -138,6 +140,13 @@ module _ (b : List ℕ) (order limit : ℕ) (sums : List ℕ) where
     pub walks-told : {want : Res Walk} {code : ℕ} {sums′ : List ℕ} → r .answer ≡ GoodOpen → want ≡ bind (walk limit (viewOf (r .iterator)) b) wrapped → Tells want sums code sums′
         → WalksFlat b order limit sums code sums′
     walks-told e w t = rw (eq-eqb (length sums) 2 h, is, opened-so e, ← w) t
+
+    -- the same from its place and as many zeros
+    pub walks-told-in-place : {p : Place} {want : Res Walk} {code : ℕ} {sums′ : List ℕ} → r .answer ≡ GoodOpen → p ≡ placeOf (r .iterator)
+        → want ≡ bind (walk limit (viewIn p (replicate maxKey 0)) b) wrapped → Tells want sums code sums′ → WalksFlat b order limit sums code sums′
+    walks-told-in-place {p} e q w t =
+        let same : viewIn p (replicate maxKey 0) ≡ viewOf (r .iterator) = ap₂ viewIn q (sym (opens .bytes)) in
+        walks-told e (w ∙ ap (λ (c : Cursor). bind (walk limit c b) wrapped) same) t
 
     pub walks-not-opened : {x : Refusal} {code : ℕ} → r .answer ≡ OpenRefused x → code ≡ number x → WalksFlat b order limit sums code sums
     walks-not-opened {x} e q = rw (eq-eqb (length sums) 2 h, is, stayed (openBlock b (saysOrder o)) (yes saysOpen (opens .answer) e), q) (record { answer = refl; words = refl })

@@ -8,6 +8,7 @@ use mathlib.Core.Logic.{_⊎_, ⊎-elim}
 use native.Mathlib.Omega.{arith}
 use lib.Dec.{ltb, leb, eqb}
 use lib.ListN.{length, take}
+use lib.Seq.{length-take-le}
 use borrow.Author.Tests.{ltb-false}
 use Rattle.layout.specs.Answer.{Res, ok, refuse, bind, guard}
 use Rattle.layout.specs.Limits.{maxKey}
@@ -21,8 +22,17 @@ use Rattle.layout.specs.Laws.Carry.{keyOf-length}
 use Rattle.layout.specs.Laws.Cursor.{ended}
 use Rattle.layout.specs.Laws.Splice.{take-past-splice}
 use Rattle.layout.specs.Laws.Tells.{readRow-ends}
-use Rattle.types.specs.Answers.{apart}
-use Rattle.block_step_v2.specs.Says.{row, none, told, toldOf, told-row, told-apart}
+use Rattle.types.specs.Answers.{apart, yes}
+use Rattle.types.specs.Number.{number}
+use Rattle.types.specs.declared.Refusal.{Refusal}
+use Rattle.row_codec_v2.specs.Says.{rowFrom}
+use Rattle.row_codec_v2.specs.declared.Row.{Row}
+use Rattle.block_step_v2.specs.Lent.{lent-whole}
+use Rattle.block_step_v2.specs.Promise.{Moves, StepsInPlace}
+use Rattle.block_step_v2.specs.Says.{viewIn, row, none, told, toldOf, told-row, told-apart, saysMoved, placeAfter}
+use Rattle.block_step_v2.specs.declared.Moved.{Moved}
+use Rattle.block_step_v2.specs.declared.Moved.the-variants.{Found, Done, Refused}
+use Rattle.block_step_v2.specs.declared.Place.{Place}
 
 -- ---- the key that a step gives
 
@@ -156,3 +166,20 @@ refuses b c room {k} h t = go (next c b maxKey) (rw h at t)
     go : (want : Res Step) → bind want told ≡ refuse k → want ≡ refuse k
     go (ok s) t = absurd (apart t)
     go (refuse n) t = let same : n ≡ k = cc in ap refuse same
+
+-- ---- the same of a step in place, whose key bytes are 1,024
+
+module _ (p : Place) (key b out : List ℕ) (r : Moved) (key′ out′ : List ℕ) (k : length key ≡ maxKey) (h : length out ≡ maxKey) (m : StepsInPlace p key b out r key′ out′) where
+  whole : Moves (next (viewIn p key) b (length out)) p key out r key′ out′
+  whole = rw (lent-whole p key b (length out) k refl) at m
+
+  pub moved-finds : {q : Place} {x : Row} → r ≡ Found q x → Finds b (viewIn p key) (viewIn q key′) (rowFrom x) out′
+  moved-finds {q} {x} e =
+      finds b (viewIn p key) (viewIn q key′) out out′ (λ few. length-take-le (p .«key_len») key (omega (arith, few, k))) h (rowFrom x) (yes saysMoved (whole .answer) e)
+      (sym (ap (λ (y : Moved). viewIn (placeAfter y p) key′) e) ∙ whole .view) (whole .lent)
+
+  pub moved-ends : {q : Place} → r ≡ Done q → (s : Cursor) × (next (viewIn p key) b maxKey ≡ ok (stepIs s done))
+  moved-ends e = ends b (viewIn p key) (length out) h (yes saysMoved (whole .answer) e)
+
+  pub moved-refuses : {x : Refusal} → r ≡ Refused x → next (viewIn p key) b maxKey ≡ refuse (number x)
+  moved-refuses e = refuses b (viewIn p key) (length out) h (yes saysMoved (whole .answer) e)

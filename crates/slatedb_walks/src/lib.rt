@@ -4,18 +4,21 @@
 // for words that mean nothing, which is tested first, and 255 for "done"; what else it answers goes to lent words.
 ghost use mathlib.Core.Path.{_≡_};
 ghost use Prim.Native.Nat.{_≤_, _+_, _%_, _^_};
-ghost use lib.ListN.{length, take};
+ghost use lib.ListN.{length, take, replicate};
 ghost use Rattle.layout.specs.Answer.{bind};
 ghost use Rattle.layout.specs.Limits.{maxKey};
 ghost use Rattle.types.specs.Says.{saysHeld};
 ghost use Rattle.row_codec_v2.specs.Says.{rowFrom};
-ghost use Rattle.block_iterator_v2.specs.Says.{viewOf};
+ghost use Rattle.block_step_v2.specs.Says.{viewIn};
+ghost use Rattle.block_iterator_v2.specs.Says.{placeOf, viewOf};
 ghost use Rattle.slatedb_walks.specs.Walk.{heldLength, amount, walk, wrapped, orderIn};
 ghost use Rattle.slatedb_walks.specs.Says.{saysOrdered, saysWalked};
 ghost use Rattle.slatedb_walks.specs.Promise.{Tells, WalksFlat};
 use block_iterator_v2::BlockIteratorV2;
 use block_iterator_v2::NextAnswer;
 use block_iterator_v2::OpenAnswer;
+use block_step_v2::Moved;
+use block_step_v2::Place;
 use row_codec_v2::Row;
 use types::IterationOrder;
 use types::Refusal;
@@ -157,6 +160,85 @@ pub extern "C" fn slatedb_walk_by_value(
     match answer {
         OpenAnswer::Good => {
             let walked = by_value(block, opened.iterator, limit);
+            tell(walked, sums)
+        }
+        OpenAnswer::Refused(refusal) => types::number(refusal),
+    }
+}
+
+// ---- in place
+
+// A cursor without the bytes of its key.
+fn place_of(c: BlockIteratorV2) -> Place
+    ensures { λ r. ⌜ r ≡ placeOf c ⌝ }
+{
+    let order = c.order;
+    Place {
+        order,
+        region: c.region,
+        at: c.at,
+        key_len: c.key_len,
+        done: c.done,
+    }
+}
+
+fn in_place(block: &[u8], start: Place, limit: u64) -> Walked
+    ensures { λ r. ⌜ saysWalked r ≡ bind (walk limit (viewIn start (replicate maxKey 0)) (now (block .entry))) wrapped ⌝ }
+{
+    let mut p = start;
+    let mut carried = [0; 1024];
+    let mut key = [0; 1024];
+    let mut rows = 0;
+    let mut sum = 0;
+    while rows < limit {
+        let moved = block_step_v2::next_in_place(&mut carried, p, block, &mut key);
+        match moved {
+            Moved::Found { place, row } => {
+                sum = with_row(sum, row, &key);
+                rows += 1;
+                p = place;
+            }
+            Moved::Done(_) => {
+                return Walked::Ended {
+                    over: true,
+                    rows,
+                    sum,
+                };
+            }
+            Moved::Refused(refusal) => {
+                return Walked::Refused(refusal);
+            }
+        }
+    }
+    Walked::Ended {
+        over: false,
+        rows,
+        sum,
+    }
+}
+
+// The same with the key bytes in place: no step copies a cursor.
+#[no_mangle]
+pub extern "C" fn slatedb_walk_in_place(
+    block: &[u8],
+    order: u64,
+    limit: u64,
+    sums: &mut [u64],
+) -> u8
+    ensures { λ r. ⌜ WalksFlat (now (block .entry)) order limit (now (sums .entry)) r (now (sums .exit)) ⌝ }
+{
+    if sums.len() != SUMS_WORDS {
+        return BAD_WORDS;
+    }
+    let ordered = order_in(order);
+    let OrderRead::Is(o) = ordered else {
+        return BAD_WORDS;
+    };
+    let opened = BlockIteratorV2::new(block, o);
+    let answer = opened.answer;
+    match answer {
+        OpenAnswer::Good => {
+            let walked = in_place(block, place_of(opened.iterator), limit);
             tell(walked, sums)
         }
         OpenAnswer::Refused(refusal) => types::number(refusal),
