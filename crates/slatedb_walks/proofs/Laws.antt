@@ -1,0 +1,156 @@
+-- The loop of a walk, whatever carries the cursor: the walk from here on, with what is left of the limit, put upon the rows and the sum so far, is the whole.
+-- And what each exit of an export answers and stores.
+use Prim.Native.Nat.{ℕ, zero, suc, _+_, _-_, _%_, _^_, _<_, _≤_}
+use mathlib.Core.Path.{_≡_, refl, ap, ap₂, sym, _∙_}
+use mathlib.Core.Bool.{Bool, true, false, cond, not}
+use mathlib.Core.List.{List, [], _∷_}
+use native.Mathlib.Omega.{arith}
+use lib.Dec.{eqb}
+use lib.ListN.{length, take, getD, set, replicate}
+use lib.Seq.{length-take-le, getD-take}
+use borrow.Author.Tests.{eq-eqb, ne-eqb}
+use Rattle.layout.specs.Answer.{Res, ok, refuse, bind, guard}
+use Rattle.layout.specs.Limits.{maxKey}
+use Rattle.layout.specs.Key.{Key}
+use Rattle.layout.specs.RowRead.{RowRead}
+use Rattle.layout.specs.Cursor.{Direction, ascending, descending, Cursor, cursorOr, openBlock, found, done, stepIs, next}
+use Rattle.layout.specs.Laws.Answer.{ok-inj, spend}
+use Rattle.types.specs.Answers.{apart, yes}
+use Rattle.types.specs.Number.{number}
+use Rattle.types.specs.Says.{saysOrder}
+use Rattle.types.specs.declared.Refusal.{Refusal}
+use Rattle.types.specs.declared.IterationOrder.{IterationOrder}
+use Rattle.block_iterator_v2.specs.Promise.{Opens}
+use Rattle.block_step_v2.specs.Says.{viewIn}
+use Rattle.block_step_v2.specs.declared.Place.{Place}
+use Rattle.block_iterator_v2.specs.Says.{placeOf, viewOf, saysOpen}
+use Rattle.block_iterator_v2.specs.declared.Opened.{Opened}
+use Rattle.block_iterator_v2.specs.declared.OpenAnswer.the-variants.{Good as GoodOpen, Refused as OpenRefused}
+use Rattle.slatedb_walks.specs.Walk.{lastByte, amount, Walk, walkIs, withRow, onward, walk, badWords, doneCode, orderIn, wrapped, walkBlock}
+use Rattle.slatedb_walks.specs.Promise.{Tells, WalksFlat}
+
+-- ---- the loop
+
+-- a walk put upon n rows with the sum s
+abbrev pub onto : ℕ → ℕ → Walk → Res Walk
+onto n s w = ok (walkIs (w .over) (n + w .rows) ((s + w .sum) % 2 ^ 64))
+
+pub record Walking (want : Res Walk) (b : List ℕ) (limit : ℕ) (c : Cursor) (rows sum : ℕ) : Type 0 where
+  pub left : ℕ
+  pub all : rows + left ≡ limit
+  pub few : sum < 2 ^ 64
+  pub makes : bind (walk left c b) (onto rows sum) ≡ want
+
+alike : {o : Bool} {n m s t : ℕ} → n ≡ m → s ≡ t → ok (walkIs o n s) ≡ ok (walkIs o m t)
+alike {o} p q = ap₂ (λ (x y : ℕ). ok (walkIs o x y)) p q
+
+pub walking-start : (b : List ℕ) (limit : ℕ) (c : Cursor) → Walking (bind (walk limit c b) wrapped) b limit c 0 0
+walking-start b limit c = record { left = limit; all = omega arith; few = omega arith; makes = go (walk limit c b) }
+  where
+    go : (x : Res Walk) → bind x (onto 0 0) ≡ bind x wrapped
+    go (ok w) = alike (omega arith) (omega arith)
+    go (refuse n) = refl
+
+module _ {want : Res Walk} (b : List ℕ) (limit : ℕ) (c : Cursor) (rows sum : ℕ) (s : Walking want b limit c rows sum) where
+  pub walking-whole : limit ≤ rows → ok (walkIs false rows sum) ≡ want
+  unfolding walk
+  walking-whole h =
+      let none : s .left ≡ 0 = omega (arith, s .all) in
+      alike (omega arith) (omega (arith, s .few)) ∙ rw none at (s .makes)
+
+  -- with rows to go one step is the whole
+  stepped : {A : Type 0} → rows < limit → ((left : ℕ) → rows + suc left ≡ limit → bind (walk (suc left) c b) (onto rows sum) ≡ want → A) → A
+  stepped h f = spend (λ (n : ℕ). bind (walk n c b) (onto rows sum)) (s .left) (λ z. absurd (omega (arith, s .all))) (s .makes) λ more is m. f more (omega (arith, s .all)) m
+
+  module _ (h : rows < limit) where
+    pub walking-done : {d : Cursor} → next c b maxKey ≡ ok (stepIs d done) → ok (walkIs true rows sum) ≡ want
+    unfolding walk
+    walking-done e = stepped h λ left q m. alike (omega arith) (omega (arith, s .few)) ∙ rw e at m
+
+    pub walking-refused : {n : ℕ} → next c b maxKey ≡ refuse n → refuse n ≡ want
+    unfolding walk
+    walking-refused e = stepped h λ left q m. rw e at m
+
+    pub walking-more : (d : Cursor) (r : RowRead) (key : Key) (sum′ : ℕ) → next c b maxKey ≡ ok (stepIs d (found r key)) → sum′ ≡ (sum + amount r key) % 2 ^ 64
+        → Walking want b limit d (rows + 1) sum′
+    unfolding walk
+    walking-more d r key sum′ e q = stepped h λ left t m. record { left = left; all = omega arith; few = omega (arith, q); makes = go (amount r key) q (walk left d b) ∙ rw e at m }
+      where
+        go : (a : ℕ) → sum′ ≡ (sum + a) % 2 ^ 64 → (x : Res Walk) → bind x (onto (rows + 1) sum′) ≡ bind (bind x (withRow a)) (onto rows sum)
+        go a p (ok w) = alike (omega arith) (omega (arith, p))
+        go a p (refuse n) = refl
+
+-- ---- what a row adds, summed piece by piece
+
+pub row-added : (sum seq held : ℕ) (key : List ℕ) (n : ℕ) {last lengths named both r : ℕ} → 1 ≤ n → n ≤ length key
+    → lengths ≡ (n + held) % 2 ^ 64 → last ≡ getD key (n - 1) 0 → named ≡ (seq + last) % 2 ^ 64 → both ≡ (named + lengths) % 2 ^ 64 → r ≡ (sum + both) % 2 ^ 64
+    → r ≡ (sum + (seq + length (take n key) + held + lastByte (take n key))) % 2 ^ 64
+row-added sum seq held key n some h lengths-is last-is named-is both-is r-is =
+    let long = length-take-le n key h in
+    rw (long, getD-take n key (n - 1) 0 (omega arith), ← last-is) (omega (arith, lengths-is, named-is, both-is, r-is))
+
+-- ---- the words
+
+pub of-0 : {w : ℕ} → w ≡ 0 → ok ascending ≡ orderIn w
+of-0 e = rw e refl
+
+pub of-1 : {w : ℕ} → w ≡ 1 → ok descending ≡ orderIn w
+of-1 e = rw e refl
+
+pub of-none : {w : ℕ} → (w ≡ 0 → ⊥) → (w ≡ 1 → ⊥) → refuse badWords ≡ orderIn w
+of-none {w} h k = rw (ne-eqb w 0 h, ne-eqb w 1 k) refl
+
+-- two words stored one by one
+pub two : (ws : List ℕ) (a b : ℕ) → length ws ≡ 2 → set (set ws 0 a) 1 b ≡ a ∷ b ∷ []
+two (_ ∷ _ ∷ []) a b h = refl
+two [] a b h = absurd (omega arith)
+two (_ ∷ []) a b h = absurd (omega arith)
+two (_ ∷ _ ∷ _ ∷ ws) a b h = absurd (omega arith)
+
+-- what a walk that ended leaves
+pub told-ended : {want : Res Walk} (sums : List ℕ) (o : Bool) (rows sum : ℕ) {code : ℕ} → length sums ≡ 2 → want ≡ ok (walkIs o rows sum) → code ≡ cond o doneCode 0
+    → Tells want sums code (set (set sums 0 rows) 1 sum)
+told-ended sums o rows sum h e q = rw (e, two sums rows sum h) (record { answer = q; words = refl })
+
+pub told-refused : {want : Res Walk} (sums : List ℕ) {code n : ℕ} → want ≡ refuse n → code ≡ n → Tells want sums code sums
+told-refused sums e q = rw e (record { answer = q; words = refl })
+
+-- ---- the exits of an export
+
+-- what an answer says beside its value
+abbrev only : {A : Type 0} → Res A → Res (Unit {0})
+only want = bind want λ _. ok tt
+
+module _ (b : List ℕ) (order limit : ℕ) (sums : List ℕ) where
+  pub walks-short : (length sums ≡ 2 → ⊥) → WalksFlat b order limit sums badWords sums
+  walks-short h = rw (ne-eqb (length sums) 2 h) (record { answer = refl; words = refl })
+
+  pub walks-no-order : length sums ≡ 2 → orderIn order ≡ refuse badWords → WalksFlat b order limit sums badWords sums
+  walks-no-order h o = rw (eq-eqb (length sums) 2 h, o) (record { answer = refl; words = refl })
+
+  module _ (r : Opened) (o : IterationOrder) (h : length sums ≡ 2) (is : orderIn order ≡ ok (saysOrder o)) (opens : Opens b o r) where
+    opened-so : r .answer ≡ GoodOpen → openBlock b (saysOrder o) ≡ ok (viewOf (r .iterator))
+    opened-so e = go (openBlock b (saysOrder o)) (yes saysOpen (opens .answer) e) (opens .view)
+      where
+        go : (x : Res Cursor) → only x ≡ ok tt → viewOf (r .iterator) ≡ cursorOr (saysOrder o) x → x ≡ ok (viewOf (r .iterator))
+        go (ok c) s v = ap ok (sym v)
+        go (refuse n) s v = absurd (apart (sym s))
+
+    -- what the walk from the opened cursor answers is what is told
+    pub walks-told : {want : Res Walk} {code : ℕ} {sums′ : List ℕ} → r .answer ≡ GoodOpen → want ≡ bind (walk limit (viewOf (r .iterator)) b) wrapped → Tells want sums code sums′
+        → WalksFlat b order limit sums code sums′
+    walks-told e w t = rw (eq-eqb (length sums) 2 h, is, opened-so e, ← w) t
+
+    -- the same from its place and as many zeros
+    pub walks-told-in-place : {p : Place} {want : Res Walk} {code : ℕ} {sums′ : List ℕ} → r .answer ≡ GoodOpen → p ≡ placeOf (r .iterator)
+        → want ≡ bind (walk limit (viewIn p (replicate maxKey 0)) b) wrapped → Tells want sums code sums′ → WalksFlat b order limit sums code sums′
+    walks-told-in-place {p} e q w t =
+        let same : viewIn p (replicate maxKey 0) ≡ viewOf (r .iterator) = ap₂ viewIn q (sym (opens .bytes)) in
+        walks-told e (w ∙ ap (λ (c : Cursor). bind (walk limit c b) wrapped) same) t
+
+    pub walks-not-opened : {x : Refusal} {code : ℕ} → r .answer ≡ OpenRefused x → code ≡ number x → WalksFlat b order limit sums code sums
+    walks-not-opened {x} e q = rw (eq-eqb (length sums) 2 h, is, stayed (openBlock b (saysOrder o)) (yes saysOpen (opens .answer) e), q) (record { answer = refl; words = refl })
+      where
+        stayed : (y : Res Cursor) → only y ≡ refuse (number x) → y ≡ refuse (number x)
+        stayed (ok c) s = absurd (apart s)
+        stayed (refuse n) s = let same : n ≡ number x = cc in ap refuse same

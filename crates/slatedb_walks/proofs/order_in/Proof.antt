@@ -1,0 +1,16 @@
+-- A word is an order exactly when the definition says so: 0, 1, or none.
+use Rattle.slatedb_walks.proofs.Laws.{of-0, of-1, of-none}
+use Rattle.slatedb_walks.proofs.order_in.Statement.{statement}
+use Rattle.slatedb_walks.proofs.order_in.Tie as tie
+
+returns : tie.Need-returns
+returns c = of-0 (c .if1 .taken)
+
+returns-2 : tie.Need-returns-2
+returns-2 c = of-1 (c .if2 .taken)
+
+returns-3 : tie.Need-returns-3
+returns-3 c = of-none (c .before .if1 .left) (c .if2 .left)
+
+pub order-in-spec : {M : Type 1} → statement M
+order-in-spec = tie.close (tie.spec returns returns-2 returns-3)

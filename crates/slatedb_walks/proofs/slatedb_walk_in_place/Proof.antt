@@ -1,0 +1,85 @@
+-- The walk in place keeps the promise: the number of words and the order first, then the walk from the place of the cursor that `new` promised, told as it ended.
+-- Each exit is one law; an opened cursor carries no key, so that zeros do for its bytes.
+use Rattle.types.specs.Answers.{yes}
+use Rattle.slatedb_walks.specs.Says.{saysOrdered}
+use Rattle.slatedb_walks.proofs.Laws.{walks-short, walks-no-order, walks-told-in-place, walks-not-opened}
+use borrow.Author.Needs.{needs}
+use Rattle.slatedb_walks.proofs.slatedb_walk_in_place.Statement.{statement}
+use Rattle.slatedb_walks.proofs.slatedb_walk_in_place.Tie as tie
+
+returns : tie.Need-returns
+returns c =
+    let start = c .before .before .before in
+    walks-short (start .args .block .now) (start .args .order) (start .args .limit) (start .args .sums .now) (c .if1 .taken)
+
+order-in-requires : tie.Need-order-in-requires
+order-in-requires c κs = search needs
+
+enum-known-ordered : tie.Need-enum-known-ordered
+enum-known-ordered c = search needs
+
+enum-told : tie.Need-enum-told
+enum-told c = search needs
+
+returns-2 : tie.Need-returns-2
+returns-2 c =
+    let start = c .before .before .before .before .before .before in
+    walks-no-order (start .args .block .now) (start .args .order) (start .args .limit) (start .args .sums .now) (c .before .before .before .if1 .left) (yes saysOrdered (c .before .before .order-in .ensures) (c .enum-told .given .1))
+
+new-requires : tie.Need-new-requires
+new-requires c κs = search needs
+
+enum-told-2 : tie.Need-enum-told-2
+enum-told-2 c = search needs
+
+place-of-requires : tie.Need-place-of-requires
+place-of-requires c κs = search needs
+
+in-place-requires : tie.Need-in-place-requires
+in-place-requires c κs = search needs
+
+tell-requires : tie.Need-tell-requires
+tell-requires c κs = search needs
+
+enum-known-answer : tie.Need-enum-known-answer
+enum-known-answer c = search needs
+
+number-requires : tie.Need-number-requires
+number-requires c κs = search needs
+
+same-length : tie.Need-same-length
+same-length c = search needs
+
+returns-3 : tie.Need-returns-3
+returns-3 c =
+    let opened = c .before .before .before .before .before .before .before .before in
+    let known = opened .before .before in
+    let start = known .before .before .before .before .before .before in
+    walks-told-in-place (start .args .block .now) (start .args .order) (start .args .limit) (start .args .sums .now) _ _ (known .before .before .before .if1 .left) (yes saysOrdered (known .before .before .order-in .ensures) (known .ordered .given .1)) (opened .new .ensures) (c .before .before .before .before .before .before .enum-told2 .given .1) (c .before .before .before .before .before .place-of .ensures) (c .before .before .before .before .in-place .ensures) (c .before .before .tell .ensures)
+
+returns-4 : tie.Need-returns-4
+returns-4 c =
+    let opened = c .before .before .before .before in
+    let known = opened .before .before in
+    let start = known .before .before .before .before .before .before in
+    walks-not-opened (start .args .block .now) (start .args .order) (start .args .limit) (start .args .sums .now) _ _ (known .before .before .before .if1 .left) (yes saysOrdered (known .before .before .order-in .ensures) (known .ordered .given .1)) (opened .new .ensures) (c .before .before .answer .given .1) (c .number .ensures)
+
+pub slatedb-walk-in-place-spec : {M : Type 1} → statement M
+slatedb-walk-in-place-spec =
+    tie.close
+    (tie.spec
+    returns
+    order-in-requires
+    enum-known-ordered
+    enum-told
+    returns-2
+    new-requires
+    enum-told-2
+    place-of-requires
+    in-place-requires
+    tell-requires
+    enum-known-answer
+    number-requires
+    same-length
+    returns-3
+    returns-4)

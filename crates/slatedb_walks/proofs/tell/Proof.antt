@@ -1,0 +1,58 @@
+-- What is stored and answered is what the walk says: with both words set, nothing of the old ones is left.
+use mathlib.Core.Bool.{Bool, cond}
+use mathlib.Core.Path.{ap, sym}
+use Rattle.slatedb_walks.specs.Walk.{doneCode}
+use Rattle.slatedb_walks.specs.Says.{saysWalked}
+use Rattle.slatedb_walks.proofs.Laws.{told-ended, told-refused}
+use borrow.Author.Needs.{needs}
+use Rattle.slatedb_walks.proofs.tell.Statement.{statement}
+use Rattle.slatedb_walks.proofs.tell.Tie as tie
+
+enum-known-walked : tie.Need-enum-known-walked
+enum-known-walked c = search needs
+
+slice-write-sums : tie.Need-slice-write-sums
+slice-write-sums c = search needs
+
+slice-write-sums-2 : tie.Need-slice-write-sums-2
+slice-write-sums-2 c = search needs
+
+enum-known-walked-2 : tie.Need-enum-known-walked-2
+enum-known-walked-2 c = search needs
+
+number-requires : tie.Need-number-requires
+number-requires c κs = search needs
+
+same-length : tie.Need-same-length
+same-length c = search needs
+
+returns : tie.Need-returns
+returns c =
+    let s = c .before .before .before .before .before in
+    told-ended (s .args .sums .now) _ _ _ (s .pre) (ap saysWalked (c .before .before .walked .given .1)) (sym (ap (λ (o : Bool). cond o doneCode 0) (c .if1 .taken)))
+
+same-length-2 : tie.Need-same-length-2
+same-length-2 c = search needs
+
+returns-2 : tie.Need-returns-2
+returns-2 c =
+    let s = c .before .before .before .before .before in
+    told-ended (s .args .sums .now) _ _ _ (s .pre) (ap saysWalked (c .before .before .walked .given .1)) (sym (ap (λ (o : Bool). cond o doneCode 0) (c .if1 .left)))
+
+returns-3 : tie.Need-returns-3
+returns-3 c = told-refused (c .before .before .before .before .before .args .sums .now) (ap saysWalked (c .before .before .walked2 .given .1)) (c .number .ensures)
+
+pub tell-spec : {M : Type 1} → statement M
+tell-spec =
+    tie.close
+    (tie.spec
+    enum-known-walked
+    slice-write-sums
+    slice-write-sums-2
+    enum-known-walked-2
+    number-requires
+    same-length
+    returns
+    same-length-2
+    returns-2
+    returns-3)

@@ -1,0 +1,55 @@
+-- The sum with a row more: the wrapping sums of its parts are the sum of the parts, wrapped once.
+use Rattle.types.specs.Says.{saysHeld}
+use Rattle.slatedb_walks.specs.Walk.{heldLength}
+use Rattle.slatedb_walks.proofs.Laws.{row-added}
+use borrow.Author.Needs.{needs}
+use Rattle.slatedb_walks.proofs.with_row.Statement.{statement}
+use Rattle.slatedb_walks.proofs.with_row.Tie as tie
+
+add-key-len : tie.Need-add-key-len
+add-key-len c = search needs
+
+sub-last : tie.Need-sub-last
+sub-last c = search needs
+
+value-len-requires : tie.Need-value-len-requires
+value-len-requires c κs = search needs
+
+wrapping-add-u64-requires : tie.Need-wrapping-add-u64-requires
+wrapping-add-u64-requires c κs = search needs
+
+shared-slice-read-wide : tie.Need-shared-slice-read-wide
+shared-slice-read-wide c = search needs
+
+wide-requires : tie.Need-wide-requires
+wide-requires c κs = search needs
+
+wrapping-add-u64-requires-2 : tie.Need-wrapping-add-u64-requires-2
+wrapping-add-u64-requires-2 c κs = search needs
+
+wrapping-add-u64-requires-3 : tie.Need-wrapping-add-u64-requires-3
+wrapping-add-u64-requires-3 c κs = search needs
+
+wrapping-add-u64-requires-4 : tie.Need-wrapping-add-u64-requires-4
+wrapping-add-u64-requires-4 c κs = search needs
+
+returns : tie.Need-returns
+returns c =
+    let s = c .before .before .before .before .before .before .before .before .before in
+    row-added _ (s .args .row .seq) (heldLength (saysHeld (s .args .row .held))) (s .args .key .now) _ (s .pre .0) (s .pre .1)
+    (rw (c .before .before .before .before .before .before .value-len .ensures) at (c .before .before .before .before .before .wrapping-add-u64 .ensures)) (c .before .before .before .wide .ensures) (c .before .before .wrapping-add-u642 .ensures) (c .before .wrapping-add-u643 .ensures) (c .wrapping-add-u644 .ensures)
+
+pub with-row-spec : {M : Type 1} → statement M
+with-row-spec =
+    tie.close
+    (tie.spec
+    add-key-len
+    sub-last
+    value-len-requires
+    wrapping-add-u64-requires
+    shared-slice-read-wide
+    wide-requires
+    wrapping-add-u64-requires-2
+    wrapping-add-u64-requires-3
+    wrapping-add-u64-requires-4
+    returns)
