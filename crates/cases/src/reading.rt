@@ -90,20 +90,11 @@ fn all_seeks(block: &[u8]) {
     both_ways(block, b"");
 }
 
-// Offers a row for each byte of `keys`, which is its key.
-fn add_each(
-    builder: BlockBuilderV2,
-    data: &mut [u8],
-    restarts: &mut [u16],
-    keys: &[u8],
-) -> BlockBuilderV2 {
-    let mut grown = builder;
-    let mut i = 0;
-    while i < keys.len() {
-        grown = add(grown, data, restarts, &keys[i..i + 1], b"", i as u64);
-        i += 1;
-    }
-    grown
+// The first three of five rows.
+fn three_rows(builder: BlockBuilderV2, data: &mut [u8], restarts: &mut [u16]) -> BlockBuilderV2 {
+    let one = add(builder, data, restarts, b"a", b"", 0);
+    let two = add(one, data, restarts, b"b", b"", 1);
+    add(two, data, restarts, b"b", b"", 2)
 }
 
 pub fn seeks() {
@@ -112,7 +103,9 @@ pub fn seeks() {
     let mut data = [0u8; 72];
     let mut restarts = [0u16; 3];
     let fresh = BlockBuilderV2::new_with_restart_interval(4096, 2).builder;
-    let five = add_each(fresh, &mut data, &mut restarts, b"abbbc");
+    let three = three_rows(fresh, &mut data, &mut restarts);
+    let four = add(three, &mut data, &mut restarts, b"b", b"", 3);
+    let five = add(four, &mut data, &mut restarts, b"c", b"", 4);
     built(five, &mut data, &restarts);
     checked(&data);
     all_seeks(&data);
