@@ -1,7 +1,8 @@
-/* How deep a stack each function of the library uses: it is run on a stack of its own that is painted before, over blocks with short keys and with
+/* How deep a stack each function of the libraries uses: it is run on a stack of its own that is painted before, over blocks with short keys and with
  * the longest, both ways, and the lowest byte that lost its paint is looked for. The most of all runs is printed, and must be at most 16 KiB. */
 #define _GNU_SOURCE
-#include "slatedb_block.h"
+#include "slatedb_by_value.h"
+#include "slatedb_walks.h"
 
 #include <stdio.h>
 #include <string.h>
@@ -67,6 +68,11 @@ static void call_builder_add(void) {
     answer = slatedb_builder_add(SLATEDB_WORDS(&builder), last, sizeof last, data, DATA, restarts, PLACES, key, key_len, out, 100, SLATEDB_WORDS(&fields));
 }
 
+static void call_builder_add_by_value(void) {
+    answer = slatedb_builder_add_by_value(SLATEDB_WORDS(&builder), last, sizeof last, data, DATA, restarts, PLACES, key, key_len, out, 100,
+                                          SLATEDB_WORDS(&fields));
+}
+
 static void call_builder_is_empty(void) {
     answer = slatedb_builder_is_empty(SLATEDB_WORDS(&builder), &count);
 }
@@ -89,12 +95,26 @@ static void call_next(void) {
     answer = slatedb_next(data, block_len, SLATEDB_WORDS(&cursor), carried, sizeof carried, out, sizeof out, SLATEDB_WORDS(&row));
 }
 
+static void call_next_by_value(void) {
+    answer = slatedb_next_by_value(data, block_len, SLATEDB_WORDS(&cursor), carried, sizeof carried, out, sizeof out, SLATEDB_WORDS(&row));
+}
+
 static void call_seek(void) {
     answer = slatedb_seek(data, block_len, key, key_len, SLATEDB_WORDS(&cursor), carried, sizeof carried, &count);
 }
 
 static void call_is_empty(void) {
     answer = slatedb_is_empty(data, block_len, SLATEDB_WORDS(&cursor), &count);
+}
+
+static slatedb_sums sums;
+
+static void call_walk_by_value(void) {
+    answer = slatedb_walk_by_value(data, block_len, order, UINT64_MAX, SLATEDB_WORDS(&sums));
+}
+
+static void call_walk_in_place(void) {
+    answer = slatedb_walk_in_place(data, block_len, order, UINT64_MAX, SLATEDB_WORDS(&sums));
 }
 
 static struct {
@@ -115,6 +135,10 @@ static struct {
     {"slatedb_next", call_next, 0, 0},
     {"slatedb_seek", call_seek, 0, 0},
     {"slatedb_is_empty", call_is_empty, 0, 0},
+    {"slatedb_builder_add_by_value", call_builder_add_by_value, 0, 0},
+    {"slatedb_next_by_value", call_next_by_value, 0, 0},
+    {"slatedb_walk_by_value", call_walk_by_value, 0, 0},
+    {"slatedb_walk_in_place", call_walk_in_place, 0, 0},
 };
 
 enum { FUNCTIONS = sizeof functions / sizeof *functions };
@@ -126,7 +150,7 @@ static void measure(void (*f)(void)) {
             if (functions[i].most < deep) {
                 functions[i].most = deep;
             }
-            functions[i].good += answer == SLATEDB_GOOD;
+            functions[i].good += answer == SLATEDB_GOOD || answer == SLATEDB_DONE;
         }
     }
 }
@@ -146,18 +170,20 @@ static void over_keys_of(size_t len, unsigned rows) {
     for (unsigned i = 0; i < rows; i++) {
         set_key(i, len);
         measure(call_builder_would_fit);
-        measure(call_builder_add);
+        measure(i % 2 == 0 ? call_builder_add : call_builder_add_by_value);
         measure(call_builder_is_empty);
     }
     measure(call_builder_build);
     block_len = count;
     measure(call_check);
     for (order = SLATEDB_ASCENDING; order <= SLATEDB_DESCENDING; order++) {
+        measure(call_walk_by_value);
+        measure(call_walk_in_place);
         measure(call_open);
-        do {
+        for (unsigned i = 0; i <= rows; i++) {
             measure(call_is_empty);
-            measure(call_next);
-        } while (answer == SLATEDB_GOOD);
+            measure(i % 2 == 0 ? call_next : call_next_by_value);
+        }
         for (unsigned i = 0; i < rows; i++) {
             set_key(i, len);
             measure(call_open);
@@ -174,7 +200,7 @@ int main(void) {
     over_keys_of(SLATEDB_KEY_BYTES, 50);
     for (size_t i = 0; i < FUNCTIONS; i++) {
         size_t deep = functions[i].most - base;
-        printf("%-26s %6zu bytes of stack\n", functions[i].name, deep);
+        printf("%-28s %6zu bytes of stack\n", functions[i].name, deep);
         most = most < deep ? deep : most;
         failed |= LIMIT < deep || functions[i].good == 0;
     }
