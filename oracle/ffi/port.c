@@ -1,7 +1,9 @@
 /* port.h over the C interface of the proved libraries: one call a row, each of which tests all that it is handed.
- * STEP is slatedb_next, or slatedb_next_by_value for the method that takes the cursor by value. */
+ * STEP is slatedb_next, or slatedb_next_by_value for the method that takes the cursor by value. WALK, if there is one, reads a whole
+ * block in one call: slatedb_walk_by_value or slatedb_walk_in_place. */
 #include "port.h"
 #include "slatedb_by_value.h"
+#include "slatedb_walks.h"
 
 #ifndef STEP
 #define STEP slatedb_next
@@ -22,9 +24,14 @@ static int32_t rows(const uint8_t *block, size_t len, slatedb_cursor *cursor, ui
 }
 
 int32_t port_scan(int32_t desc, const uint8_t *block, size_t len, port_sum *out) {
+#ifdef WALK
+    uint8_t code = WALK(block, len, desc != 0, UINT64_MAX, SLATEDB_WORDS(out));
+    return code == SLATEDB_DONE ? 0 : -1 - code;
+#else
     slatedb_cursor cursor;
     uint8_t code = slatedb_open(block, len, desc != 0, SLATEDB_WORDS(&cursor));
     return code ? -code : rows(block, len, &cursor, UINT64_MAX, out);
+#endif
 }
 
 int32_t port_seek(int32_t desc, const uint8_t *block, size_t len, const uint8_t *target, size_t target_len, port_sum *out) {

@@ -1,5 +1,5 @@
-/* The proved libraries as a process of their own, so that they can be compared on any processor: it serves slatedb_block.h
- * and slatedb_by_value.h over standard input and output. All numbers are low byte first.
+/* The proved libraries as a process of their own, so that they can be compared on any processor: it serves slatedb_block.h,
+ * slatedb_by_value.h and slatedb_walks.h over standard input and output. All numbers are low byte first.
  *
  * A batch is its length (4 bytes) and its requests; the answer to it likewise. A request is the function's number, how many
  * arguments follow, and these: a tag, then for a number (0) its 8 bytes, for an array that is read (1) or written (2) its
@@ -7,6 +7,7 @@
  * all bytes of the arrays of tag 2.
  */
 #include "slatedb_by_value.h"
+#include "slatedb_walks.h"
 #include <stdio.h>
 #include <stdlib.h>
 #include <string.h>
@@ -106,6 +107,8 @@ static uint8_t call(uint8_t function, const struct argument *a) {
     case 11: return slatedb_next_by_value(BYTES(0), WORDS(1), BYTES(2), BYTES(3), WORDS(4));
     case 12: return slatedb_seek(BYTES(0), BYTES(1), WORDS(2), BYTES(3), WORD(4));
     case 13: return slatedb_is_empty(BYTES(0), WORDS(1), WORD(2));
+    case 14: return slatedb_walk_by_value(BYTES(0), NUM(1), NUM(2), WORDS(3));
+    case 15: return slatedb_walk_in_place(BYTES(0), NUM(1), NUM(2), WORDS(3));
     default: fail("unknown function"); return 0;
     }
 }

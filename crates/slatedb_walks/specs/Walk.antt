@@ -1,4 +1,4 @@
--- A walk over a block, as the rules' steps from its opening on: the rows found, at most so many, and a sum over them that no row's place, key or value leaves unchanged.
+-- A walk over a block: the rules' steps from its opening on, at most so many, with the rows that they find counted and summed over.
 use Prim.Native.Nat.{ℕ, zero, suc, _+_, _-_, _%_, _^_}
 use mathlib.Core.Bool.{Bool, true, false, cond, not}
 use mathlib.Core.List.{List, [], _∷_}

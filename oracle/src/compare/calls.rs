@@ -12,6 +12,7 @@ const CURSOR_WORDS: usize = 5;
 const BUILDER_WORDS: usize = 6;
 const FIELDS_WORDS: usize = 6;
 const ROW_WORDS: usize = 13;
+const SUMS_WORDS: usize = 2;
 
 /// As in guest/guest.c.
 #[derive(Clone, Copy, Debug, PartialEq, Eq, PartialOrd, Ord)]
@@ -31,6 +32,8 @@ pub enum Function {
     NextByValue,
     Seek,
     IsEmpty,
+    WalkByValue,
+    WalkInPlace,
 }
 
 #[derive(Clone, Debug)]
@@ -166,6 +169,7 @@ impl Call {
             Function::Next | Function::NextByValue => next(self, &mut memory),
             Function::Seek => seek(self, &mut memory),
             Function::IsEmpty => is_empty(self, &mut memory),
+            Function::WalkByValue | Function::WalkInPlace => walk(self, &mut memory),
         };
         match answer {
             Ok((code, key)) => Expected { code, memory, key },
@@ -274,4 +278,30 @@ fn is_empty(call: &Call, memory: &mut [Vec<u8>]) -> Answer {
     let cursor = cursor_of(&call.words(1), &[0; KEY_LIMIT]).ok_or(BAD_WORDS)?;
     memory[0] = bytes_of(&[cursor.is_empty(call.bytes(0))? as u64]);
     PLAIN
+}
+
+/// What a walk inside the library counts of each row.
+pub fn amount(seq: u64, key: &[u8], value_len: usize) -> u64 {
+    let last = *key.last().expect("a key has a byte");
+    seq.wrapping_add(key.len() as u64 + value_len as u64 + last as u64)
+}
+
+fn walk(call: &Call, memory: &mut [Vec<u8>]) -> Answer {
+    exactly(&call.words(3), SUMS_WORDS)?;
+    let order = order_of(call.number(1)).ok_or(BAD_WORDS)?;
+    let (block, limit) = (call.bytes(0), call.number(2));
+    let mut cursor = Cursor::open(block, order)?;
+    let mut out = [0; KEY_LIMIT];
+    let (mut code, mut rows, mut sum) = (GOOD, 0, 0u64);
+    while rows < limit && code == GOOD {
+        match cursor.next(block, &mut out)? {
+            Some(row) => {
+                rows += 1;
+                sum = sum.wrapping_add(amount(row.fields.seq, &out[..row.shared + row.suffix_len], row.value_len));
+            }
+            None => code = DONE,
+        }
+    }
+    memory[0] = bytes_of(&[rows, sum]);
+    Ok((code, None))
 }

@@ -142,6 +142,7 @@ fn any_block(run: &mut Run, block: &[u8], targets: &[Vec<u8>]) {
     for order in [0, 1] {
         if accepted {
             reading::walk_accepted(run, "damage that is accepted (Rust)", block, order, &ops);
+            reading::walks_accepted(run, block, order, &[u64::MAX]);
         } else {
             reading::walk_any(run, block, order, &ops, KEY_LIMIT);
         }
@@ -156,6 +157,8 @@ fn accepted(run: &mut Run, block: &[u8], rows: usize, targets: &[Vec<u8>]) {
     for order in [0, 1] {
         let rest: Vec<Op> = (0..rows + 2).flat_map(|_| [Op::IsEmpty, Op::Next]).collect();
         reading::walk_accepted(run, "scan (Rust)", block, order, &rest);
+        let limits: Vec<u64> = (0..=rows as u64 + 1).chain([u64::MAX]).collect();
+        reading::walks_accepted(run, block, order, &limits);
         for target in targets {
             let ops = [&[Op::Seek(target.clone())][..], &rest].concat();
             reading::walk_accepted(run, "seek (Rust)", block, order, &ops);

@@ -85,6 +85,11 @@ fn wrong_words(run: &mut Run, block: &[u8], cursor: &Arrays, out_len: usize) {
     run.call("words that are no state", Function::IsEmpty, vec![block.clone(), Arg::Read(words.clone()), lent(&bytes_of(&[1]))]);
     let order = pick(&mut run.rng, &[0, 1, 2, any]);
     run.call("words that are no state", Function::Open, vec![block.clone(), Arg::Number(order), lent(&words)]);
+    let sums_words = length(run, 2) * 8;
+    let sums = run.pattern(sums_words);
+    for function in [Function::WalkByValue, Function::WalkInPlace] {
+        run.call("words that are no state", function, vec![block.clone(), Arg::Number(order), Arg::Number(any), lent(&sums)]);
+    }
 }
 
 // ---- builders

@@ -1,6 +1,6 @@
 //! Cursors over one block: opened, stepped, asked and sought with.
 use crate::building::scramble;
-use crate::calls::{bytes_of, words_of, Arg, Expected, Function, DONE, GOOD};
+use crate::calls::{amount, bytes_of, words_of, Arg, Expected, Function, DONE, GOOD};
 use crate::guest::short_hex;
 use crate::Run;
 use model::KEY_LIMIT;
@@ -128,6 +128,43 @@ pub fn walk_accepted(run: &mut Run, kind: &'static str, block: &[u8], order: u64
     }
 }
 
+/// Both walks inside the library. They must answer alike: what the model answers once.
+pub fn walks(run: &mut Run, block: &[u8], order: u64, limit: u64) -> Expected {
+    let sums = run.pattern(2 * 8);
+    let args = vec![Arg::Read(block.to_vec()), Arg::Number(order), Arg::Number(limit), Arg::Written(sums)];
+    run.call("walk inside the library, by value", Function::WalkByValue, args.clone());
+    run.call("walk inside the library, in place", Function::WalkInPlace, args)
+}
+
+/// The code, the rows and the sum of the Rust's own walk.
+fn rust_walk(block: &[u8], order: u64, limit: u64) -> Result<(u8, u64, u64), Stop> {
+    let opened = Opened::new(block)?;
+    let mut iterator = opened.iterator(order == 1)?;
+    let (mut rows, mut sum) = (0, 0u64);
+    while rows < limit {
+        let Some(row) = iterator.next()? else { return Ok((DONE, rows, sum)) };
+        rows += 1;
+        sum = sum.wrapping_add(amount(row.seq, &row.key, row.value.len()));
+    }
+    Ok((GOOD, rows, sum))
+}
+
+/// Walks of a block that the check accepts, with limits below its rows, at them and past: nothing may differ from the Rust's.
+pub fn walks_accepted(run: &mut Run, block: &[u8], order: u64, limits: &[u64]) {
+    let kind = "walk inside the library (Rust)";
+    for &limit in limits {
+        let here = walks(run, block, order, limit);
+        let sums = words_of(&here.memory[0]);
+        let rust = rust_walk(block, order, limit);
+        if rust == Ok((here.code, sums[0], sums[1])) {
+            run.tally.same(kind);
+        } else {
+            let asked = || format!("order {order}, limit {limit}, block {}", short_hex(block));
+            run.tally.differs(kind, block.len(), || format!("{}: {} with {sums:?}, Rust {rust:?}", asked(), here.code));
+        }
+    }
+}
+
 /// Operations on a block that may be refused: the library and the model only. Each goes on from the state that came back.
 pub fn walk_any(run: &mut Run, block: &[u8], order: u64, ops: &[Op], out_len: usize) {
     let mut cursor = match open(run, block, order) {
@@ -138,4 +175,5 @@ pub fn walk_any(run: &mut Run, block: &[u8], order: u64, ops: &[Op], out_len: us
     for op in ops {
         cursor.apply(run, block, op, out_len);
     }
+    walks(run, block, order, u64::MAX);
 }

@@ -119,6 +119,8 @@ fn good_block(run: &mut Run, block: &[u8], keys: &[Vec<u8>]) {
         if accepted {
             reading::walk_accepted(run, "scan (Rust)", block, order, &rest);
             reading::walk_accepted(run, "mixed walk (Rust)", block, order, &mixed);
+            let some = below(&mut run.rng, keys.len() + 2) as u64;
+            reading::walks_accepted(run, block, order, &[some, keys.len() as u64, u64::MAX]);
         }
         let out_len = pick(&mut run.rng, &[0, 1, 2, 3, 4, 5, 1_023]);
         reading::walk_any(run, block, order, &mixed, out_len);
@@ -159,6 +161,7 @@ fn damaged_block(run: &mut Run, block: &[u8], keys: &[Vec<u8>]) {
             let mixed = ops(run, keys, 8);
             if accepted {
                 reading::walk_accepted(run, "damage that is accepted (Rust)", &damaged, order, &mixed);
+                reading::walks_accepted(run, &damaged, order, &[u64::MAX]);
             } else {
                 reading::walk_any(run, &damaged, order, &mixed, KEY_LIMIT);
             }
