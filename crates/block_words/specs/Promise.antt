@@ -16,14 +16,14 @@ use Rattle.block_v2.specs.declared.BlockBuilderV2.{BlockBuilderV2}
 use Rattle.block_grow_v2.specs.declared.State.{State}
 use Rattle.block_step_v2.specs.Says.{viewIn}
 use Rattle.block_step_v2.specs.declared.Place.{Place}
-use Rattle.block_iterator_v2.specs.Says.{viewOf}
+use Rattle.block_iterator_v2.specs.Says.{placeOf, viewOf}
 use Rattle.block_iterator_v2.specs.declared.BlockIteratorV2.{BlockIteratorV2}
 use Rattle.block_words.specs.declared.OrderRead.{OrderRead}
 use Rattle.block_words.specs.declared.CursorRead.{CursorRead}
 use Rattle.block_words.specs.declared.StateRead.{StateRead}
 use Rattle.block_words.specs.declared.FieldsRead.{FieldsRead}
 use Rattle.block_words.specs.Words.{counted, truthWord, orderIn, cursorIn, cursorWords, builderWords, fieldsIn, rowWords}
-use Rattle.block_words.specs.Says.{saysOrdered, saysCursor, placeOf, saysState, stateIn, saysFields}
+use Rattle.block_words.specs.Says.{saysOrdered, saysCursor, saysState, stateIn, saysFields}
 
 -- a store of n words: whether there were as many, and what they are then; others are left
 pub record Stores (n : ℕ) (new ws : List ℕ) (r : Bool) (ws′ : List ℕ) : Type 0 where

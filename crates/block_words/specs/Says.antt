@@ -54,9 +54,6 @@ abbrev pub saysCursor : List ℕ → CursorRead → Res Cursor
 saysCursor key (IsCursor p) = ok (viewIn p key)
 saysCursor key BadCursor = refuse badWords
 
-abbrev pub placeOf : BlockIteratorV2 → Place
-placeOf c = record { order = c .order; region = c .region; at = c .at; «key_len» = c .«key_len»; done = c .done }
-
 abbrev pub iteratorOver : Place → List ℕ → BlockIteratorV2
 iteratorOver p key = record { order = p .order; region = p .region; at = p .at; key = key; «key_len» = p .«key_len»; done = p .done }
 

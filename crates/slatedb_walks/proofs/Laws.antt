@@ -13,7 +13,7 @@ use Rattle.layout.specs.Answer.{Res, ok, refuse, bind, guard}
 use Rattle.layout.specs.Limits.{maxKey}
 use Rattle.layout.specs.Key.{Key}
 use Rattle.layout.specs.RowRead.{RowRead}
-use Rattle.layout.specs.Cursor.{Direction, ascending, descending, Cursor, cursorOr, openBlock, found, done, stepIs, next}
+use Rattle.layout.specs.Cursor.{Cursor, cursorOr, openBlock, found, done, stepIs, next}
 use Rattle.layout.specs.Laws.Answer.{ok-inj, spend}
 use Rattle.types.specs.Answers.{apart, yes}
 use Rattle.types.specs.Number.{number}
@@ -26,7 +26,8 @@ use Rattle.block_step_v2.specs.declared.Place.{Place}
 use Rattle.block_iterator_v2.specs.Says.{placeOf, viewOf, saysOpen}
 use Rattle.block_iterator_v2.specs.declared.Opened.{Opened}
 use Rattle.block_iterator_v2.specs.declared.OpenAnswer.the-variants.{Good as GoodOpen, Refused as OpenRefused}
-use Rattle.slatedb_walks.specs.Walk.{lastByte, amount, Walk, walkIs, withRow, onward, walk, badWords, doneCode, orderIn, wrapped, walkBlock}
+use Rattle.block_words.specs.Words.{badWords, doneCode, orderIn}
+use Rattle.slatedb_walks.specs.Walk.{lastByte, amount, Walk, walkIs, withRow, onward, walk, wrapped, walkBlock}
 use Rattle.slatedb_walks.specs.Promise.{Tells, WalksFlat}
 
 -- ---- the loop
@@ -88,17 +89,6 @@ pub row-added : (sum seq held : ℕ) (key : List ℕ) (n : ℕ) {last lengths na
 row-added sum seq held key n some h lengths-is last-is named-is both-is r-is =
     let long = length-take-le n key h in
     rw (long, getD-take n key (n - 1) 0 (omega arith), ← last-is) (omega (arith, lengths-is, named-is, both-is, r-is))
-
--- ---- the words
-
-pub of-0 : {w : ℕ} → w ≡ 0 → ok ascending ≡ orderIn w
-of-0 e = rw e refl
-
-pub of-1 : {w : ℕ} → w ≡ 1 → ok descending ≡ orderIn w
-of-1 e = rw e refl
-
-pub of-none : {w : ℕ} → (w ≡ 0 → ⊥) → (w ≡ 1 → ⊥) → refuse badWords ≡ orderIn w
-of-none {w} h k = rw (ne-eqb w 0 h, ne-eqb w 1 k) refl
 
 -- two words stored one by one
 pub two : (ws : List ℕ) (a b : ℕ) → length ws ≡ 2 → set (set ws 0 a) 1 b ≡ a ∷ b ∷ []

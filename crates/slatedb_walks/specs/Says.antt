@@ -1,18 +1,10 @@
 -- What each case of a private answer says to the definitions.
 use Prim.Native.Nat.{ℕ}
 use Rattle.layout.specs.Answer.{Res, ok, refuse}
-use Rattle.layout.specs.Cursor.{Direction}
 use Rattle.types.specs.Number.{number}
-use Rattle.types.specs.Says.{saysOrder}
-use Rattle.slatedb_walks.specs.declared.OrderRead.{OrderRead}
-use Rattle.slatedb_walks.specs.declared.OrderRead.the-variants.{Is, Bad}
 use Rattle.slatedb_walks.specs.declared.Walked.{Walked}
 use Rattle.slatedb_walks.specs.declared.Walked.the-variants.{Ended, Refused}
-use Rattle.slatedb_walks.specs.Walk.{Walk, walkIs, badWords}
-
-abbrev pub saysOrdered : OrderRead → Res Direction
-saysOrdered (Is o) = ok (saysOrder o)
-saysOrdered Bad = refuse badWords
+use Rattle.slatedb_walks.specs.Walk.{Walk, walkIs}
 
 abbrev pub saysWalked : Walked → Res Walk
 saysWalked (Ended over rows sum) = ok (walkIs over rows sum)

@@ -8,7 +8,8 @@ use Rattle.layout.specs.Answer.{Res, ok, refuse, bind, guard}
 use Rattle.layout.specs.Limits.{maxKey}
 use Rattle.layout.specs.Key.{Key}
 use Rattle.layout.specs.RowRead.{RowRead, Held, holds, gone, merges}
-use Rattle.layout.specs.Cursor.{Direction, ascending, descending, Cursor, openBlock, Answer, found, done, next}
+use Rattle.layout.specs.Cursor.{Cursor, openBlock, Answer, found, done, next}
+use Rattle.block_words.specs.Words.{badWords, doneCode, orderIn}
 
 -- ---- what a row adds: its sequence number, the lengths of its key and its value, and its key's last byte
 
@@ -45,16 +46,7 @@ unfoldable pub walk : ℕ → Cursor → List ℕ → Res Walk
 walk zero c b = ok (walkIs false 0 0)
 walk (suc limit) c b = bind (next c b maxKey) λ s. onward (s .answer) (walk limit (s .cursor) b)
 
--- ---- what crosses the C interface: the order as a word, the sum as one, and the code
-
-abbrev pub badWords : ℕ
-badWords = 254
-
-abbrev pub doneCode : ℕ
-doneCode = 255
-
-abbrev pub orderIn : ℕ → Res Direction
-orderIn w = cond (eqb w 0) (ok ascending) (cond (eqb w 1) (ok descending) (refuse badWords))
+-- ---- what crosses the C interface: the sum as a word, and the code
 
 abbrev pub wrapped : Walk → Res Walk
 wrapped w = ok (walkIs (w .over) (w .rows) (w .sum % 2 ^ 64))

@@ -10,49 +10,26 @@ ghost use Rattle.layout.specs.Limits.{maxKey};
 ghost use Rattle.types.specs.Says.{saysHeld};
 ghost use Rattle.row_decode_v2.specs.Says.{rowFrom};
 ghost use Rattle.block_step_v2.specs.Says.{viewIn};
-ghost use Rattle.block_iterator_v2.specs.Says.{placeOf, viewOf};
-ghost use Rattle.slatedb_walks.specs.Walk.{heldLength, amount, walk, wrapped, orderIn};
-ghost use Rattle.slatedb_walks.specs.Says.{saysOrdered, saysWalked};
+ghost use Rattle.block_iterator_v2.specs.Says.{viewOf};
+ghost use Rattle.slatedb_walks.specs.Walk.{heldLength, amount, walk, wrapped};
+ghost use Rattle.slatedb_walks.specs.Says.{saysWalked};
 ghost use Rattle.slatedb_walks.specs.Promise.{Tells, WalksFlat};
 use block_iterator_v2::BlockIteratorV2;
 use block_iterator_v2::NextAnswer;
 use block_iterator_v2::OpenAnswer;
 use block_step_v2::Moved;
 use block_step_v2::Place;
+use block_words::OrderRead;
 use row_decode_v2::Row;
-use types::IterationOrder;
 use types::Refusal;
 use types::ValueDeletable;
 
-const GOOD: u8 = 0;
-
-const BAD_WORDS: u8 = 254;
-
-const DONE: u8 = 255;
-
 const SUMS_WORDS: usize = 2;
-
-enum OrderRead {
-    Is(IterationOrder),
-    Bad,
-}
 
 // How many rows a walk found, their sum, and whether "done" ended it.
 enum Walked {
     Ended { over: bool, rows: u64, sum: u64 },
     Refused(Refusal),
-}
-
-fn order_in(word: u64) -> OrderRead
-    ensures { λ r. ⌜ saysOrdered r ≡ orderIn word ⌝ }
-{
-    if word == 0 {
-        return OrderRead::Is(IterationOrder::Ascending);
-    }
-    if word == 1 {
-        return OrderRead::Is(IterationOrder::Descending);
-    }
-    OrderRead::Bad
 }
 
 // Stores what a walk found, and gives its code.
@@ -64,7 +41,11 @@ fn tell(walked: Walked, sums: &mut [u64]) -> u8
         Walked::Ended { over, rows, sum } => {
             sums[0] = rows;
             sums[1] = sum;
-            if over { DONE } else { GOOD }
+            if over {
+                block_words::DONE
+            } else {
+                block_words::GOOD
+            }
         }
         Walked::Refused(refusal) => types::number(refusal),
     }
@@ -149,11 +130,11 @@ pub extern "C" fn slatedb_walk_by_value(
     ensures { λ r. ⌜ WalksFlat (now (block .entry)) order limit (now (sums .entry)) r (now (sums .exit)) ⌝ }
 {
     if sums.len() != SUMS_WORDS {
-        return BAD_WORDS;
+        return block_words::BAD_WORDS;
     }
-    let ordered = order_in(order);
+    let ordered = block_words::order_in(order);
     let OrderRead::Is(o) = ordered else {
-        return BAD_WORDS;
+        return block_words::BAD_WORDS;
     };
     let opened = BlockIteratorV2::new(block, o);
     let answer = opened.answer;
@@ -167,20 +148,6 @@ pub extern "C" fn slatedb_walk_by_value(
 }
 
 // ---- in place
-
-// A cursor without the bytes of its key.
-fn place_of(c: BlockIteratorV2) -> Place
-    ensures { λ r. ⌜ r ≡ placeOf c ⌝ }
-{
-    let order = c.order;
-    Place {
-        order,
-        region: c.region,
-        at: c.at,
-        key_len: c.key_len,
-        done: c.done,
-    }
-}
 
 fn in_place(block: &[u8], start: Place, limit: u64) -> Walked
     ensures { λ r. ⌜ saysWalked r ≡ bind (walk limit (viewIn start (replicate maxKey 0)) (now (block .entry))) wrapped ⌝ }
@@ -228,17 +195,17 @@ pub extern "C" fn slatedb_walk_in_place(
     ensures { λ r. ⌜ WalksFlat (now (block .entry)) order limit (now (sums .entry)) r (now (sums .exit)) ⌝ }
 {
     if sums.len() != SUMS_WORDS {
-        return BAD_WORDS;
+        return block_words::BAD_WORDS;
     }
-    let ordered = order_in(order);
+    let ordered = block_words::order_in(order);
     let OrderRead::Is(o) = ordered else {
-        return BAD_WORDS;
+        return block_words::BAD_WORDS;
     };
     let opened = BlockIteratorV2::new(block, o);
     let answer = opened.answer;
     match answer {
         OpenAnswer::Good => {
-            let walked = in_place(block, place_of(opened.iterator), limit);
+            let walked = in_place(block, block_words::place_of(opened.iterator), limit);
             tell(walked, sums)
         }
         OpenAnswer::Refused(refusal) => types::number(refusal),
