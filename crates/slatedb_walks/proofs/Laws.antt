@@ -1,20 +1,19 @@
 -- The loop of a walk, whatever carries the cursor: the walk from here on, with what is left of the limit, put upon the rows and the sum so far, is the whole.
 -- And what each exit of an export answers and stores.
-use Prim.Native.Nat.{ℕ, zero, suc, _+_, _-_, _%_, _^_, _<_, _≤_}
+use Prim.Native.Nat.{ℕ, suc, _+_, _-_, _%_, _^_, _<_, _≤_}
 use mathlib.Core.Path.{_≡_, refl, ap, ap₂, sym, _∙_}
-use mathlib.Core.Bool.{Bool, true, false, cond, not}
+use mathlib.Core.Bool.{Bool, true, false, cond}
 use mathlib.Core.List.{List, [], _∷_}
 use native.Mathlib.Omega.{arith}
-use lib.Dec.{eqb}
 use lib.ListN.{length, take, getD, set, replicate}
 use lib.Seq.{length-take-le, getD-take}
 use borrow.Author.Tests.{eq-eqb, ne-eqb}
-use Rattle.layout.specs.Answer.{Res, ok, refuse, bind, guard}
+use Rattle.layout.specs.Answer.{Res, ok, refuse, bind}
 use Rattle.layout.specs.Limits.{maxKey}
 use Rattle.layout.specs.Key.{Key}
 use Rattle.layout.specs.RowRead.{RowRead}
 use Rattle.layout.specs.Cursor.{Cursor, cursorOr, openBlock, found, done, stepIs, next}
-use Rattle.layout.specs.Laws.Answer.{ok-inj, spend}
+use Rattle.layout.specs.Laws.Answer.{spend}
 use Rattle.types.specs.Answers.{apart, yes}
 use Rattle.types.specs.Number.{number}
 use Rattle.types.specs.Says.{saysOrder}
@@ -27,7 +26,7 @@ use Rattle.block_iterator_v2.specs.Says.{placeOf, viewOf, saysOpen}
 use Rattle.block_iterator_v2.specs.declared.Opened.{Opened}
 use Rattle.block_iterator_v2.specs.declared.OpenAnswer.the-variants.{Good as GoodOpen, Refused as OpenRefused}
 use Rattle.block_words.specs.Words.{badWords, doneCode, orderIn}
-use Rattle.slatedb_walks.specs.Walk.{lastByte, amount, Walk, walkIs, withRow, onward, walk, wrapped, walkBlock}
+use Rattle.slatedb_walks.specs.Walk.{lastByte, amount, Walk, walkIs, withRow, walk, wrapped}
 use Rattle.slatedb_walks.specs.Promise.{Tells, WalksFlat}
 
 -- ---- the loop
@@ -107,7 +106,7 @@ told-refused sums e q = rw e (record { answer = q; words = refl })
 
 -- ---- the exits of an export
 
--- what an answer says beside its value
+-- whether there is an answer, without its value
 abbrev only : {A : Type 0} → Res A → Res (Unit {0})
 only want = bind want λ _. ok tt
 

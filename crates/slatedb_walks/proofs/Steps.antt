@@ -2,15 +2,14 @@
 -- The step's definition is taken apart; ascending and descending, the key comes from one read of a row.
 use Prim.Native.Nat.{ℕ, zero, suc, _+_, _-_, _≤_}
 use mathlib.Core.Path.{_≡_, refl, ap, sym, _∙_}
-use mathlib.Core.Bool.{Bool}
 use mathlib.Core.List.{List, []}
-use mathlib.Core.Logic.{_⊎_, ⊎-elim}
+use mathlib.Core.Logic.{⊎-elim}
 use native.Mathlib.Omega.{arith}
 use lib.Dec.{ltb, leb, eqb}
 use lib.ListN.{length, take}
 use lib.Seq.{length-take-le}
 use borrow.Author.Tests.{ltb-false}
-use Rattle.layout.specs.Answer.{Res, ok, refuse, bind, guard}
+use Rattle.layout.specs.Answer.{Res, ok, refuse, bind}
 use Rattle.layout.specs.Limits.{maxKey}
 use Rattle.layout.specs.Key.{Key}
 use Rattle.layout.specs.Place.{splice}

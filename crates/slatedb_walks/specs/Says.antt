@@ -1,5 +1,4 @@
 -- What each case of a private answer says to the definitions.
-use Prim.Native.Nat.{ℕ}
 use Rattle.layout.specs.Answer.{Res, ok, refuse}
 use Rattle.types.specs.Number.{number}
 use Rattle.slatedb_walks.specs.declared.Walked.{Walked}
