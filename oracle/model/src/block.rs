@@ -16,43 +16,54 @@ pub struct Region {
     pub end: usize,
 }
 
-fn two(bytes: &[u8], at: usize) -> usize {
-    usize::from(bytes[at]) << 8 | usize::from(bytes[at + 1])
-}
+/// An offset, and the count, take 2 bytes.
+const OFFSET: usize = 2;
 
 impl<'a> Block<'a> {
     /// 14: "block under 2 bytes, count 0, or trailer longer than the block".
     pub fn new(block: &'a [u8]) -> Result<Block<'a>, Refusal> {
-        if block.len() < 2 {
+        let count_at = block.len().checked_sub(OFFSET).ok_or(TRAILER)?;
+        let (before_count, count) = block.split_at(count_at);
+        let count = high_byte_first(count);
+        if count == 0 {
             return Err(TRAILER);
         }
-        let count_at = block.len() - 2;
-        let count = two(block, count_at);
-        if count == 0 || 2 * count > count_at {
-            return Err(TRAILER);
-        }
-        let data_len = count_at - 2 * count;
-        Ok(Block { data: &block[..data_len], offsets: &block[data_len..count_at] })
+        let data_len = before_count.len().checked_sub(OFFSET * count).ok_or(TRAILER)?;
+        let (data, offsets) = before_count.split_at(data_len);
+        Ok(Block { data, offsets })
     }
 
     pub fn restarts(&self) -> usize {
-        self.offsets.len() / 2
+        self.offsets.len() / OFFSET
     }
 
     pub fn is_last(&self, region: usize) -> bool {
-        region + 1 == self.restarts()
+        region == self.last()
     }
 
-    /// "Using a region, or its restart's key, tests 15 for its offset and the next", that pair and no other.
+    /// The number of the last region: the count is never 0.
+    pub(crate) fn last(&self) -> usize {
+        self.restarts().saturating_sub(1)
+    }
+
+    fn offset(&self, number: usize) -> Option<usize> {
+        self.offsets.chunks_exact(OFFSET).nth(number).map(high_byte_first)
+    }
+
+    /// "Using a region, or its restart's key, tests 15 for its offset and the next", that pair and no other. Whoever uses a
+    /// region has tested its number; one not below the count is 18 here too.
     pub fn region(&self, number: usize) -> Result<Region, Refusal> {
-        let start = two(self.offsets, 2 * number);
-        if number == 0 && start != 0 || start >= self.data.len() {
+        let start = self.offset(number).ok_or(STATE)?;
+        if number == 0 && start != 0 {
+            return Err(OFFSETS);
+        }
+        if start >= self.data.len() {
             return Err(OFFSETS);
         }
         if self.is_last(number) {
             return Ok(Region { start, end: self.data.len() });
         }
-        let end = two(self.offsets, 2 * (number + 1));
+        let end = self.offset(number + 1).ok_or(OFFSETS)?;
         if end <= start || end >= self.data.len() {
             return Err(OFFSETS);
         }
@@ -61,12 +72,10 @@ impl<'a> Block<'a> {
 
     /// 15 for all: "first restart not 0, offsets not rising, or one not below the data length".
     pub fn test_all_offsets(&self) -> Result<(), Refusal> {
-        (0..self.restarts()).try_for_each(|number| self.region(number).map(|_| ()))
-    }
-
-    /// A row is at a restart by its place.
-    fn place(&self, region: Region, at: usize, previous_len: usize) -> Place<'a> {
-        Place { data: self.data, at, previous_len, restart: at == region.start, region_end: region.end }
+        for number in 0..self.restarts() {
+            self.region(number)?;
+        }
+        Ok(())
     }
 
     /// The row at `at` in the region, and its full key.
@@ -76,10 +85,20 @@ impl<'a> Block<'a> {
         Ok((row, key))
     }
 
+    /// A row is at a restart by its place; "missing" is against the end of the data, so the data alone is read.
+    fn place(&self, region: Region, at: usize, previous_len: usize) -> Place<'a> {
+        Place { data: self.data, at, previous_len, restart: at == region.start, region_end: region.end }
+    }
+
     /// A restart's key, read without the rest of its row.
     pub fn restart_key(&self, number: usize) -> Result<&'a [u8], Refusal> {
         let region = self.region(number)?;
-        let KeyPart { suffix_at, suffix_len, .. } = row::read_key(&self.place(region, region.start, 0))?;
-        Ok(&self.data[suffix_at..suffix_at + suffix_len])
+        let KeyPart { suffix_at, end, .. } = row::read_key(&self.place(region, region.start, 0))?;
+        // "A restart shares 0 bytes", so its suffix is its key.
+        self.data.get(suffix_at..end).ok_or(INPUT_ENDS)
     }
+}
+
+fn high_byte_first(bytes: &[u8]) -> usize {
+    bytes.iter().fold(0, |number, byte| number << 8 | usize::from(*byte))
 }

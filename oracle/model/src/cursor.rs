@@ -19,7 +19,7 @@ pub struct Cursor {
     pub done: bool,
 }
 
-/// What a step does: the row and its key, with the cursor's new region, position and key; or "done".
+/// What a step does: the row, its key and the cursor moved past it; or "done".
 enum Step {
     Given(Row, Vec<u8>, Cursor),
     Done,
@@ -32,7 +32,7 @@ impl Cursor {
         block.test_all_offsets()?;
         let (region, at) = match order {
             Order::Ascending => (0, 0),
-            Order::Descending => (block.restarts() - 1, block.data.len()),
+            Order::Descending => (block.last(), block.data.len()),
         };
         Ok(Cursor { order, region, at, key: Key::none(), done: false })
     }
@@ -41,9 +41,8 @@ impl Cursor {
     /// row, its key at the start of `out`, and moves the cursor; None is "done".
     pub fn next(&mut self, block: &[u8], out: &mut [u8]) -> Result<Option<Row>, Refusal> {
         let block = Block::new(block)?;
-        if self.region >= block.restarts() || self.key.len > KEY_LIMIT {
-            return Err(STATE);
-        }
+        self.test_region_and_key(&block)?;
+        // "A marked cursor says "done" right after 14 and the first 18, its position untested."
         if self.done {
             return Ok(None);
         }
@@ -52,77 +51,106 @@ impl Cursor {
             Order::Descending => self.descend(&block)?,
         };
         match step {
-            Step::Done => {
-                self.done = true;
-                Ok(None)
-            }
-            Step::Given(_, key, _) if key.len() > out.len() => Err(KEY_BUFFER),
             Step::Given(row, key, moved) => {
-                out[..key.len()].copy_from_slice(&key);
+                // 19: "lent key buffer shorter than the key". Its "other bytes stay".
+                let place = out.get_mut(..key.len()).ok_or(KEY_BUFFER)?;
+                place.copy_from_slice(&key);
                 *self = moved;
                 Ok(Some(row))
             }
+            Step::Done => {
+                // "A step that says "done" sets only the mark."
+                self.done = true;
+                Ok(None)
+            }
         }
+    }
+
+    /// 18: "region number not below the count, a previous key over 1,024".
+    fn test_region_and_key(&self, block: &Block) -> Result<(), Refusal> {
+        if self.region >= block.restarts() || self.key.len > KEY_LIMIT {
+            return Err(STATE);
+        }
+        Ok(())
     }
 
     /// "Ascending, right is from the region's start to before its end, in the last region also at the end."
     fn ascend(&self, block: &Block) -> Result<Step, Refusal> {
         let region = block.region(self.region)?;
-        let last = block.is_last(self.region);
-        if last && self.at == region.end {
+        if block.is_last(self.region) && self.at == region.end {
             return Ok(Step::Done);
         }
         if self.at < region.start || self.at >= region.end {
             return Err(STATE);
         }
         let (row, key) = block.row(region, self.at, self.key.get())?;
-        let moved = if row.next == region.end && !last {
-            // "a finished region hands over to the next at once, then with no key"
-            Cursor { region: self.region + 1, at: row.next, key: Key::none(), ..self.clone() }
-        } else {
-            Cursor { at: row.next, key: Key::of(&key), ..self.clone() }
-        };
+        let moved = self.past(block, region, &row, &key);
         Ok(Step::Given(row, key, moved))
     }
 
-    /// "At a region's start the region before is next, and the key is neither used nor changed."
+    /// "A step sets the key to its row's, and a finished region hands over to the next at once, then with no key." Handing over
+    /// does not use the next region.
+    fn past(&self, block: &Block, region: Region, row: &Row, key: &[u8]) -> Cursor {
+        let mut moved = Cursor { at: row.next, key: Key::of(key), ..self.clone() };
+        if row.next == region.end && !block.is_last(self.region) {
+            moved.region += 1;
+            moved.key = Key::none();
+        }
+        moved
+    }
+
+    /// "Descending, right is the region's start and where a row of it, read from the start, ends; rows up to there are tested as
+    /// read, none if the position lies outside the region."
     fn descend(&self, block: &Block) -> Result<Step, Refusal> {
         let region = block.region(self.region)?;
         if self.at < region.start || self.at > region.end {
             return Err(STATE);
         }
-        if self.at > region.start {
-            return self.give_back(block, self.region, region, self.at);
+        if self.at == region.start {
+            return self.descend_before(block);
         }
-        if self.region == 0 {
-            return Ok(Step::Done);
+        let (row, key) = last_row(block, region, self.at)?;
+        // A row that straddles the position.
+        if row.next != self.at {
+            return Err(STATE);
         }
-        let before = block.region(self.region - 1)?;
-        self.give_back(block, self.region - 1, before, before.end)
+        Ok(self.given_back(self.region, row, key))
     }
 
-    /// The row of the region, read from its start, that ends at `end`; 18 if none does.
-    fn give_back(&self, block: &Block, number: usize, region: Region, end: usize) -> Result<Step, Refusal> {
-        let mut at = region.start;
-        let mut previous = Vec::new();
-        loop {
-            let (row, key) = block.row(region, at, &previous)?;
-            if row.next > end {
-                return Err(STATE);
-            }
-            if row.next == end {
-                let moved = Cursor { region: number, at: row.start, ..self.clone() };
-                return Ok(Step::Given(row, key, moved));
-            }
-            at = row.next;
-            previous = key;
-        }
+    /// "At a region's start the region before is next": its last row; before region 0 there is nothing left.
+    fn descend_before(&self, block: &Block) -> Result<Step, Refusal> {
+        let Some(before) = self.region.checked_sub(1) else {
+            return Ok(Step::Done);
+        };
+        let region = block.region(before)?;
+        let (row, key) = last_row(block, region, region.end)?;
+        Ok(self.given_back(before, row, key))
+    }
+
+    /// The position is "where the next row to give ends", and that is where this row starts. "The key is neither used nor
+    /// changed."
+    fn given_back(&self, region: usize, row: Row, key: Vec<u8>) -> Step {
+        let moved = Cursor { region, at: row.start, ..self.clone() };
+        Step::Given(row, key, moved)
     }
 
     /// 14 only. "Ascending, true once the position isn't below the data length or the mark is set; descending, only when it is
     /// set."
     pub fn is_empty(&self, block: &[u8]) -> Result<bool, Refusal> {
         let block = Block::new(block)?;
-        Ok(self.done || self.order == Order::Ascending && self.at >= block.data.len())
+        Ok(match self.order {
+            Order::Ascending => self.at >= block.data.len() || self.done,
+            Order::Descending => self.done,
+        })
     }
+}
+
+/// Rows read from the region's start until one ends at `stop` or past it: that one, and its key. `stop` lies in the region,
+/// after its start.
+fn last_row(block: &Block, region: Region, stop: usize) -> Result<(Row, Vec<u8>), Refusal> {
+    let (mut row, mut key) = block.row(region, region.start, &[])?;
+    while row.next < stop {
+        (row, key) = block.row(region, row.next, &key)?;
+    }
+    Ok((row, key))
 }

@@ -1,6 +1,6 @@
 //! The rules of the block format as plain small Rust, to be held side by side with the paper that gives them ("01"): its words
-//! stand in the comments, its numbers in `refusal`. It follows 01 and the readings of it. Whoever wrote it had read the Rust of
-//! slatedb, but took no line from there; the proved code was not looked at.
+//! stand in the comments, its numbers in `refusal`. It was written from 01 and the readings of it alone:
+//! neither the Rust of slatedb nor the proved code was looked at.
 pub mod block;
 pub mod builder;
 #[cfg(test)]
@@ -55,18 +55,22 @@ pub struct Key {
 }
 
 impl Key {
+    /// "No key".
     pub fn none() -> Key {
-        Key { len: 0, bytes: [0; KEY_LIMIT] }
+        Key::of(&[])
     }
 
+    /// A key over the limit keeps its length, so that 18 is answered for it, and as many of its bytes as there is place for.
     pub fn of(key: &[u8]) -> Key {
-        let mut carried = Key::none();
-        carried.len = key.len();
-        carried.bytes[..key.len()].copy_from_slice(key);
-        carried
+        let mut bytes = [0; KEY_LIMIT];
+        for (to, from) in bytes.iter_mut().zip(key) {
+            *to = *from;
+        }
+        Key { len: key.len(), bytes }
     }
 
+    /// The bytes of the key. What lies past its length changes no answer.
     pub fn get(&self) -> &[u8] {
-        &self.bytes[..self.len]
+        self.bytes.get(..self.len).unwrap_or(&self.bytes)
     }
 }

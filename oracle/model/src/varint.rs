@@ -1,34 +1,54 @@
 //! Unsigned LEB128 for 32-bit numbers.
 use crate::{refusal::*, Refusal};
 
-const LONGEST: usize = 5;
 /// A fifth byte has place for four bits.
 const FIFTH_AT_MOST: u8 = 15;
+/// Set "on all but the last byte".
+const TOP_BIT: u8 = 0x80;
 
 /// "A number of b significant bits takes the whole part of (b+6)/7 bytes, and zero takes one."
 pub fn len(number: u32) -> usize {
-    let bits = 32 - number.leading_zeros() as usize;
-    if number == 0 { 1 } else { (bits + 6) / 7 }
+    let b = (u32::BITS - number.leading_zeros()) as usize;
+    if b == 0 {
+        1
+    } else {
+        (b + 6) / 7
+    }
 }
 
 /// "Seven bits a byte, lowest first, top bit set on all but the last byte."
 pub fn write(number: u32) -> Vec<u8> {
-    let last = len(number) - 1;
-    (0..=last).map(|i| (number >> (7 * i)) as u8 & 0x7f | if i < last { 0x80 } else { 0 }).collect()
+    let mut written = Vec::new();
+    let mut rest = number;
+    while rest >= u32::from(TOP_BIT) {
+        written.push((rest & 0x7F) as u8 | TOP_BIT);
+        rest >>= 7;
+    }
+    written.push(rest as u8);
+    written
 }
 
 /// The number that starts at `at`, and where it ends: 9, 10. A longer spelling of a small number reads as that number.
 pub fn read(input: &[u8], at: usize) -> Result<(u32, usize), Refusal> {
     let mut number = 0;
-    for i in 0..LONGEST {
-        let Some(&byte) = input.get(at + i) else { return Err(INPUT_ENDS) };
-        if i == LONGEST - 1 && byte > FIFTH_AT_MOST {
-            return Err(VARINT_OVER);
-        }
-        number |= u32::from(byte & 0x7f) << (7 * i);
-        if byte < 0x80 {
-            return Ok((number, at + i + 1));
+    let mut end = at;
+    for shift in [0, 7, 14, 21] {
+        let byte = byte_at(input, end)?;
+        end += 1;
+        number |= u32::from(byte & !TOP_BIT) << shift;
+        if byte & TOP_BIT == 0 {
+            return Ok((number, end));
         }
     }
-    unreachable!("a fifth byte of at most 15 is the last")
+    // "The reader takes at most five bytes": a fifth byte with the top bit set is above 15 too, so there is never a sixth.
+    let fifth = byte_at(input, end)?;
+    if fifth > FIFTH_AT_MOST {
+        return Err(VARINT_OVER);
+    }
+    Ok((number | u32::from(fifth) << 28, end + 1))
+}
+
+/// 9: "input ends inside a row".
+fn byte_at(input: &[u8], at: usize) -> Result<u8, Refusal> {
+    input.get(at).copied().ok_or(INPUT_ENDS)
 }
