@@ -16,7 +16,8 @@ use Rattle.block_iterator_v2.specs.declared.Next.{Next}
 use Rattle.block_iterator_v2.specs.declared.Sought.{Sought}
 use Rattle.block_iterator_v2.specs.declared.EmptyRead.{EmptyRead}
 use Rattle.block_iterator_v2.specs.Says.{viewOf, viewOf-one, saysOpen-one, saysNext-one, saysSeek-one, saysEmpty-one}
-use Rattle.block_iterator_v2.specs.Promise.{Opens, Whole, StepsNext, SeeksTarget, TellsEmpty}
+use Rattle.block_step_v2.specs.declared.Place.{Place}
+use Rattle.block_iterator_v2.specs.Promise.{Opens, Whole, StepsNext, SeeksTarget, TellsEmpty, PlacesCursor}
 
 pub new-settled : (b : List ℕ) (order : IterationOrder) (r q : Opened) → Opens b order r → Opens b order q → r ≡ q
 new-settled b order r q m n =
@@ -48,3 +49,6 @@ seek-settled self b target r q m n = (
 
 pub is-empty-settled : (self : BlockIteratorV2) (b : List ℕ) (r q : EmptyRead) → TellsEmpty self b r → TellsEmpty self b q → r ≡ q
 is-empty-settled self b r q m n = saysEmpty-one r q (m ∙ sym n)
+
+pub place-of-settled : (c : BlockIteratorV2) (r q : Place) → PlacesCursor c r → PlacesCursor c q → r ≡ q
+place-of-settled c r q m n = m ∙ sym n

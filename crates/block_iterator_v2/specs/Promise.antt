@@ -11,12 +11,13 @@ use Rattle.layout.specs.Seek.{Sought as SoughtL, seek, soughtAfter}
 use Rattle.types.specs.Says.{saysOrder}
 use Rattle.types.specs.declared.IterationOrder.{IterationOrder}
 use Rattle.block_step_v2.specs.Says.{told}
+use Rattle.block_step_v2.specs.declared.Place.{Place}
 use Rattle.block_iterator_v2.specs.declared.BlockIteratorV2.{BlockIteratorV2}
 use Rattle.block_iterator_v2.specs.declared.Opened.{Opened}
 use Rattle.block_iterator_v2.specs.declared.Next.{Next}
 use Rattle.block_iterator_v2.specs.declared.Sought.{Sought}
 use Rattle.block_iterator_v2.specs.declared.EmptyRead.{EmptyRead}
-use Rattle.block_iterator_v2.specs.Says.{viewOf, saysOpen, saysNext, reported, saysSeek, saysEmpty}
+use Rattle.block_iterator_v2.specs.Says.{placeOf, viewOf, saysOpen, saysNext, reported, saysSeek, saysEmpty}
 
 -- a cursor, and beside a refusal one in region 0 at 0; its key's bytes are zeros
 pub record Opens (b : List ℕ) (order : IterationOrder) (r : Opened) : Type 0 where
@@ -50,3 +51,7 @@ SeeksTarget self b target r = Seeks (seek (saysOrder (self .order)) b target) se
 
 abbrev pub TellsEmpty : BlockIteratorV2 → List ℕ → EmptyRead → Type 0
 TellsEmpty self b r = saysEmpty r ≡ isEmpty (viewOf self) b
+
+-- all of a cursor but the bytes of its key
+abbrev pub PlacesCursor : BlockIteratorV2 → Place → Type 0
+PlacesCursor c r = r ≡ placeOf c

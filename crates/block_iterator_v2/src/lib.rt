@@ -15,7 +15,7 @@ ghost use Rattle.block_step_v2.specs.Promise.{Moves};
 ghost use Rattle.block_step_v2.specs.Says.{viewIn, placeAfter};
 ghost use Rattle.block_iterator_v2.specs.Says.{viewOf};
 ghost use Rattle.block_iterator_v2.specs.Parts.{refusalOfOffsets, refusalOfWalk, refusalOfLast, refusalOfStart, placed, answerOf, SetsOut, sought, landed};
-ghost use Rattle.block_iterator_v2.specs.Promise.{Opens, StepsNext, Seeks, SeeksTarget, TellsEmpty};
+ghost use Rattle.block_iterator_v2.specs.Promise.{PlacesCursor, Opens, StepsNext, Seeks, SeeksTarget, TellsEmpty};
 use block::RegionRead;
 use block::Tested;
 use block::Trailer;
@@ -147,6 +147,20 @@ fn answer_of(moved: Moved) -> NextAnswer
         Moved::Found { place: _, row } => NextAnswer::Found(row),
         Moved::Done(_) => NextAnswer::Done,
         Moved::Refused(refusal) => NextAnswer::Refused(refusal),
+    }
+}
+
+// A cursor's numbers, without its key's bytes.
+pub fn place_of(c: BlockIteratorV2) -> Place
+    ensures { λ r. ⌜ PlacesCursor c r ⌝ }
+{
+    let order = c.order;
+    Place {
+        order,
+        region: c.region,
+        at: c.at,
+        key_len: c.key_len,
+        done: c.done,
     }
 }
 

@@ -7,8 +7,8 @@ ghost use Rattle.layout.specs.Builder.{fresh};
 ghost use Rattle.layout.specs.Limits.{defaultInterval};
 ghost use Rattle.block_grow_v2.specs.Promise.{AddsInPlace};
 ghost use Rattle.block_grow_v2.specs.Says.{stateFrom};
-ghost use Rattle.block_v2.specs.Says.{stateOf, builderFrom, noKey, badSettings};
-ghost use Rattle.block_v2.specs.Promise.{Makes, Fits, Adds, Empties, Builds};
+ghost use Rattle.block_v2.specs.Says.{builderFrom, noKey, badSettings};
+ghost use Rattle.block_v2.specs.Promise.{TakesState, Makes, Fits, Adds, Empties, Builds};
 use block_grow_v2::BuildAnswer;
 use block_grow_v2::Fit;
 use block_grow_v2::Grown;
@@ -53,8 +53,9 @@ pub struct Built {
     pub answer: BuildAnswer,
 }
 
-fn state_of(b: BlockBuilderV2) -> State
-    ensures { λ r. ⌜ r ≡ stateOf b ⌝ }
+// A builder's numbers, without its last key's bytes.
+pub fn state_of(b: BlockBuilderV2) -> State
+    ensures { λ r. ⌜ TakesState b r ⌝ }
 {
     State {
         block_size: b.block_size,

@@ -20,7 +20,7 @@ use Rattle.block_words.specs.declared.StateRead.{StateRead}
 use Rattle.block_words.specs.declared.FieldsRead.{FieldsRead}
 use Rattle.block_words.specs.Words.{counted, cursorIn}
 use Rattle.block_words.specs.Says.{saysOrdered-one, saysCursor-one, saysState-one, saysFields-one}
-use Rattle.block_words.specs.Promise.{Stores, TellsTruth, LoadsOrder, LoadsCursor, PutsCursor, PlacesCursor, PutsIterator, LoadsState, TakesState, PutsState, MakesOver, LoadsFields, PutsRow}
+use Rattle.block_words.specs.Promise.{Stores, TellsTruth, LoadsOrder, LoadsCursor, PutsCursor, PutsIterator, LoadsState, PutsState, MakesOver, LoadsFields, PutsRow}
 use Rattle.block_words.specs.Exports.{AddsFlat, KeyLeft, StepsFlat}
 
 stores-settled : {n : ℕ} {new ws : List ℕ} {r q : Bool} {ys zs : List ℕ} → Stores n new ws r ys → Stores n new ws q zs → (r ≡ q) × (ys ≡ zs)
@@ -42,9 +42,6 @@ cursor-in-settled ws r q m n = saysCursor-one [] r q (m [] ∙ sym (n []))
 pub put-cursor-settled : (p : Place) (ws : List ℕ) (r q : Bool) (ys zs : List ℕ) → PutsCursor p ws r ys → PutsCursor p ws q zs → (r ≡ q) × (ys ≡ zs)
 put-cursor-settled p ws r q ys zs m n = stores-settled m n
 
-pub place-of-settled : (c : BlockIteratorV2) (r q : Place) → PlacesCursor c r → PlacesCursor c q → r ≡ q
-place-of-settled c r q m n = m ∙ sym n
-
 pub put-iterator-settled : (c : BlockIteratorV2) (ws key : List ℕ) (r q : Bool) (ys zs ks ls : List ℕ) → PutsIterator c ws key r ys ks → PutsIterator c ws key q zs ls
     → (r ≡ q) × (ys ≡ zs) × (ks ≡ ls)
 put-iterator-settled c ws key r q ys zs ks ls m n = (m .answer ∙ sym (n .answer), m .words ∙ sym (n .words), m .bytes ∙ sym (n .bytes))
@@ -53,9 +50,6 @@ put-iterator-settled c ws key r q ys zs ks ls m n = (m .answer ∙ sym (n .answe
 
 pub state-in-settled : (ws : List ℕ) (r q : StateRead) → LoadsState ws r → LoadsState ws q → r ≡ q
 state-in-settled ws r q m n = saysState-one r q (m ∙ sym n)
-
-pub state-of-settled : (b : BlockBuilderV2) (r q : State) → TakesState b r → TakesState b q → r ≡ q
-state-of-settled b r q m n = m ∙ sym n
 
 pub put-state-settled : (s : State) (ws : List ℕ) (r q : Bool) (ys zs : List ℕ) → PutsState s ws r ys → PutsState s ws q zs → (r ≡ q) × (ys ≡ zs)
 put-state-settled s ws r q ys zs m n = stores-settled m n

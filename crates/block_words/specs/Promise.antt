@@ -10,13 +10,13 @@ use Rattle.layout.specs.Limits.{maxKey}
 use Rattle.layout.specs.Place.{afterPut}
 use Rattle.row_decode_v2.specs.Says.{rowFrom}
 use Rattle.row_decode_v2.specs.declared.Row.{Row}
-use Rattle.block_v2.specs.Says.{stateOf, builderFrom}
+use Rattle.block_v2.specs.Says.{builderFrom}
 use Rattle.block_grow_v2.specs.Says.{viewFrom}
 use Rattle.block_v2.specs.declared.BlockBuilderV2.{BlockBuilderV2}
 use Rattle.block_grow_v2.specs.declared.State.{State}
 use Rattle.block_step_v2.specs.Says.{viewIn}
 use Rattle.block_step_v2.specs.declared.Place.{Place}
-use Rattle.block_iterator_v2.specs.Says.{placeOf, viewOf}
+use Rattle.block_iterator_v2.specs.Says.{viewOf}
 use Rattle.block_iterator_v2.specs.declared.BlockIteratorV2.{BlockIteratorV2}
 use Rattle.block_words.specs.declared.OrderRead.{OrderRead}
 use Rattle.block_words.specs.declared.CursorRead.{CursorRead}
@@ -47,10 +47,6 @@ LoadsCursor ws r = (key : List ℕ) → saysCursor key r ≡ cursorIn ws key
 abbrev pub PutsCursor : Place → List ℕ → Bool → List ℕ → Type 0
 PutsCursor p ws r ws′ = Stores 5 (cursorWords (viewIn p [])) ws r ws′
 
--- its numbers, without its key's bytes
-abbrev pub PlacesCursor : BlockIteratorV2 → Place → Type 0
-PlacesCursor c r = r ≡ placeOf c
-
 -- words and key bytes are as many as a cursor has
 abbrev pub roomy : List ℕ → List ℕ → Bool
 roomy ws key = cond (eqb (length ws) 5) (eqb (length key) maxKey) false
@@ -64,10 +60,6 @@ pub record PutsIterator (c : BlockIteratorV2) (ws key : List ℕ) (r : Bool) (ws
 
 abbrev pub LoadsState : List ℕ → StateRead → Type 0
 LoadsState ws r = saysState r ≡ counted ws 6 (ok (stateIn ws))
-
--- its numbers, without its last key's bytes
-abbrev pub TakesState : BlockBuilderV2 → State → Type 0
-TakesState b r = r ≡ stateOf b
 
 abbrev pub PutsState : State → List ℕ → Bool → List ℕ → Type 0
 PutsState s ws r ws′ = Stores 6 (builderWords (viewFrom s [])) ws r ws′

@@ -4,7 +4,7 @@ ghost use mathlib.Core.Path.{_≡_};
 ghost use Rattle.types.specs.Says.{saysOrder};
 ghost use Rattle.block_words.specs.Words.{truthIn, orderWord, kindIn, timeIn};
 ghost use Rattle.block_words.specs.Says.{saysTruth, saysKindRead, saysTimeRead, heldFrom, timeWordsOf};
-ghost use Rattle.block_words.specs.Promise.{LoadsOrder, TellsTruth, LoadsCursor, PutsCursor, PlacesCursor, PutsIterator, LoadsState, TakesState, PutsState, MakesOver, LoadsFields, PutsRow};
+ghost use Rattle.block_words.specs.Promise.{LoadsOrder, TellsTruth, LoadsCursor, PutsCursor, PutsIterator, LoadsState, PutsState, MakesOver, LoadsFields, PutsRow};
 use block_grow_v2::State;
 use block_iterator_v2::BlockIteratorV2;
 use block_step_v2::Place;
@@ -170,19 +170,6 @@ pub fn put_cursor(words: &mut [u64], p: Place) -> bool
     true
 }
 
-pub fn place_of(c: BlockIteratorV2) -> Place
-    ensures { λ r. ⌜ PlacesCursor c r ⌝ }
-{
-    let order = c.order;
-    Place {
-        order,
-        region: c.region,
-        at: c.at,
-        key_len: c.key_len,
-        done: c.done,
-    }
-}
-
 // Stores a cursor that came by value: its words, and its key's bytes. Answers whether both were as many as they must be.
 pub fn put_iterator(cursor: &mut [u64], key: &mut [u8], c: BlockIteratorV2) -> bool
     ensures { λ r. ⌜ PutsIterator c (now (cursor .entry)) (now (key .entry)) r (now (cursor .exit)) (now (key .exit)) ⌝ }
@@ -193,7 +180,7 @@ pub fn put_iterator(cursor: &mut [u64], key: &mut [u8], c: BlockIteratorV2) -> b
     if key.len() != types::MAX_KEY {
         return false;
     }
-    put_cursor(cursor, place_of(c));
+    put_cursor(cursor, block_iterator_v2::place_of(c));
     buf_mut::copy_in(key, 0, &c.key);
     true
 }
@@ -214,19 +201,6 @@ pub fn state_in(words: &[u64]) -> StateRead
         counter: size(words[4]),
         last_key_len: size(words[5]),
     })
-}
-
-pub fn state_of(b: BlockBuilderV2) -> State
-    ensures { λ r. ⌜ TakesState b r ⌝ }
-{
-    State {
-        block_size: b.block_size,
-        restart_interval: b.restart_interval,
-        used: b.used,
-        restarts: b.restarts,
-        counter: b.counter,
-        last_key_len: b.last_key_len,
-    }
 }
 
 pub fn put_state(words: &mut [u64], s: State) -> bool

@@ -104,7 +104,7 @@ pub extern "C" fn slatedb_builder_new(
     let answer = new.answer;
     match answer {
         Made::Good => {
-            block_words::put_state(builder, block_words::state_of(new.builder));
+            block_words::put_state(builder, block_v2::state_of(new.builder));
             block_words::GOOD
         }
         Made::Refused(refusal) => types::number(refusal),
@@ -273,7 +273,7 @@ pub extern "C" fn slatedb_open(block: &[u8], order: u64, cursor: &mut [u64]) -> 
     let answer = opened.answer;
     match answer {
         OpenAnswer::Good => {
-            block_words::put_cursor(cursor, block_words::place_of(opened.iterator));
+            block_words::put_cursor(cursor, block_iterator_v2::place_of(opened.iterator));
             block_words::GOOD
         }
         OpenAnswer::Refused(refusal) => types::number(refusal),

@@ -22,7 +22,7 @@ fn put_added(builder: &mut [u64], last_key: &mut [u8], b: BlockBuilderV2)
     requires { ⌜ (length (now builder) ≡ 6) × (length (now «last_key») ≡ maxKey) ⌝ }
     ensures { λ _. ⌜ PutsBuilder b (now (builder .exit)) (now («last_key» .exit)) ⌝ }
 {
-    block_words::put_state(builder, block_words::state_of(b));
+    block_words::put_state(builder, block_v2::state_of(b));
     buf_mut::copy_in(last_key, 0, &b.last_key);
 }
 

@@ -205,7 +205,7 @@ pub extern "C" fn slatedb_walk_in_place(
     let answer = opened.answer;
     match answer {
         OpenAnswer::Good => {
-            let walked = in_place(block, block_words::place_of(opened.iterator), limit);
+            let walked = in_place(block, block_iterator_v2::place_of(opened.iterator), limit);
             tell(walked, sums)
         }
         OpenAnswer::Refused(refusal) => types::number(refusal),
