@@ -1,0 +1,58 @@
+-- One row counted: a law for each kind of it.
+use borrow.Author.Needs.{needs}
+use Rattle.tally.proofs.Laws.{value-counted, tombstone-counted, merge-counted}
+use Rattle.tally.proofs.tallied.Statement.{statement}
+use Rattle.tally.proofs.tallied.Tie as tie
+
+added-requires : tie.Need-added-requires
+added-requires c κs = search needs
+
+enum-known-held : tie.Need-enum-known-held
+enum-known-held c = search needs
+
+added-requires-2 : tie.Need-added-requires-2
+added-requires-2 c κs = search needs
+
+enum-told : tie.Need-enum-told
+enum-told c = search needs
+
+added-requires-3 : tie.Need-added-requires-3
+added-requires-3 c κs = search needs
+
+enum-known-held-2 : tie.Need-enum-known-held-2
+enum-known-held-2 c = search needs
+
+added-requires-4 : tie.Need-added-requires-4
+added-requires-4 c κs = search needs
+
+added-requires-5 : tie.Need-added-requires-5
+added-requires-5 c κs = search needs
+
+returns : tie.Need-returns
+returns c =
+    let h = c .before .before in
+    value-counted _ (h .before .before .added .ensures) (h .held .given .1) (c .added2 .ensures)
+
+returns-2 : tie.Need-returns-2
+returns-2 c = tombstone-counted _ (c .before .before .before .added .ensures) (c .before .enum-told .given .1) (c .added3 .ensures)
+
+returns-3 : tie.Need-returns-3
+returns-3 c =
+    let h = c .before .before .before in
+    merge-counted _ (h .before .before .added .ensures) (h .held2 .given .1) (c .before .added4 .ensures) (c .added5 .ensures)
+
+pub tallied-spec : {M : Type 1} → statement M
+tallied-spec =
+    tie.close
+    (tie.spec
+    added-requires
+    enum-known-held
+    added-requires-2
+    enum-told
+    added-requires-3
+    enum-known-held-2
+    added-requires-4
+    added-requires-5
+    returns
+    returns-2
+    returns-3)

@@ -1,0 +1,16 @@
+-- What each public function promises: one equation to the definitions, that settles every count and the answer.
+use Prim.Native.Nat.{ℕ}
+use mathlib.Core.Path.{_≡_}
+use mathlib.Core.List.{List}
+use Rattle.types.specs.Says.{saysHeld}
+use Rattle.types.specs.declared.ValueDeletable.{ValueDeletable}
+use Rattle.tally.specs.declared.Tally.{Tally}
+use Rattle.tally.specs.declared.TalliedBlock.{TalliedBlock}
+use Rattle.tally.specs.Tally.{counted, tallyBlock}
+use Rattle.tally.specs.Says.{afterBlock, saysTallied}
+
+abbrev pub CountsRow : Tally → ValueDeletable → Tally → Type 0
+CountsRow t held r = r ≡ counted t (saysHeld held)
+
+abbrev pub CountsBlock : Tally → List ℕ → TalliedBlock → Type 0
+CountsBlock t b r = saysTallied r ≡ afterBlock t (tallyBlock t b)
