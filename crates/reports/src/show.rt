@@ -1,0 +1,1 @@
+../../report/src/show.rt
