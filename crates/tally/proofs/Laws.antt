@@ -1,10 +1,10 @@
 -- The loop over a block's rows: the rows still to come, counted from here on, make the whole. An accepted block's walk gives every row, so no step of the loop finds none.
-use Prim.Native.Nat.{ℕ, zero, suc, _+_, _<_, _≤_}
+use Prim.Native.Nat.{ℕ, _+_, _<_, _≤_}
 use mathlib.Core.Path.{_≡_, refl, ap, ap₂, sym, _∙_}
 use mathlib.Core.List.{List, [], _∷_}
 use native.Mathlib.Omega.{arith}
 use lib.ListN.{length, replicate}
-use Rattle.layout.specs.Answer.{Res, ok, refuse, bind}
+use Rattle.layout.specs.Answer.{Res, ok, refuse}
 use Rattle.layout.specs.Limits.{maxKey}
 use Rattle.layout.specs.RowRead.{RowRead}
 use Rattle.layout.specs.Trailer.{Trailer}
@@ -29,7 +29,7 @@ use Rattle.block_check_v2.specs.declared.Checked.{Checked}
 use Rattle.block_check_v2.specs.declared.Checked.the-variants.{Rows as RowsChecked, Refused as CheckRefused}
 use Rattle.block_step_v2.specs.Lent.{lent-whole}
 use Rattle.block_step_v2.specs.Promise.{Moves, StepsInPlace}
-use Rattle.block_step_v2.specs.Says.{viewIn, row, none, told, told-row, told-apart, saysMoved, placeAfter}
+use Rattle.block_step_v2.specs.Says.{viewIn, told-row, told-apart, saysMoved, placeAfter}
 use Rattle.block_step_v2.specs.declared.Moved.{Moved}
 use Rattle.block_step_v2.specs.declared.Moved.the-variants.{Found, Done, Refused}
 use Rattle.block_step_v2.specs.declared.Place.{Place}
@@ -38,7 +38,8 @@ use Rattle.block_iterator_v2.specs.Says.{placeOf, viewOf}
 use Rattle.block_iterator_v2.specs.declared.Opened.{Opened}
 use Rattle.tally.specs.declared.Tally.{Tally}
 use Rattle.tally.specs.Tally.{tallyIs, added, counted, countedRows, tallyBlock}
-use Rattle.tally.specs.Says.{told as toldWith, afterBlock}
+use Rattle.tally.specs.Says.{told, afterBlock}
+use Rattle.tally.specs.Laws.{rows-tally}
 
 -- ---- one row
 
@@ -64,12 +65,8 @@ pub record Folding (want : Res Tally) (b : List ℕ) (n i : ℕ) (c : Cursor) (t
   pub all : i + length rows ≡ n
   pub makes : want ≡ ok (countedRows t rows)
 
--- an accepted block: its tally is that of its rows, which the walk from its opening gives
+-- an accepted block: the walk from its opening gives its rows, and its tally is theirs
 module _ (b : List ℕ) (n : ℕ) (tr : Trailer) (rows : List Keyed) (q : Rows b n tr rows) where
-  rows-tally : (t : Tally) → check b ≡ ok n → tallyBlock t b ≡ ok (countedRows t rows)
-  unfolding tallyBlock
-  rows-tally t h = rw (h, q .reads .trailer-good, q .reads .offsets-good, q .reads .rows-read, q .are)
-
   rows-walk : Walked b tr maxKey rows
   rows-walk = walk-steps b n tr rows q maxKey (rows-room b n tr rows q)
 
@@ -77,7 +74,7 @@ module _ (b : List ℕ) (n : ℕ) (tr : Trailer) (rows : List Keyed) (q : Rows b
   rows-start t c h o =
       let same : opened ascending tr ≡ c = ok-inj (sym (rows-walk .opens-up) ∙ o) in
       rw (← same)
-      (record { rows = rows; last = rows-walk .forwards .last; walks = rows-walk .forwards .walks; all = omega (arith, q .many); makes = rows-tally t h })
+      (record { rows = rows; last = rows-walk .forwards .last; walks = rows-walk .forwards .walks; all = omega (arith, q .many); makes = rows-tally t b n tr rows q h })
 
 pub fold-start : (t : Tally) (b : List ℕ) (n : ℕ) (c : Cursor) → check b ≡ ok n → openBlock b ascending ≡ ok c → Folding (tallyBlock t b) b n 0 c t
 fold-start t b n c h o =
@@ -145,9 +142,9 @@ module _ (b : List ℕ) (a : Checked) (checks : Checks b a) where
       let view : viewOf (o .iterator) ≡ cursorOr ascending (openBlock b ascending) = opens .view in
       w .opens-up ∙ ap ok (sym (ap (cursorOr ascending) (w .opens-up)) ∙ sym view ∙ sym (ap₂ viewIn q (sym (opens .bytes))))
 
-  pub block-refused : (t : Tally) {x : Refusal} → a ≡ CheckRefused x → toldWith t (refuse (number x)) ≡ afterBlock t (tallyBlock t b)
+  pub block-refused : (t : Tally) {x : Refusal} → a ≡ CheckRefused x → told t (refuse (number x)) ≡ afterBlock t (tallyBlock t b)
   unfolding tallyBlock
   block-refused t e = rw (yes saysChecked checks e)
 
-pub block-counted : (t : Tally) (b : List ℕ) {s : Tally} → tallyBlock t b ≡ ok s → toldWith s (ok tt) ≡ afterBlock t (tallyBlock t b)
+pub block-counted : (t : Tally) (b : List ℕ) {s : Tally} → tallyBlock t b ≡ ok s → told s (ok tt) ≡ afterBlock t (tallyBlock t b)
 block-counted t b e = rw e

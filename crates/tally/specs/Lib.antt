@@ -2,5 +2,5 @@ pub mod Tally
 pub mod Says
 pub mod Promise
 pub mod OneOutcome
-pub mod Bounds
+pub mod Laws
 pub mod Cases

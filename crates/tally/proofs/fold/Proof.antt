@@ -6,8 +6,7 @@ use lib.ListN.{length}
 use borrow.Author.Needs.{needs}
 use Rattle.layout.specs.Limits.{maxKey}
 use Rattle.block_step_v2.specs.Says.{viewIn}
-use Rattle.types.specs.Says.{saysHeld}
-use Rattle.tally.specs.Tally.{counted, tallyBlock}
+use Rattle.tally.specs.Tally.{tallyBlock}
 use Rattle.tally.proofs.Laws.{Folding, fold-start, fold-whole, fold-found, fold-not-done, fold-not-refused}
 use Rattle.tally.proofs.fold.Statement.{statement}
 use Rattle.tally.proofs.fold.Tie as tie

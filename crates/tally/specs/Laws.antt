@@ -1,28 +1,52 @@
--- From a zero tally no block reaches the largest number: no count is above the block's length. Each row takes at least 12 bytes of it and those of its value.
+-- What follows from the definitions: the verdict is exactly the check's, and an accepted block has all its rows counted; and from a zero tally no block reaches the largest number,
+-- since no count is above the block's length: each row takes at least 12 bytes of it and those of its value.
 use Prim.Native.Nat.{ℕ, zero, suc, _+_, _<_, _≤_, zero-le}
-use mathlib.Core.Path.{_≡_, refl, ap, sym, _∙_}
+use mathlib.Core.Path.{_≡_, refl, ap, sym}
 use mathlib.Core.Bool.{Bool}
 use mathlib.Core.List.{List, [], _∷_, _++_}
 use native.Mathlib.Omega.{arith}
 use native.Mathlib.Numerals.{add-one}
 use lib.Dec.{ltb, eqb}
 use lib.ListN.{length, getD}
-use Rattle.layout.specs.Answer.{Res, ok, bind}
+use Rattle.layout.specs.Answer.{Res, ok, refuse, bind}
 use Rattle.layout.specs.Limits.{maxValue}
 use Rattle.layout.specs.Key.{Key}
 use Rattle.layout.specs.Place.{fixedAt}
 use Rattle.layout.specs.Row.{Kind, value, tombstone, merge}
-use Rattle.layout.specs.RowRead.{RowRead, Held, holds, gone, merges, heldAs, Lengths, valueAt, seqAt, Body, flagsAt, bodyAt, rowAt, rowIs, readRow, keyOf}
+use Rattle.layout.specs.RowRead.{RowRead, Held, holds, gone, merges, heldAs, Lengths, valueAt, seqAt, Body, flagsAt, bodyAt, rowAt, readRow, keyOf}
 use Rattle.layout.specs.Trailer.{Trailer, trailerOf, dataOf, offsetAt, Region, regionOf, allOffsets}
 use Rattle.layout.specs.Check.{check}
-use Rattle.layout.specs.Cursor.{Keyed, keyed}
+use Rattle.layout.specs.Cursor.{Keyed}
 use Rattle.layout.specs.Reads.{regionRows, regionsRows, allRows}
+use Rattle.layout.specs.Demands.Proof2.{Rows}
+use Rattle.layout.specs.Demands.Demand2.{has-rows}
 use Rattle.layout.specs.Laws.Answer.{bind-then, guard-then, ok-inj}
 use Rattle.layout.specs.Laws.Reads.{RegionIs, over, more, region-is, RegionsAre, next, regions-are, regions-none, allRows-none, allRows-next}
 use Rattle.layout.specs.Laws.Tells.{headAt-tells, bodyAt-tells, timesAt-ends, RowTells, rowAt-tells, readRow-ends}
 use Rattle.layout.specs.Laws.Trailer.{regionOf-tells, trailerOf-tells}
 use Rattle.tally.specs.declared.Tally.{Tally}
 use Rattle.tally.specs.Tally.{zeroTally, largest, counted, countedRows, blockRows, tallyBlock}
+
+-- ---- the verdict
+
+-- the rows that an accepted block has are those that are counted
+pub rows-tally : (t : Tally) (b : List ℕ) (n : ℕ) (tr : Trailer) (rows : List Keyed) → Rows b n tr rows → check b ≡ ok n → tallyBlock t b ≡ ok (countedRows t rows)
+unfolding tallyBlock
+rows-tally t b n tr rows q h = rw (h, q .reads .trailer-good, q .reads .offsets-good, q .reads .rows-read, q .are)
+
+-- what an answer says beside its value
+abbrev pub only : {A : Type 0} → Res A → Res (Unit {0})
+only want = bind want λ _. ok tt
+
+-- a tally comes of exactly the blocks that the check accepts, and every other block has the check's refusal
+pub verdict : (t : Tally) (b : List ℕ) → only (tallyBlock t b) ≡ only (check b)
+verdict t b = go (check b) refl
+  where
+    go : (x : Res ℕ) → check b ≡ x → only (tallyBlock t b) ≡ only x
+    go (ok n) e = let a = has-rows b n e in rw (rows-tally t b n (a .0) (a .1) (a .2) e)
+    go (refuse n) e = unfold tallyBlock in rw e
+
+-- ---- no count is above the block's length
 
 -- no count of the tally is above n
 pub record Within (n : ℕ) (t : Tally) : Type 0 where
