@@ -6,7 +6,6 @@ ghost use Rattle.layout.specs.Check.{check};
 ghost use Rattle.layout.specs.Cursor.{ascending, openBlock};
 ghost use Rattle.layout.specs.Limits.{maxKey};
 ghost use Rattle.block_step_v2.specs.Says.{viewIn};
-ghost use Rattle.block_iterator_v2.specs.Says.{placeOf};
 ghost use Rattle.tally.specs.Tally.{added, tallyBlock};
 ghost use Rattle.tally.specs.Promise.{CountsRow, CountsBlock};
 use block_check_v2::Checked;
@@ -70,20 +69,6 @@ pub fn tallied(t: Tally, held: ValueDeletable) -> Tally
 
 // ---- a block
 
-// A cursor without the bytes of its key.
-fn place_of(c: BlockIteratorV2) -> Place
-    ensures { λ r. ⌜ r ≡ placeOf c ⌝ }
-{
-    let order = c.order;
-    Place {
-        order,
-        region: c.region,
-        at: c.at,
-        key_len: c.key_len,
-        done: c.done,
-    }
-}
-
 // The tally with each of the block's n rows counted, stepped over in place. The check has accepted the block, so each step finds its row.
 fn fold(t: Tally, block: &[u8], start: Place, n: usize) -> Tally
     requires { ⌜ check (now block) ≡ ok n ⌝ }
@@ -123,7 +108,7 @@ pub fn tally_block(t: Tally, block: &[u8]) -> TalliedBlock
     match checked {
         Checked::Rows(n) => {
             let opened = BlockIteratorV2::new(block, IterationOrder::Ascending);
-            let tally = fold(t, block, place_of(opened.iterator), n);
+            let tally = fold(t, block, block_iterator_v2::place_of(opened.iterator), n);
             TalliedBlock {
                 tally,
                 answer: TallyAnswer::Good,
