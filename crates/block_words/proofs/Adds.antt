@@ -12,7 +12,7 @@ use Rattle.layout.specs.Place.{splice}
 use Rattle.layout.specs.Row.{Fields}
 use Rattle.row_size_v2.specs.Says.{fieldsFrom}
 use Rattle.row_size_v2.specs.declared.RowFields.{RowFields}
-use Rattle.block_words.specs.Words.{badWords, builderFrom, builderWords, fieldsIn}
+use Rattle.row_words.specs.Words.{badWords, builderFrom, builderWords, fieldsIn}
 use Rattle.block_words.specs.Exports.{Gain, AddsAs, AddsFlat}
 
 abbrev pub gained : Fields → Builder → Res Gain

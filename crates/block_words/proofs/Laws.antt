@@ -23,29 +23,13 @@ use Rattle.block_grow_v2.specs.declared.State.{State}
 use Rattle.block_iterator_v2.specs.Says.{viewOf}
 use Rattle.block_iterator_v2.specs.declared.BlockIteratorV2.{BlockIteratorV2}
 use Rattle.block_step_v2.specs.declared.Place.{Place}
-use Rattle.block_words.specs.Words.{badWords, codeOf, counted, oneOf, truthIn, orderIn, wordAt, cursorFrom, cursorIn, cursorWords}
+use Rattle.row_words.specs.Words.{badWords, codeOf, truthIn, orderIn, wordAt, cursorFrom, cursorIn, cursorWords}
 use Rattle.block_words.specs.Says.{saysCursor, saysState, stateIn}
 use Rattle.block_words.specs.declared.CursorRead.the-variants.{Is as IsCursor}
 use Rattle.block_words.specs.declared.StateRead.{StateRead}
 use Rattle.block_words.specs.declared.StateRead.the-variants.{Is as IsState, Bad as BadState}
-use Rattle.block_words.specs.Promise.{Stores, roomy, PutsIterator, LoadsState, MakesOver}
-
--- ---- words
-
-pub of-0 : {A : Type 0} (a b : A) {w : ℕ} → w ≡ 0 → ok a ≡ oneOf a b w
-of-0 a b e = rw e refl
-
-pub of-1 : {A : Type 0} (a b : A) {w : ℕ} → w ≡ 1 → ok b ≡ oneOf a b w
-of-1 a b e = rw e refl
-
-pub of-none : {A : Type 0} (a b : A) {w : ℕ} → (w ≡ 0 → ⊥) → (w ≡ 1 → ⊥) → refuse badWords ≡ oneOf a b w
-of-none a b {w} h k = rw (ne-eqb w 0 h, ne-eqb w 1 k) refl
-
-pub counted-not : {A : Type 0} (ws : List ℕ) (n : ℕ) (k : Res A) → (length ws ≡ n → ⊥) → counted ws n k ≡ refuse badWords
-counted-not ws n k h = rw (ne-eqb (length ws) n h) refl
-
-pub counted-so : {A : Type 0} (ws : List ℕ) (n : ℕ) (k : Res A) → length ws ≡ n → counted ws n k ≡ k
-counted-so ws n k h = rw (eq-eqb (length ws) n h) refl
+use Rattle.block_words.specs.Promise.{roomy, PutsIterator, LoadsState, MakesOver}
+use Rattle.row_words.proofs.Laws.{counted-not, counted-so}
 
 pub cursor-short : (ws : List ℕ) → (length ws ≡ 5 → ⊥) → (key : List ℕ) → refuse badWords ≡ cursorIn ws key
 unfolding cursorIn
@@ -100,17 +84,6 @@ pub over-whole : (last : List ℕ) {s t : State} {r : BlockBuilderV2} → length
 unfolding afterPut splice
 over-whole last {s} {t} {r} h e m =
     m ∙ rw (e, le-ltb (length zeros) (0 + length last) (omega (arith, h)), drop-of-length-le zeros {i = 0 + length last} (omega (arith, h)), append-nil last) refl
-
--- of a store: words of another number are left
-pub stores-none : {n : ℕ} {new : List ℕ} (ws : List ℕ) → (length ws ≡ n → ⊥) → Stores n new ws false ws
-stores-none {n} ws h = record { answer = sym (ne-eqb (length ws) n h); state = rw (ne-eqb (length ws) n h) refl }
-
-pub stores-all : {n : ℕ} {new ws′ : List ℕ} (ws : List ℕ) → length ws ≡ n → ws′ ≡ new → Stores n new ws true ws′
-stores-all {n} ws h q = record { answer = sym (eq-eqb (length ws) n h); state = rw (eq-eqb (length ws) n h) q }
-
--- words that are as many as they must be are stored to
-pub stored : {n : ℕ} {new ws ws′ : List ℕ} {r : Bool} → length ws ≡ n → Stores n new ws r ws′ → ws′ ≡ new
-stored {n} {new} {ws} h s = rw (eq-eqb (length ws) n h) at (s .state)
 
 module _ (c : BlockIteratorV2) (ws key : List ℕ) where
   pub iterator-no-words : (length ws ≡ 5 → ⊥) → PutsIterator c ws key false ws key

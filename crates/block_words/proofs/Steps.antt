@@ -12,7 +12,7 @@ use Rattle.layout.specs.Laws.Answer.{ok-inj}
 use Rattle.types.specs.Answers.{apart}
 use Rattle.block_step_v2.specs.Says.{viewIn, row as row-told, none, toldOf, told, told-row, told-apart}
 use Rattle.block_step_v2.specs.declared.Place.{Place}
-use Rattle.block_words.specs.Words.{badWords, doneCode, codeOf, cursorIn, cursorWords, rowWords}
+use Rattle.row_words.specs.Words.{badWords, doneCode, codeOf, cursorIn, cursorWords, rowWords}
 use Rattle.block_words.specs.Exports.{StepsAs, StepsFlat}
 
 -- ---- a step that is wanted of the cursor c, and the cursor d, key buffer and row that it left

@@ -10,7 +10,7 @@ use Rattle.layout.specs.Place.{splice}
 use Rattle.layout.specs.Row.{Fields}
 use Rattle.layout.specs.Builder.{Builder, add, dataAfter, placesAfter}
 use Rattle.layout.specs.Cursor.{Cursor, Answer, found, done, Step, next, keyAfter}
-use Rattle.block_words.specs.Words.{doneCode, codeOf, setBy, counted, cursorIn, cursorWords, builderFrom, builderWords, fieldsIn, rowWords}
+use Rattle.row_words.specs.Words.{doneCode, codeOf, setBy, counted, cursorIn, cursorWords, builderFrom, builderWords, fieldsIn, rowWords}
 
 -- a row that is added: the builder then, and what was offered with the key
 pub record Gain : Type 0 where

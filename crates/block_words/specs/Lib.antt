@@ -1,4 +1,3 @@
-pub mod Words
 pub mod Says
 pub mod Promise
 pub mod Exports

@@ -9,7 +9,6 @@ use Rattle.layout.specs.Answer.{Res, ok, refuse, bind}
 use Rattle.layout.specs.Cursor.{Cursor, next}
 use Rattle.layout.specs.Key.{Key}
 use Rattle.layout.specs.Limits.{maxKey}
-use Rattle.row_decode_v2.specs.declared.Row.{Row}
 use Rattle.block_v2.specs.declared.BlockBuilderV2.{BlockBuilderV2}
 use Rattle.block_grow_v2.specs.declared.State.{State}
 use Rattle.block_step_v2.specs.declared.Place.{Place}
@@ -17,19 +16,11 @@ use Rattle.block_iterator_v2.specs.declared.BlockIteratorV2.{BlockIteratorV2}
 use Rattle.block_words.specs.declared.OrderRead.{OrderRead}
 use Rattle.block_words.specs.declared.CursorRead.{CursorRead}
 use Rattle.block_words.specs.declared.StateRead.{StateRead}
-use Rattle.block_words.specs.declared.FieldsRead.{FieldsRead}
-use Rattle.block_words.specs.Words.{counted, cursorIn}
-use Rattle.block_words.specs.Says.{saysOrdered-one, saysCursor-one, saysState-one, saysFields-one}
-use Rattle.block_words.specs.Promise.{Stores, TellsTruth, LoadsOrder, LoadsCursor, PutsCursor, PutsIterator, LoadsState, PutsState, MakesOver, LoadsFields, PutsRow}
+use Rattle.row_words.specs.Words.{counted, cursorIn}
+use Rattle.block_words.specs.Says.{saysOrdered-one, saysCursor-one, saysState-one}
+use Rattle.block_words.specs.Promise.{LoadsOrder, LoadsCursor, PutsCursor, PutsIterator, LoadsState, PutsState, MakesOver}
 use Rattle.block_words.specs.Exports.{AddsFlat, KeyLeft, StepsFlat}
-
-stores-settled : {n : ℕ} {new ws : List ℕ} {r q : Bool} {ys zs : List ℕ} → Stores n new ws r ys → Stores n new ws q zs → (r ≡ q) × (ys ≡ zs)
-stores-settled a b = (a .answer ∙ sym (b .answer), a .state ∙ sym (b .state))
-
--- ---- single words
-
-pub truth-word-settled : (b : Bool) (r q : ℕ) → TellsTruth b r → TellsTruth b q → r ≡ q
-truth-word-settled b r q m n = m ∙ sym n
+use Rattle.row_words.specs.OneOutcome.{stores-settled}
 
 pub order-in-settled : (w : ℕ) (r q : OrderRead) → LoadsOrder w r → LoadsOrder w q → r ≡ q
 order-in-settled w r q m n = saysOrdered-one r q (m ∙ sym n)
@@ -56,14 +47,6 @@ put-state-settled s ws r q ys zs m n = stores-settled m n
 
 pub builder-over-settled : (s : State) (last : List ℕ) (r q : BlockBuilderV2) → MakesOver s last r → MakesOver s last q → r ≡ q
 builder-over-settled s last r q m n = m ∙ sym n
-
--- ---- a row
-
-pub fields-in-settled : (ws : List ℕ) (r q : FieldsRead) → LoadsFields ws r → LoadsFields ws q → r ≡ q
-fields-in-settled ws r q m n = saysFields-one [] r q (m [] ∙ sym (n []))
-
-pub put-row-settled : (row : Row) (ws : List ℕ) (r q : Bool) (ys zs : List ℕ) → PutsRow row ws r ys → PutsRow row ws q zs → (r ≡ q) × (ys ≡ zs)
-put-row-settled row ws r q ys zs m n = stores-settled m n
 
 -- ---- the exports of the crates above
 

@@ -8,8 +8,6 @@ use lib.ListN.{length, replicate}
 use Rattle.layout.specs.Answer.{ok}
 use Rattle.layout.specs.Limits.{maxKey}
 use Rattle.layout.specs.Place.{afterPut}
-use Rattle.row_decode_v2.specs.Says.{rowFrom}
-use Rattle.row_decode_v2.specs.declared.Row.{Row}
 use Rattle.block_v2.specs.Says.{builderFrom}
 use Rattle.block_grow_v2.specs.Says.{viewFrom}
 use Rattle.block_v2.specs.declared.BlockBuilderV2.{BlockBuilderV2}
@@ -21,19 +19,9 @@ use Rattle.block_iterator_v2.specs.declared.BlockIteratorV2.{BlockIteratorV2}
 use Rattle.block_words.specs.declared.OrderRead.{OrderRead}
 use Rattle.block_words.specs.declared.CursorRead.{CursorRead}
 use Rattle.block_words.specs.declared.StateRead.{StateRead}
-use Rattle.block_words.specs.declared.FieldsRead.{FieldsRead}
-use Rattle.block_words.specs.Words.{counted, truthWord, orderIn, cursorIn, cursorWords, builderWords, fieldsIn, rowWords}
-use Rattle.block_words.specs.Says.{saysOrdered, saysCursor, saysState, stateIn, saysFields}
-
--- a store of n words: whether there were as many, and what they are then; others are left
-pub record Stores (n : ℕ) (new ws : List ℕ) (r : Bool) (ws′ : List ℕ) : Type 0 where
-  pub answer : r ≡ eqb (length ws) n
-  pub state : ws′ ≡ cond (eqb (length ws) n) new ws
-
--- ---- single words
-
-abbrev pub TellsTruth : Bool → ℕ → Type 0
-TellsTruth b r = r ≡ truthWord b
+use Rattle.row_words.specs.Words.{counted, orderIn, cursorIn, cursorWords, builderWords}
+use Rattle.block_words.specs.Says.{saysOrdered, saysCursor, saysState, stateIn}
+use Rattle.row_words.specs.Promise.{Stores}
 
 abbrev pub LoadsOrder : ℕ → OrderRead → Type 0
 LoadsOrder w r = saysOrdered r ≡ orderIn w
@@ -67,12 +55,3 @@ PutsState s ws r ws′ = Stores 6 (builderWords (viewFrom s [])) ws r ws′
 -- the lent bytes lie at the start of the last key's, which are zeros; more than these are not copied
 abbrev pub MakesOver : State → List ℕ → BlockBuilderV2 → Type 0
 MakesOver s last r = r ≡ builderFrom s (afterPut (replicate maxKey 0) 0 last)
-
--- ---- a row
-
--- whatever value is offered with them
-abbrev pub LoadsFields : List ℕ → FieldsRead → Type 0
-LoadsFields ws r = (v : List ℕ) → saysFields v r ≡ fieldsIn ws v
-
-abbrev pub PutsRow : Row → List ℕ → Bool → List ℕ → Type 0
-PutsRow row ws r ws′ = Stores 13 (rowWords (rowFrom row)) ws r ws′

@@ -1,20 +1,15 @@
-// What crosses the C interface as lent words: a cursor, a builder, a row's fields and a row, loaded from words and stored to them, and the codes that a call answers.
+// What crosses the C interface as lent words: a cursor and a builder, loaded from words and stored to them, and the codes that a call answers.
 // Words that are not as many as they must be are neither loaded nor stored to.
 ghost use mathlib.Core.Path.{_≡_};
 ghost use Rattle.types.specs.Says.{saysOrder};
-ghost use Rattle.block_words.specs.Words.{truthIn, orderWord, kindIn, timeIn};
-ghost use Rattle.block_words.specs.Says.{saysTruth, saysKindRead, saysTimeRead, heldFrom, timeWordsOf};
-ghost use Rattle.block_words.specs.Promise.{LoadsOrder, TellsTruth, LoadsCursor, PutsCursor, PutsIterator, LoadsState, PutsState, MakesOver, LoadsFields, PutsRow};
+ghost use Rattle.row_words.specs.Words.{orderWord};
+ghost use Rattle.block_words.specs.Promise.{LoadsOrder, LoadsCursor, PutsCursor, PutsIterator, LoadsState, PutsState, MakesOver};
 use block_grow_v2::State;
 use block_iterator_v2::BlockIteratorV2;
 use block_step_v2::Place;
 use block_v2::BlockBuilderV2;
-use row_decode_v2::Row;
-use row_size_v2::RowFields;
+use row_words::TruthRead;
 use types::IterationOrder;
-use types::Kind;
-use types::Time;
-use types::ValueDeletable;
 
 // ---- codes: beside these, the number of a refusal
 
@@ -29,15 +24,6 @@ pub const DONE: u8 = 255;
 pub const CURSOR_WORDS: usize = 5;
 
 pub const BUILDER_WORDS: usize = 6;
-
-const FIELDS_WORDS: usize = 6;
-
-pub const ROW_WORDS: usize = 13;
-
-enum TruthRead {
-    Is(bool),
-    Bad,
-}
 
 pub enum OrderRead {
     Is(IterationOrder),
@@ -54,58 +40,12 @@ pub enum StateRead {
     Bad,
 }
 
-enum KindRead {
-    Is(Kind),
-    Bad,
-}
-
-enum TimeRead {
-    Is(Time),
-    Bad,
-}
-
-pub enum FieldsRead {
-    Is(RowFields),
-    Bad,
-}
-
-// A value's kind and place, as words.
-struct HeldWords {
-    kind: u64,
-    start: u64,
-    len: u64,
-}
-
-// Whether there is a time, and its bits.
-struct TimeWords {
-    has: u64,
-    bits: u64,
-}
-
 // ---- single words
 
 fn size(word: u64) -> usize
     ensures { λ r. ⌜ r ≡ word ⌝ }
 {
     word as usize
-}
-
-fn truth_in(word: u64) -> TruthRead
-    ensures { λ r. ⌜ saysTruth r ≡ truthIn word ⌝ }
-{
-    if word == 0 {
-        return TruthRead::Is(false);
-    }
-    if word == 1 {
-        return TruthRead::Is(true);
-    }
-    TruthRead::Bad
-}
-
-pub fn truth_word(b: bool) -> u64
-    ensures { λ r. ⌜ TellsTruth b r ⌝ }
-{
-    if b { 1 } else { 0 }
 }
 
 pub fn order_in(word: u64) -> OrderRead
@@ -141,7 +81,7 @@ pub fn cursor_in(words: &[u64]) -> CursorRead
     let OrderRead::Is(order) = ordered else {
         return CursorRead::Bad;
     };
-    let marked = truth_in(words[4]);
+    let marked = row_words::truth_in(words[4]);
     let TruthRead::Is(done) = marked else {
         return CursorRead::Bad;
     };
@@ -166,7 +106,7 @@ pub fn put_cursor(words: &mut [u64], p: Place) -> bool
     words[1] = p.region as u64;
     words[2] = p.at as u64;
     words[3] = p.key_len as u64;
-    words[4] = truth_word(p.done);
+    words[4] = row_words::truth_word(p.done);
     true
 }
 
@@ -236,119 +176,3 @@ pub fn builder_over(s: State, last_key: &[u8]) -> BlockBuilderV2
 }
 
 // ---- a row
-
-fn kind_in(word: u64) -> KindRead
-    ensures { λ r. ⌜ saysKindRead r ≡ kindIn word ⌝ }
-{
-    if word == 2 {
-        return KindRead::Is(Kind::Merge);
-    }
-    if word == 0 {
-        return KindRead::Is(Kind::Value);
-    }
-    if word == 1 {
-        return KindRead::Is(Kind::Tombstone);
-    }
-    KindRead::Bad
-}
-
-fn time_in(has: u64, bits: u64) -> TimeRead
-    ensures { λ r. ⌜ saysTimeRead r ≡ timeIn has bits ⌝ }
-{
-    let there = truth_in(has);
-    let TruthRead::Is(b) = there else {
-        return TimeRead::Bad;
-    };
-    if b {
-        return TimeRead::Is(Time::At(numbers::from_bits(bits)));
-    }
-    TimeRead::Is(Time::Absent)
-}
-
-pub fn fields_in(words: &[u64]) -> FieldsRead
-    ensures { λ r. ⌜ LoadsFields (now (words .entry)) r ⌝ }
-{
-    if words.len() != FIELDS_WORDS {
-        return FieldsRead::Bad;
-    }
-    let kinds = kind_in(words[0]);
-    let KindRead::Is(kind) = kinds else {
-        return FieldsRead::Bad;
-    };
-    let expires = time_in(words[2], words[3]);
-    let TimeRead::Is(expire) = expires else {
-        return FieldsRead::Bad;
-    };
-    let creates = time_in(words[4], words[5]);
-    let TimeRead::Is(create) = creates else {
-        return FieldsRead::Bad;
-    };
-    FieldsRead::Is(RowFields {
-        kind,
-        seq: words[1],
-        expire,
-        create,
-    })
-}
-
-fn held_words(held: ValueDeletable) -> HeldWords
-    ensures { λ r. ⌜ r ≡ heldFrom held ⌝ }
-{
-    match held {
-        ValueDeletable::Value { start, len } => HeldWords {
-            kind: 0,
-            start: start as u64,
-            len: len as u64,
-        },
-        ValueDeletable::Tombstone => HeldWords {
-            kind: 1,
-            start: 0,
-            len: 0,
-        },
-        ValueDeletable::Merge { start, len } => HeldWords {
-            kind: 2,
-            start: start as u64,
-            len: len as u64,
-        },
-    }
-}
-
-fn time_words(time: Time) -> TimeWords
-    ensures { λ r. ⌜ r ≡ timeWordsOf time ⌝ }
-{
-    match time {
-        Time::Absent => TimeWords { has: 0, bits: 0 },
-        Time::At(z) => TimeWords {
-            has: 1,
-            bits: numbers::to_bits(z),
-        },
-    }
-}
-
-pub fn put_row(words: &mut [u64], row: Row) -> bool
-    ensures { λ r. ⌜ PutsRow row (now (words .entry)) r (now (words .exit)) ⌝ }
-{
-    if words.len() != ROW_WORDS {
-        return false;
-    }
-    let held = row.held;
-    let h = held_words(held);
-    let expire = row.expire;
-    let e = time_words(expire);
-    let create = row.create;
-    let c = time_words(create);
-    words[0] = row.start as u64;
-    words[1] = row.next as u64;
-    words[2] = row.shared as u64;
-    words[3] = row.suffix_at as u64;
-    words[4] = row.suffix_len as u64;
-    words[5] = h.kind;
-    words[6] = h.start;
-    words[7] = h.len;
-    words[8] = row.seq;
-    words[9] = e.has;
-    words[10] = e.bits;
-    words[11] = c.has;
-    words[12] = c.bits;
-    true
-}

@@ -40,9 +40,10 @@ use Rattle.block_iterator_v2.specs.declared.SeekAnswer.the-variants.{Landed, Do
 use Rattle.block_iterator_v2.specs.declared.BlockIteratorV2.{BlockIteratorV2}
 use Rattle.block_step_v2.specs.declared.Place.{Place}
 use Rattle.block_step_v2.specs.Says.{viewIn}
-use Rattle.block_words.specs.Words.{badWords, doneCode, codeOf, truthWord, orderIn, cursorIn, cursorWords, builderFrom, builderWords}
+use Rattle.row_words.specs.Words.{badWords, doneCode, codeOf, truthWord, orderIn, cursorIn, cursorWords, builderFrom, builderWords}
 use Rattle.block_words.specs.Says.{iteratorFrom, builderAlone, stateIn}
-use Rattle.block_words.proofs.Laws.{counted-not, counted-so, went, stayed}
+use Rattle.block_words.proofs.Laws.{went, stayed}
+use Rattle.row_words.proofs.Laws.{counted-not, counted-so}
 use Rattle.slatedb_block.specs.Says.{TellsSought}
 use Rattle.slatedb_block.specs.Promise.{Tells, Sets, MakesFlat, EmptiesFlat, BuildsFlat, OpensFlat, TellsFlat, SeeksAs, SeeksFlat}
 

@@ -33,10 +33,10 @@ use Rattle.block_grow_v2.specs.declared.Fit.the-variants.{Yes, Refused as FitRe
 use Rattle.block_grow_v2.specs.declared.Grown.{Grown}
 use Rattle.block_grow_v2.specs.declared.Grown.the-variants.{Row as GrownRow, Refused as GrownRefused}
 use Rattle.block_grow_v2.specs.declared.State.{State}
-use Rattle.block_words.specs.Words.{badWords, codeOf, builderFrom, builderWords, fieldsIn, rowWords}
+use Rattle.row_words.specs.Words.{badWords, codeOf, builderFrom, builderWords, fieldsIn, rowWords}
 use Rattle.block_words.specs.Says.{stateIn}
 use Rattle.block_words.specs.Exports.{AddsFlat}
-use Rattle.block_words.proofs.Laws.{counted-not, counted-so}
+use Rattle.row_words.proofs.Laws.{counted-not, counted-so}
 use Rattle.block_words.proofs.Adds.{added, unadded, addWanted, adds-asked}
 use Rattle.slatedb_block.specs.Says.{PutsGrown}
 use Rattle.slatedb_block.specs.Promise.{Lays, EncodesFlat, DecodesFlat, FitsFlat}

@@ -17,7 +17,7 @@ use Rattle.block_step_v2.specs.Says.{viewIn, saysMoved, placeAfter}
 use Rattle.block_step_v2.specs.declared.Moved.{Moved}
 use Rattle.block_step_v2.specs.declared.Moved.the-variants.{Found, Done, Refused}
 use Rattle.block_step_v2.specs.declared.Place.{Place}
-use Rattle.block_words.specs.Words.{doneCode, cursorIn, cursorWords, rowWords}
+use Rattle.row_words.specs.Words.{doneCode, cursorIn, cursorWords, rowWords}
 use Rattle.block_words.specs.Exports.{StepsFlat}
 use Rattle.slatedb_block.specs.Says.{PutsMoved}
 use Rattle.block_words.proofs.Steps.{stepped, ended, refused, told-refused, steps-asked}

@@ -7,7 +7,7 @@ use Rattle.layout.specs.Answer.{Res, bind}
 use Rattle.layout.specs.Key.{Key}
 use Rattle.layout.specs.Limits.{maxKey}
 use Rattle.layout.specs.Seek.{seek}
-use Rattle.block_words.specs.Words.{counted, cursorIn}
+use Rattle.row_words.specs.Words.{counted, cursorIn}
 use Rattle.block_words.specs.OneOutcome.{SameKey, same-key}
 use Rattle.slatedb_block.specs.Promise.{Tells, Sets, EncodesFlat, DecodesFlat, MakesFlat, FitsFlat, EmptiesFlat, BuildsFlat, ChecksFlat, OpensFlat, TellsFlat, SeeksFlat}
 

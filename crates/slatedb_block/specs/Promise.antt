@@ -14,7 +14,7 @@ use Rattle.layout.specs.Builder.{Builder, newBuilder, isEmpty as isEmptyBuilder
 use Rattle.layout.specs.Check.{check}
 use Rattle.layout.specs.Cursor.{openBlock, isEmpty}
 use Rattle.layout.specs.Seek.{Sought, seek}
-use Rattle.block_words.specs.Words.{doneCode, codeOf, setBy, counted, truthWord, orderIn, cursorIn, cursorWords, builderFrom, builderIn, builderWords, fieldsIn, rowWords}
+use Rattle.row_words.specs.Words.{doneCode, codeOf, setBy, counted, truthWord, orderIn, cursorIn, cursorWords, builderFrom, builderIn, builderWords, fieldsIn, rowWords}
 use Rattle.block_words.specs.Exports.{KeyLeft}
 
 -- a number that is wanted in a lent word

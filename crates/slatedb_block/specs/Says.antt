@@ -12,7 +12,7 @@ use Rattle.block_step_v2.specs.declared.Moved.{Moved}
 use Rattle.block_step_v2.specs.declared.Moved.the-variants.{Found, Done, Refused}
 use Rattle.block_iterator_v2.specs.declared.SeekAnswer.{SeekAnswer}
 use Rattle.block_iterator_v2.specs.declared.SeekAnswer.the-variants.{Landed, Done as SeekDone, Refused as SeekRefused}
-use Rattle.block_words.specs.Words.{doneCode, builderWords, cursorWords, rowWords}
+use Rattle.row_words.specs.Words.{doneCode, builderWords, cursorWords, rowWords}
 
 -- ---- a row added
 

@@ -23,11 +23,11 @@ use block_v2::BlockBuilderV2;
 use block_v2::Made;
 use block_v2::New;
 use block_words::CursorRead;
-use block_words::FieldsRead;
 use block_words::OrderRead;
 use block_words::StateRead;
 use row_decode_v2::RowRead;
 use row_encode_v2::Encoded;
+use row_words::FieldsRead;
 
 // ---- one row
 
@@ -44,7 +44,7 @@ pub extern "C" fn slatedb_encode(
 ) -> u8
     ensures { λ r. ⌜ EncodesFlat «previous_len» shared (now («key_suffix» .entry)) (now (value .entry)) (now (fields .entry)) (now (output .entry)) (now (count .entry)) r (now (output .exit)) (now (count .exit)) ⌝ }
 {
-    let loaded = block_words::fields_in(fields);
+    let loaded = row_words::fields_in(fields);
     let FieldsRead::Is(row) = loaded else {
         return block_words::BAD_WORDS;
     };
@@ -63,13 +63,13 @@ pub extern "C" fn slatedb_encode(
 pub extern "C" fn slatedb_decode(input: &[u8], previous_len: usize, row: &mut [u64]) -> u8
     ensures { λ r. ⌜ DecodesFlat (now (input .entry)) «previous_len» (now (row .entry)) r (now (row .exit)) ⌝ }
 {
-    if row.len() != block_words::ROW_WORDS {
+    if row.len() != row_words::ROW_WORDS {
         return block_words::BAD_WORDS;
     }
     let read = row_decode_v2::decode(input, previous_len);
     match read {
         RowRead::Read(r) => {
-            block_words::put_row(row, r);
+            row_words::put_row(row, r);
             block_words::GOOD
         }
         RowRead::Refused(refusal) => types::number(refusal),
@@ -131,7 +131,7 @@ pub extern "C" fn slatedb_builder_would_fit(
     if last_key.len() != types::MAX_KEY {
         return block_words::BAD_WORDS;
     }
-    let loaded = block_words::fields_in(fields);
+    let loaded = row_words::fields_in(fields);
     let FieldsRead::Is(row) = loaded else {
         return block_words::BAD_WORDS;
     };
@@ -177,7 +177,7 @@ pub extern "C" fn slatedb_builder_add(
     if last_key.len() != types::MAX_KEY {
         return block_words::BAD_WORDS;
     }
-    let loaded = block_words::fields_in(fields);
+    let loaded = row_words::fields_in(fields);
     let FieldsRead::Is(row) = loaded else {
         return block_words::BAD_WORDS;
     };
@@ -210,7 +210,7 @@ pub extern "C" fn slatedb_builder_is_empty(builder: &[u64], empty: &mut u64) -> 
         return block_words::BAD_WORDS;
     };
     let b = builder_of(s);
-    *empty = block_words::truth_word(b.is_empty());
+    *empty = row_words::truth_word(b.is_empty());
     block_words::GOOD
 }
 
@@ -308,7 +308,7 @@ pub extern "C" fn slatedb_is_empty(block: &[u8], cursor: &[u64], empty: &mut u64
     let read = c.is_empty(block);
     match read {
         EmptyRead::Is(b) => {
-            *empty = block_words::truth_word(b);
+            *empty = row_words::truth_word(b);
             block_words::GOOD
         }
         EmptyRead::Refused(refusal) => types::number(refusal),
@@ -323,7 +323,7 @@ fn put_moved(cursor: &mut [u64], row: &mut [u64], moved: Moved) -> u8
     match moved {
         Moved::Found { place, row: found } => {
             block_words::put_cursor(cursor, place);
-            block_words::put_row(row, found);
+            row_words::put_row(row, found);
             block_words::GOOD
         }
         Moved::Done(place) => {
@@ -345,7 +345,7 @@ pub extern "C" fn slatedb_next(
 ) -> u8
     ensures { λ r. ⌜ StepsFlat (now (block .entry)) (now (cursor .entry)) (now (key .entry)) (now (out .entry)) (now (row .entry)) r (now (cursor .exit)) (now (key .exit)) (now (out .exit)) (now (row .exit)) ⌝ }
 {
-    if row.len() != block_words::ROW_WORDS {
+    if row.len() != row_words::ROW_WORDS {
         return block_words::BAD_WORDS;
     }
     if key.len() != types::MAX_KEY {

@@ -25,7 +25,7 @@ use Rattle.block_iterator_v2.specs.Promise.{StepsNext}
 use Rattle.block_iterator_v2.specs.Says.{viewOf, saysNext}
 use Rattle.block_iterator_v2.specs.declared.Next.{Next}
 use Rattle.block_iterator_v2.specs.declared.NextAnswer.the-variants.{Found as NextFound, Done as NextDone, Refused as NextRefused}
-use Rattle.block_words.specs.Words.{doneCode, builderFrom, builderWords, cursorIn, cursorWords, fieldsIn, rowWords}
+use Rattle.row_words.specs.Words.{doneCode, builderFrom, builderWords, cursorIn, cursorWords, fieldsIn, rowWords}
 use Rattle.block_words.specs.Says.{iteratorOver, stateIn}
 use Rattle.block_words.specs.Exports.{AddsFlat, StepsFlat}
 use Rattle.block_words.proofs.Laws.{only, stayed}

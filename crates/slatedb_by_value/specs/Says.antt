@@ -4,7 +4,7 @@ use mathlib.Core.Path.{_≡_}
 use mathlib.Core.List.{List}
 use Rattle.block_v2.specs.Says.{viewOf}
 use Rattle.block_v2.specs.declared.BlockBuilderV2.{BlockBuilderV2}
-use Rattle.block_words.specs.Words.{builderWords}
+use Rattle.row_words.specs.Words.{builderWords}
 
 pub record PutsBuilder (b : BlockBuilderV2) (ws last : List ℕ) : Type 0 where
   pub words : ws ≡ builderWords (viewOf b)

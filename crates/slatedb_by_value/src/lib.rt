@@ -12,8 +12,8 @@ use block_step_v2::Place;
 use block_v2::AddAnswer;
 use block_v2::BlockBuilderV2;
 use block_words::CursorRead;
-use block_words::FieldsRead;
 use block_words::StateRead;
+use row_words::FieldsRead;
 
 // ---- building a block
 
@@ -46,7 +46,7 @@ pub extern "C" fn slatedb_builder_add_by_value(
     if last_key.len() != types::MAX_KEY {
         return block_words::BAD_WORDS;
     }
-    let loaded = block_words::fields_in(fields);
+    let loaded = row_words::fields_in(fields);
     let FieldsRead::Is(row) = loaded else {
         return block_words::BAD_WORDS;
     };
@@ -92,7 +92,7 @@ pub extern "C" fn slatedb_next_by_value(
 ) -> u8
     ensures { λ r. ⌜ StepsFlat (now (block .entry)) (now (cursor .entry)) (now (key .entry)) (now (out .entry)) (now (row .entry)) r (now (cursor .exit)) (now (key .exit)) (now (out .exit)) (now (row .exit)) ⌝ }
 {
-    if row.len() != block_words::ROW_WORDS {
+    if row.len() != row_words::ROW_WORDS {
         return block_words::BAD_WORDS;
     }
     if key.len() != types::MAX_KEY {
@@ -107,7 +107,7 @@ pub extern "C" fn slatedb_next_by_value(
     match answer {
         NextAnswer::Found(r) => {
             block_words::put_iterator(cursor, key, next.iterator);
-            block_words::put_row(row, r);
+            row_words::put_row(row, r);
             block_words::GOOD
         }
         NextAnswer::Done => {

@@ -25,7 +25,7 @@ use Rattle.block_step_v2.specs.declared.Place.{Place}
 use Rattle.block_iterator_v2.specs.Says.{placeOf, viewOf, saysOpen}
 use Rattle.block_iterator_v2.specs.declared.Opened.{Opened}
 use Rattle.block_iterator_v2.specs.declared.OpenAnswer.the-variants.{Good as GoodOpen, Refused as OpenRefused}
-use Rattle.block_words.specs.Words.{badWords, doneCode, orderIn}
+use Rattle.row_words.specs.Words.{badWords, doneCode, orderIn}
 use Rattle.slatedb_walks.specs.Walk.{lastByte, amount, Walk, walkIs, withRow, walk, wrapped}
 use Rattle.slatedb_walks.specs.Promise.{Tells, WalksFlat}
 

@@ -9,7 +9,7 @@ use Rattle.layout.specs.Limits.{maxKey}
 use Rattle.layout.specs.Key.{Key}
 use Rattle.layout.specs.RowRead.{RowRead, Held, holds, gone, merges}
 use Rattle.layout.specs.Cursor.{Cursor, openBlock, Answer, found, done, next}
-use Rattle.block_words.specs.Words.{badWords, doneCode, orderIn}
+use Rattle.row_words.specs.Words.{badWords, doneCode, orderIn}
 
 -- ---- what a row adds: its sequence number, the lengths of its key and its value, and its key's last byte
 

@@ -1,6 +1,6 @@
 -- A word is an order exactly when the definition says so: 0, 1, or none.
 use Rattle.layout.specs.Cursor.{ascending, descending}
-use Rattle.block_words.proofs.Laws.{of-0, of-1, of-none}
+use Rattle.row_words.proofs.Laws.{of-0, of-1, of-none}
 use Rattle.block_words.proofs.order_in.Statement.{statement}
 use Rattle.block_words.proofs.order_in.Tie as tie
 

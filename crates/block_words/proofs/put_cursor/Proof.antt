@@ -1,6 +1,6 @@
 -- Five words stored one by one are the words of the cursor: with every place set, nothing of the old list is left. Words of another number are left.
-use Rattle.block_words.proofs.Stores.{five}
-use Rattle.block_words.proofs.Laws.{stores-none, stores-all}
+use Rattle.row_words.proofs.Stores.{five}
+use Rattle.row_words.proofs.Laws.{stores-none, stores-all}
 use native.Mathlib.Omega.{arith}
 use lib.ListN.{length-set}
 use borrow.Author.Needs.{needs}

@@ -1,7 +1,8 @@
 -- A cursor is stored: its words are those of its view, and its key's bytes are all copied. Where either has another number, both are left.
 use mathlib.Core.Path.{_≡_}
 use lib.ListN.{length}
-use Rattle.block_words.proofs.Laws.{copied-whole, stored, iterator-no-words, iterator-no-key, iterator-put}
+use Rattle.block_words.proofs.Laws.{copied-whole, iterator-no-words, iterator-no-key, iterator-put}
+use Rattle.row_words.proofs.Laws.{stored}
 use borrow.Author.Needs.{needs}
 use Rattle.block_words.proofs.put_iterator.Statement.{statement}
 use Rattle.block_words.proofs.put_iterator.Tie as tie

@@ -1,8 +1,8 @@
 -- Six words stored one by one are the words of the builder: with every place set, nothing of the old list is left. Words of another number are left.
 use native.Mathlib.Omega.{arith}
 use lib.ListN.{length-set}
-use Rattle.block_words.proofs.Laws.{stores-none, stores-all}
-use Rattle.block_words.proofs.Stores.{six}
+use Rattle.row_words.proofs.Laws.{stores-none, stores-all}
+use Rattle.row_words.proofs.Stores.{six}
 use borrow.Author.Needs.{needs}
 use Rattle.block_words.proofs.put_state.Statement.{statement}
 use Rattle.block_words.proofs.put_state.Tie as tie

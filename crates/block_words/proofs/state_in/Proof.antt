@@ -2,7 +2,7 @@
 use mathlib.Core.Path.{sym}
 use Rattle.layout.specs.Answer.{ok}
 use Rattle.block_words.specs.Says.{stateIn}
-use Rattle.block_words.proofs.Laws.{counted-not, counted-so}
+use Rattle.row_words.proofs.Laws.{counted-not, counted-so}
 use borrow.Author.Needs.{needs}
 use Rattle.block_words.proofs.state_in.Statement.{statement}
 use Rattle.block_words.proofs.state_in.Tie as tie

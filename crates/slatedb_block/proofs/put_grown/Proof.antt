@@ -1,7 +1,7 @@
 -- What is left is by the two cases of the answer: with a row, the words of its state; with none, the words that were there.
 use mathlib.Core.Path.{ap, sym, _∙_}
 use Rattle.block_grow_v2.specs.declared.Grown.{Grown}
-use Rattle.block_words.proofs.Laws.{stored}
+use Rattle.row_words.proofs.Laws.{stored}
 use Rattle.slatedb_block.specs.Says.{grownCode, grownWords}
 use borrow.Author.Needs.{needs}
 use Rattle.slatedb_block.proofs.put_grown.Statement.{statement}

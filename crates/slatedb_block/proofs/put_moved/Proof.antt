@@ -1,7 +1,7 @@
 -- What is left is by the three cases of the answer: the cursor's words where it moved, the row's where one was found.
 use mathlib.Core.Path.{ap, sym, _∙_}
 use Rattle.block_step_v2.specs.declared.Moved.{Moved}
-use Rattle.block_words.proofs.Laws.{stored}
+use Rattle.row_words.proofs.Laws.{stored}
 use Rattle.slatedb_block.specs.Says.{movedCode, movedWords, movedRow}
 use borrow.Author.Needs.{needs}
 use Rattle.slatedb_block.proofs.put_moved.Statement.{statement}

@@ -1,5 +1,5 @@
 -- A new builder keeps its promise: its words are those of its view, and a refusal leaves the words as they were.
-use Rattle.block_words.proofs.Laws.{stored}
+use Rattle.row_words.proofs.Laws.{stored}
 use Rattle.slatedb_block.proofs.Laws.{makes-short, makes-good, makes-refused}
 use borrow.Author.Needs.{needs}
 use Rattle.slatedb_block.proofs.slatedb_builder_new.Statement.{statement}

@@ -1,6 +1,6 @@
 -- Decoding keeps its promise: the number of words first, then the row that `decode` promised, as words.
 -- Each exit is one law of `Rows`.
-use Rattle.block_words.proofs.Laws.{stored}
+use Rattle.row_words.proofs.Laws.{stored}
 use Rattle.slatedb_block.proofs.Rows.{decodes-short, decodes-good, decodes-refused}
 use borrow.Author.Needs.{needs}
 use Rattle.slatedb_block.proofs.slatedb_decode.Statement.{statement}

@@ -4,8 +4,8 @@ use mathlib.Core.Path.{_≡_}
 use Rattle.layout.specs.Answer.{ok}
 use Rattle.types.specs.Answers.{yes}
 use Rattle.row_size_v2.specs.Says.{fieldsFrom}
-use Rattle.block_words.specs.Words.{fieldsIn}
-use Rattle.block_words.specs.Says.{saysFields}
+use Rattle.row_words.specs.Words.{fieldsIn}
+use Rattle.row_words.specs.Says.{saysFields}
 use Rattle.slatedb_block.proofs.Rows.{encodes-bad, encodes-good, encodes-refused}
 use borrow.Author.Needs.{needs}
 use Rattle.slatedb_block.proofs.slatedb_encode.Statement.{statement}

@@ -5,7 +5,7 @@ use lib.ListN.{length}
 use Rattle.layout.specs.Answer.{ok}
 use Rattle.types.specs.Answers.{yes}
 use Rattle.block_step_v2.specs.Says.{viewIn}
-use Rattle.block_words.specs.Words.{cursorIn}
+use Rattle.row_words.specs.Words.{cursorIn}
 use Rattle.block_words.specs.Says.{saysCursor}
 use Rattle.block_words.proofs.Laws.{cursor-counts}
 use Rattle.block_words.proofs.Steps.{steps-no-row, steps-no-key, steps-no-cursor}

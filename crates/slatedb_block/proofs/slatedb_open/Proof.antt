@@ -1,7 +1,7 @@
 -- Opening keeps its promise: the number of words and the order first, then the cursor that `new` promised, as words.
 use Rattle.types.specs.Answers.{yes}
 use Rattle.block_words.specs.Says.{saysOrdered}
-use Rattle.block_words.proofs.Laws.{stored}
+use Rattle.row_words.proofs.Laws.{stored}
 use Rattle.slatedb_block.proofs.Laws.{opens-short, opens-no-order, opens-good, opens-refused}
 use borrow.Author.Needs.{needs}
 use Rattle.slatedb_block.proofs.slatedb_open.Statement.{statement}

@@ -5,7 +5,7 @@ use lib.ListN.{length}
 use Rattle.layout.specs.Answer.{ok}
 use Rattle.types.specs.Answers.{yes}
 use Rattle.block_step_v2.specs.Says.{viewIn}
-use Rattle.block_words.specs.Words.{cursorIn}
+use Rattle.row_words.specs.Words.{cursorIn}
 use Rattle.block_words.specs.Says.{saysCursor}
 use Rattle.block_words.proofs.Laws.{cursor-counts, put-words, put-bytes}
 use Rattle.slatedb_block.proofs.Laws.{seeks-short, seeks-no-cursor, seeks-told, seeks-refused}

@@ -1,7 +1,8 @@
 -- A builder is put back: its words are those of its view, and its last key's bytes are all copied.
 use mathlib.Core.Path.{_≡_}
 use lib.ListN.{length}
-use Rattle.block_words.proofs.Laws.{copied-whole, stored}
+use Rattle.block_words.proofs.Laws.{copied-whole}
+use Rattle.row_words.proofs.Laws.{stored}
 use borrow.Author.Needs.{needs}
 use Rattle.slatedb_by_value.proofs.put_added.Statement.{statement}
 use Rattle.slatedb_by_value.proofs.put_added.Tie as tie

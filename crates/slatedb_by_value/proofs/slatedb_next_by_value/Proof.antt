@@ -10,10 +10,11 @@ use Rattle.types.specs.Answers.{yes}
 use Rattle.block_step_v2.specs.Says.{viewIn}
 use Rattle.block_iterator_v2.specs.Says.{viewOf}
 use Rattle.block_iterator_v2.specs.declared.BlockIteratorV2.{BlockIteratorV2}
-use Rattle.block_words.specs.Words.{cursorIn, cursorWords}
+use Rattle.row_words.specs.Words.{cursorIn, cursorWords}
 use Rattle.block_words.specs.Says.{saysCursor}
 use Rattle.block_words.specs.Promise.{PutsIterator}
-use Rattle.block_words.proofs.Laws.{cursor-counts, stored, put-words, put-bytes}
+use Rattle.block_words.proofs.Laws.{cursor-counts, put-words, put-bytes}
+use Rattle.row_words.proofs.Laws.{stored}
 use Rattle.block_words.proofs.Steps.{steps-no-row, steps-no-key, steps-no-cursor}
 use Rattle.slatedb_by_value.proofs.Laws.{next-found, next-done, next-refused}
 use borrow.Author.Needs.{needs}

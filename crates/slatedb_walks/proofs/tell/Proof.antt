@@ -1,7 +1,7 @@
 -- What is stored and answered is what the walk says: with both words set, nothing of the old ones is left.
 use mathlib.Core.Bool.{Bool, cond}
 use mathlib.Core.Path.{ap, sym}
-use Rattle.block_words.specs.Words.{doneCode}
+use Rattle.row_words.specs.Words.{doneCode}
 use Rattle.slatedb_walks.specs.Says.{saysWalked}
 use Rattle.slatedb_walks.proofs.Laws.{told-ended, told-refused}
 use borrow.Author.Needs.{needs}

@@ -1,8 +1,8 @@
 -- A word is a kind exactly when the definition says so: the tests go through its cases in order.
 use mathlib.Core.Path.{refl}
-use Rattle.block_words.proofs.Fields.{kind-none}
-use Rattle.block_words.proofs.kind_in.Statement.{statement}
-use Rattle.block_words.proofs.kind_in.Tie as tie
+use Rattle.row_words.proofs.Fields.{kind-none}
+use Rattle.row_words.proofs.kind_in.Statement.{statement}
+use Rattle.row_words.proofs.kind_in.Tie as tie
 
 returns : tie.Need-returns
 returns c = rw (c .if1 .taken) refl

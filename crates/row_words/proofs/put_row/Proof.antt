@@ -1,11 +1,11 @@
 -- Thirteen words stored one by one are the words of the row: with every place set, nothing of the old list is left. Words of another number are left.
 use native.Mathlib.Omega.{arith}
 use lib.ListN.{length-set}
-use Rattle.block_words.proofs.Laws.{stores-none, stores-all}
-use Rattle.block_words.proofs.Fields.{row-stored}
+use Rattle.row_words.proofs.Laws.{stores-none, stores-all}
+use Rattle.row_words.proofs.Fields.{row-stored}
 use borrow.Author.Needs.{needs}
-use Rattle.block_words.proofs.put_row.Statement.{statement}
-use Rattle.block_words.proofs.put_row.Tie as tie
+use Rattle.row_words.proofs.put_row.Statement.{statement}
+use Rattle.row_words.proofs.put_row.Tie as tie
 
 returns : tie.Need-returns
 returns c = stores-none _ (c .if1 .taken)

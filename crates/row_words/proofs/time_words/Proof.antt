@@ -1,12 +1,12 @@
 -- A time's words, by its two cases: the bits of a time are those of the definition.
 use mir.Syntax.{w64}
 use mir.Val.{toZ, ofZ}
-use Rattle.block_words.proofs.Fields.{timed}
+use Rattle.row_words.proofs.Fields.{timed}
 use mathlib.Core.Path.{_≡_, ap, sym}
-use Rattle.block_words.specs.Says.{timeWordsOf}
+use Rattle.row_words.specs.Says.{timeWordsOf}
 use borrow.Author.Needs.{needs}
-use Rattle.block_words.proofs.time_words.Statement.{statement}
-use Rattle.block_words.proofs.time_words.Tie as tie
+use Rattle.row_words.proofs.time_words.Statement.{statement}
+use Rattle.row_words.proofs.time_words.Tie as tie
 
 enum-told : tie.Need-enum-told
 enum-told c = search needs

@@ -1,9 +1,9 @@
 -- A value's words, by its three cases: each is the definition's own line.
 use mathlib.Core.Path.{ap, sym}
-use Rattle.block_words.specs.Says.{heldFrom}
+use Rattle.row_words.specs.Says.{heldFrom}
 use borrow.Author.Needs.{needs}
-use Rattle.block_words.proofs.held_words.Statement.{statement}
-use Rattle.block_words.proofs.held_words.Tie as tie
+use Rattle.row_words.proofs.held_words.Statement.{statement}
+use Rattle.row_words.proofs.held_words.Tie as tie
 
 enum-known-held : tie.Need-enum-known-held
 enum-known-held c = search needs

@@ -17,12 +17,12 @@ use Rattle.types.specs.declared.ValueDeletable.the-variants.{Value, Tombstone, 
 use Rattle.row_decode_v2.specs.Says.{rowFrom}
 use Rattle.row_decode_v2.specs.declared.Row.{Row}
 use Rattle.row_size_v2.specs.declared.RowFields.{RowFields}
-use Rattle.block_words.specs.Words.{badWords, truthIn, wordAt, kindIn, timeIn, fieldsIn, heldWords, timeWords, rowWords}
-use Rattle.block_words.specs.Says.{saysFields, heldFrom, timeWordsOf}
-use Rattle.block_words.specs.declared.FieldsRead.the-variants.{Is as IsFields}
-use Rattle.block_words.specs.declared.TimeWords.{TimeWords}
-use Rattle.block_words.proofs.Laws.{of-none, counted-not, counted-so}
-use Rattle.block_words.proofs.Stores.{thirteen}
+use Rattle.row_words.specs.Words.{badWords, truthIn, wordAt, kindIn, timeIn, fieldsIn, heldWords, timeWords, rowWords}
+use Rattle.row_words.specs.Says.{saysFields, heldFrom, timeWordsOf}
+use Rattle.row_words.specs.declared.FieldsRead.the-variants.{Is as IsFields}
+use Rattle.row_words.specs.declared.TimeWords.{TimeWords}
+use Rattle.row_words.proofs.Laws.{of-none, counted-not, counted-so}
+use Rattle.row_words.proofs.Stores.{thirteen}
 
 pub kind-none : {w : ℕ} → (w ≡ 2 → ⊥) → (w ≡ 0 → ⊥) → (w ≡ 1 → ⊥) → refuse badWords ≡ kindIn w
 kind-none {w} h i j = rw (ne-eqb w 2 h) (of-none value tombstone i j)

@@ -2,12 +2,12 @@
 -- Each exit is one law of `fieldsIn`: the number of words, the kind, the two times, and good fields.
 use mathlib.Core.Path.{refl}
 use Rattle.types.specs.Answers.{yes}
-use Rattle.block_words.specs.Words.{wordAt}
-use Rattle.block_words.specs.Says.{saysKindRead, saysTimeRead}
-use Rattle.block_words.proofs.Fields.{fields-short, fields-no-kind, fields-no-expire, fields-no-create, fields-loaded}
+use Rattle.row_words.specs.Words.{wordAt}
+use Rattle.row_words.specs.Says.{saysKindRead, saysTimeRead}
+use Rattle.row_words.proofs.Fields.{fields-short, fields-no-kind, fields-no-expire, fields-no-create, fields-loaded}
 use borrow.Author.Needs.{needs}
-use Rattle.block_words.proofs.fields_in.Statement.{statement}
-use Rattle.block_words.proofs.fields_in.Tie as tie
+use Rattle.row_words.proofs.fields_in.Statement.{statement}
+use Rattle.row_words.proofs.fields_in.Tie as tie
 
 returns : tie.Need-returns
 returns c = fields-short (c .before .before .args .words .now) (c .if1 .taken)

@@ -1,8 +1,8 @@
 -- A word is a truth exactly when the definition says so: 0, 1, or none.
 use mathlib.Core.Bool.{true, false}
-use Rattle.block_words.proofs.Laws.{of-0, of-1, of-none}
-use Rattle.block_words.proofs.truth_in.Statement.{statement}
-use Rattle.block_words.proofs.truth_in.Tie as tie
+use Rattle.row_words.proofs.Laws.{of-0, of-1, of-none}
+use Rattle.row_words.proofs.truth_in.Statement.{statement}
+use Rattle.row_words.proofs.truth_in.Tie as tie
 
 returns : tie.Need-returns
 returns c = of-0 false true (c .if1 .taken)

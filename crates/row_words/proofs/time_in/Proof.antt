@@ -4,11 +4,11 @@ use mir.Facts.{toZ-ofZ}
 use mathlib.Core.Path.{ap, _∙_}
 use Rattle.layout.specs.Answer.{ok}
 use Rattle.types.specs.Answers.{yes}
-use Rattle.block_words.specs.Says.{saysTruth}
-use Rattle.block_words.proofs.Fields.{time-bad, time-at, time-absent}
+use Rattle.row_words.specs.Says.{saysTruth}
+use Rattle.row_words.proofs.Fields.{time-bad, time-at, time-absent}
 use borrow.Author.Needs.{needs}
-use Rattle.block_words.proofs.time_in.Statement.{statement}
-use Rattle.block_words.proofs.time_in.Tie as tie
+use Rattle.row_words.proofs.time_in.Statement.{statement}
+use Rattle.row_words.proofs.time_in.Tie as tie
 
 truth-in-requires : tie.Need-truth-in-requires
 truth-in-requires c κs = search needs
