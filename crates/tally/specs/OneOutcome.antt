@@ -8,6 +8,7 @@ use Rattle.tally.specs.declared.TalliedBlock.{TalliedBlock}
 use Rattle.tally.specs.Promise.{CountsRow, CountsBlock}
 use Rattle.tally.specs.Says.{saysTallied-one}
 
+-- of `tallied`, where r is the tally returned, and of `tally_row`, where t is the lent tally at entry and r the same at exit
 pub tallied-settled : (t : Tally) (held : ValueDeletable) (r q : Tally) → CountsRow t held r → CountsRow t held q → r ≡ q
 tallied-settled t held r q m n = m ∙ sym n
 

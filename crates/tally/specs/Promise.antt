@@ -9,6 +9,7 @@ use Rattle.tally.specs.declared.TalliedBlock.{TalliedBlock}
 use Rattle.tally.specs.Tally.{counted, tallyBlock}
 use Rattle.tally.specs.Says.{afterBlock, saysTallied}
 
+-- of the tally that comes and the tally returned, or of one lent tally at entry and at exit
 abbrev pub CountsRow : Tally → ValueDeletable → Tally → Type 0
 CountsRow t held r = r ≡ counted t (saysHeld held)
 

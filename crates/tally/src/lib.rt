@@ -67,6 +67,22 @@ pub fn tallied(t: Tally, held: ValueDeletable) -> Tally
     r
 }
 
+// One tally that the desk lends, updated in place by each row.
+pub fn tally_row(t: &mut Tally, held: ValueDeletable)
+    ensures { λ _. ⌜ CountsRow (now (t .entry)) held (now (t .exit)) ⌝ }
+{
+    *t = tallied(*t, held);
+}
+
+// The desk lends its tally to the row and has it back.
+fn lend(t: Tally, held: ValueDeletable) -> Tally
+    ensures { λ r. ⌜ CountsRow t held r ⌝ }
+{
+    let mut lent = t;
+    tally_row(&mut lent, held);
+    lent
+}
+
 // ---- a block
 
 // The tally with each of the block's n rows counted, stepped over in place. The check has accepted the block, so each step finds its row.
@@ -85,7 +101,7 @@ fn fold(t: Tally, block: &[u8], start: Place, n: usize) -> Tally
         match moved {
             Moved::Found { place, row } => {
                 let held = row.held;
-                tally = tallied(tally, held);
+                tally = lend(tally, held);
                 p = place;
                 i += 1;
             }

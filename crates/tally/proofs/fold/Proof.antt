@@ -32,8 +32,8 @@ next-in-place-requires c κs = search needs
 enum-known-moved : tie.Need-enum-known-moved Inv-loop μ-loop
 enum-known-moved c = search needs
 
-tallied-requires : tie.Need-tallied-requires Inv-loop μ-loop
-tallied-requires c κs = search needs
+lend-requires : tie.Need-lend-requires Inv-loop μ-loop
+lend-requires c κs = search needs
 
 add-i : tie.Need-add-i Inv-loop μ-loop
 add-i c = search needs
@@ -47,7 +47,7 @@ loop-again c =
     let n = k .before .before .before .before .before in
     let l = n .before .before .before .before .loop in
     let f = fold-found _ _ _ _ _ _ _ (l .inv .0) (n .before .before .before .loop-test .taken) _ _ _ (l .inv .1) (l .inv .2) (n .next-in-place .ensures) (k .before .moved .given .1) in
-    (rw (c .tallied .ensures) f, search needs, search needs)
+    (rw (c .lend .ensures) f, search needs, search needs)
 
 enum-told : tie.Need-enum-told Inv-loop μ-loop
 enum-told c = search needs
@@ -81,7 +81,7 @@ fold-spec =
     slice-aggregate-next-in-place-2
     next-in-place-requires
     enum-known-moved
-    tallied-requires
+    lend-requires
     add-i
     loop-less
     loop-again
