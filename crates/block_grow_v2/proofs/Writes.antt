@@ -90,7 +90,7 @@ module _ (s : State) (last bytes places : List ℕ) (key : Key) (f : Fields) {sh
   tested-rows = fit .0 .least
 
   -- and was written
-  pub grew : {used count : ℕ} {p : Put} {last′ bytes′ places′ : List ℕ} → length last ≡ 1024 → Wrote bytes (s .used) (rowBytes shared (drop shared key) f) bytes′ used
+  pub grew : {used count : ℕ} {p : Put} {last′ bytes′ places′ : List ℕ} → length last ≡ maxKey → Wrote bytes (s .used) (rowBytes shared (drop shared key) f) bytes′ used
       → (count ≡ s .restarts + ifSo restart 1) × (places′ ≡ cond restart (set places (s .restarts) (s .used)) places) → Puts key last 0 p last′
       → Grew s last bytes places key f
       (record {

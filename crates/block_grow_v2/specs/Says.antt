@@ -2,9 +2,8 @@
 use Prim.Native.Nat.{ℕ}
 use mathlib.Core.Path.{_≡_, refl, ap, sym}
 use mathlib.Core.List.{List}
-use lib.ListN.{take}
 use Rattle.layout.specs.Answer.{Res, ok, refuse}
-use Rattle.layout.specs.Builder.{Builder}
+use Rattle.layout.specs.Builder.{Builder, keptBuilder}
 use Rattle.layout.specs.Laws.Answer.{ok-inj}
 use Rattle.types.specs.Answers.{apart, refused-one}
 use Rattle.types.specs.Number.{number}
@@ -18,18 +17,9 @@ use Rattle.block_grow_v2.specs.declared.BuildAnswer.the-variants.{Block,
 
 -- ---- the numbers
 
--- the numbers, and the bytes of the last key up to its length
+-- the builder of these numbers and of the bytes that its last key lies in
 abbrev pub viewFrom : State → List ℕ → Builder
-viewFrom s last =
-    record {
-      size = s .«block_size»;
-      interval = s .«restart_interval»;
-      used = s .used;
-      restarts = s .restarts;
-      rows = s .counter;
-      lastLen = s .«last_key_len»;
-      last = take (s .«last_key_len») last;
-    }
+viewFrom s last = keptBuilder (s .«block_size») (s .«restart_interval») (s .used) (s .restarts) (s .counter) (s .«last_key_len») last
 
 abbrev pub stateFrom : Builder → State
 stateFrom v =

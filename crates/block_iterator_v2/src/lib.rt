@@ -7,6 +7,7 @@ ghost use Prim.Native.Nat.{suc, _-_};
 ghost use lib.ListN.{length};
 ghost use Rattle.layout.specs.Answer.{ok, bind};
 ghost use Rattle.layout.specs.Cursor.{ascending, descending, next};
+ghost use Rattle.layout.specs.Limits.{maxKey};
 ghost use Rattle.layout.specs.Seek.{walkUp, walkDown, seek};
 ghost use Rattle.layout.specs.Trailer.{trailerOf};
 ghost use Rattle.types.specs.Says.{saysOrder};
@@ -36,7 +37,7 @@ pub struct BlockIteratorV2 {
     pub order: IterationOrder,
     pub region: usize,
     pub at: usize,
-    pub key: [u8; 1024],
+    pub key: [u8; types::MAX_KEY],
     pub key_len: usize,
     pub done: bool,
 }
@@ -122,8 +123,8 @@ fn start_refusal(a: StartRead) -> Refusal
 // ---- a step over the cursor's own key bytes
 
 // Lends the array as the bytes that a step works on.
-fn step(key: &mut [u8; 1024], p: Place, block: &[u8], out: &mut [u8]) -> Moved
-    requires { ⌜ length (now key) ≡ 1024 ⌝ }
+fn step(key: &mut [u8; types::MAX_KEY], p: Place, block: &[u8], out: &mut [u8]) -> Moved
+    requires { ⌜ length (now key) ≡ maxKey ⌝ }
     ensures { λ r. ⌜ Moves (next (viewIn p (now (key .entry))) (now (block .entry)) (length (now (out .entry)))) p (now (key .entry)) (now (out .entry)) r (now (key .exit)) (now (out .exit)) ⌝ }
 {
     block_step_v2::next_in_place(key, p, block, out)
@@ -173,7 +174,7 @@ impl BlockIteratorV2 {
             order,
             region,
             at,
-            key: [0; 1024],
+            key: [0; types::MAX_KEY],
             key_len: 0,
             done,
         }

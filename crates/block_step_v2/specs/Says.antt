@@ -3,10 +3,9 @@ use Prim.Native.Nat.{ℕ}
 use mathlib.Core.Path.{_≡_, ap, ap₂, sym, _∙_}
 use mathlib.Core.List.{List}
 use native.Mathlib.Omega.{arith}
-use lib.ListN.{take}
 use Rattle.layout.specs.Answer.{Res, ok, refuse}
 use Rattle.layout.specs.RowRead.{RowRead as RowReadL}
-use Rattle.layout.specs.Cursor.{Cursor, Answer, found, done, Step}
+use Rattle.layout.specs.Cursor.{Cursor, keptCursor, Answer, found, done, Step}
 use Rattle.layout.specs.Laws.Answer.{ok-inj}
 use Rattle.types.specs.Answers.{apart, refused-one}
 use Rattle.types.specs.Number.{number}
@@ -19,9 +18,9 @@ use Rattle.block_step_v2.specs.declared.Place.{Place}
 use Rattle.block_step_v2.specs.declared.Moved.{Moved}
 use Rattle.block_step_v2.specs.declared.Moved.the-variants.{Found, Done, Refused}
 
--- bytes past the key's length tell nothing; the length is told as the number that it is
+-- the cursor of a place and of the bytes that its key lies in
 abbrev pub viewIn : Place → List ℕ → Cursor
-viewIn p key = record { direction = saysOrder (p .order); region = p .region; at = p .at; keyLen = p .«key_len»; key = take (p .«key_len») key; mark = p .done }
+viewIn p key = keptCursor (saysOrder (p .order)) (p .region) (p .at) (p .«key_len») key (p .done)
 
 -- what a step answers beside the key, which goes to the lent buffer
 pub data Told : Type 0 where

@@ -6,6 +6,7 @@ use mathlib.Core.List.{List}
 use native.Mathlib.Nat.{zero-add}
 use native.Mathlib.Omega.{arith}
 use lib.ListN.{length, take}
+use Rattle.layout.specs.Limits.{maxKey}
 use Rattle.layout.specs.Answer.{Res, ok, refuse, bind}
 use Rattle.layout.specs.Builder.{fresh, newBuilder, wouldFit, grown, add}
 use Rattle.layout.specs.Key.{Key}
@@ -48,11 +49,11 @@ key-over last key h = ap (λ (n : ℕ). take n (splice last 0 key)) (sym (zero-a
 -- ---- the other methods, over the builder's numbers and the bytes of its last key
 
 module _ (self : BlockBuilderV2) {s : State} (is : s ≡ stateOf self) where
-  pub fits : (dataLen placesLen : ℕ) (key : Key) (f : Fields) {x : Res (Unit {0})} → length (self .«last_key») ≡ 1024
+  pub fits : (dataLen placesLen : ℕ) (key : Key) (f : Fields) {x : Res (Unit {0})} → length (self .«last_key») ≡ maxKey
       → x ≡ (bind (entered s (self .«last_key»)) λ v. wouldFit v dataLen placesLen key f) → x ≡ wouldFit (viewOf self) dataLen placesLen key f
   fits dataLen placesLen key f long q = rw (is, entered-is (stateOf self) (self .«last_key») long) at q
 
-  module _ (bytes places : List ℕ) (key : Key) (f : Fields) (long : length (self .«last_key») ≡ 1024) {r : Grown} {last′ bytes′ places′ : List ℕ}
+  module _ (bytes places : List ℕ) (key : Key) (f : Fields) (long : length (self .«last_key») ≡ maxKey) {r : Grown} {last′ bytes′ places′ : List ℕ}
       (g : AddsInPlaceAs (bind (entered s (self .«last_key»)) λ v. add v (length bytes) (length places) key f) s (self .«last_key») bytes places key f r last′ bytes′ places′) where
     added : AddsInPlaceAs (add (viewOf self) (length bytes) (length places) key f) (stateOf self) (self .«last_key») bytes places key f r last′ bytes′ places′
     added = rw (is, entered-is (stateOf self) (self .«last_key») long) at g

@@ -3,6 +3,7 @@ use Prim.Native.Nat.{ℕ}
 use mathlib.Core.Path.{_≡_, refl, ap, sym}
 use mathlib.Core.List.{List}
 use lib.ListN.{replicate}
+use Rattle.layout.specs.Limits.{maxKey}
 use Rattle.layout.specs.Answer.{Res, ok, refuse}
 use Rattle.layout.specs.Builder.{Builder, fresh}
 use Rattle.types.specs.Answers.{apart, refused-one}
@@ -47,7 +48,7 @@ builderFrom s last =
     }
 
 abbrev pub noKey : List ℕ
-noKey = replicate 1024 0
+noKey = replicate maxKey 0
 
 -- what a refused constructor gives
 abbrev pub badSettings : New

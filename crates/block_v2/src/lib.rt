@@ -23,7 +23,7 @@ pub struct BlockBuilderV2 {
     pub used: usize,
     pub restarts: usize,
     pub counter: usize,
-    pub last_key: [u8; 1024],
+    pub last_key: [u8; types::MAX_KEY],
     pub last_key_len: usize,
 }
 
@@ -76,7 +76,7 @@ fn empty_builder(block_size: usize, restart_interval: usize) -> BlockBuilderV2
         used: 0,
         restarts: 0,
         counter: 0,
-        last_key: [0; 1024],
+        last_key: [0; types::MAX_KEY],
         last_key_len: 0,
     }
 }
@@ -92,7 +92,7 @@ fn bad_settings() -> New
 
 // Adds a row where the last key lies. A builder's own array can be lent only as one.
 fn add_in_array(
-    last_key: &mut [u8; 1024],
+    last_key: &mut [u8; types::MAX_KEY],
     s: State,
     data: &mut [u8],
     restarts: &mut [u16],

@@ -162,7 +162,7 @@ pub fn put_state(words: &mut [u64], s: State) -> bool
 pub fn builder_over(s: State, last_key: &[u8]) -> BlockBuilderV2
     ensures { λ r. ⌜ MakesOver s (now («last_key» .entry)) r ⌝ }
 {
-    let mut key = [0; 1024];
+    let mut key = [0; types::MAX_KEY];
     buf_mut::copy_in(&mut key, 0, last_key);
     BlockBuilderV2 {
         block_size: s.block_size,

@@ -11,7 +11,6 @@ use Rattle.layout.specs.Key.{Key}
 use Rattle.layout.specs.Row.{Fields, valueOf, ifSo, lengthTests}
 use Rattle.layout.specs.Block.{isRestart, laidRow, trailer}
 
--- the last key is known by its length and its bytes: those past the length tell nothing
 pub record Builder : Type 0 where
   pub size : ℕ
   pub interval : ℕ
@@ -20,6 +19,11 @@ pub record Builder : Type 0 where
   pub rows : ℕ
   pub lastLen : ℕ
   pub last : Key
+
+-- a builder as it is kept, its last key at the start of an array: the bytes past the key's length tell nothing, and are cut off here
+abbrev pub keptBuilder : ℕ → ℕ → ℕ → ℕ → ℕ → ℕ → List ℕ → Builder
+keptBuilder size interval used restarts rows lastLen array =
+    record { size = size; interval = interval; used = used; restarts = restarts; rows = rows; lastLen = lastLen; last = take lastLen array }
 
 abbrev pub fresh : ℕ → ℕ → Builder
 fresh size interval = record { size = size; interval = interval; used = 0; restarts = 0; rows = 0; lastLen = 0; last = [] }

@@ -7,6 +7,7 @@ use lib.Count.{leadingZeros}
 use lib.Dec.{eqb}
 use lib.ListN.{length, take, drop, replicate, set}
 use Rattle.layout.specs.Answer.{Res, ok, refuse, bind}
+use Rattle.layout.specs.Limits.{maxKey}
 use Rattle.layout.specs.Varint.{varint, varintIn, varintLength, Num, num, readVarint, readVarintIn}
 use Rattle.layout.specs.Fixed.{big, unbig, bits, unbits}
 use Rattle.layout.specs.Place.{varintAt, fixedAt, splice}
@@ -77,7 +78,7 @@ stepped (refuse n) k = []
 
 unfoldable pub rowStarts : ℕ → Cursor → List ℕ → List ℕ
 rowStarts zero c b = []
-rowStarts (suc n) c b = stepped (next c b 1024) (λ c′. rowStarts n c′ b)
+rowStarts (suc n) c b = stepped (next c b maxKey) (λ c′. rowStarts n c′ b)
 
 unfoldable pub numberIn : List ℕ → ℕ → ℕ
 numberIn [] at = 0
@@ -87,17 +88,18 @@ pub data Landed : Type 0 where
   row : ℕ → ℕ → Landed
   none : ℕ → Landed
 
--- the row after a seek, and how many restart keys the search read
-abbrev pub landedBy : List ℕ → ℕ → Answer → Res Landed
-landedBy starts reads (found r key) = ok (row (numberIn starts (r .start)) reads)
-landedBy starts reads done = ok (none reads)
+-- "done" by the seek's own mark, else the row after it; and how many restart keys the search read. A seek that is not marked is never followed by "done"
+abbrev pub landedBy : List ℕ → ℕ → Bool → Answer → Res Landed
+landedBy starts reads true answer = ok (none reads)
+landedBy starts reads false (found r key) = ok (row (numberIn starts (r .start)) reads)
+landedBy starts reads false done = refuse 0
 
 unfoldable pub landed : Direction → List ℕ → Key → Res Landed
 landed d b target =
     bind (trailerOf b) λ t.
     bind (seek d b target) λ s.
-    bind (next (s .cursor) b 1024) λ a.
-    landedBy (rowStarts 9 (opened ascending t) b) (s .reads) (a .answer)
+    bind (next (s .cursor) b maxKey) λ a.
+    landedBy (rowStarts 9 (opened ascending t) b) (s .reads) (s .cursor .mark) (a .answer)
 
 -- ---- the cases
 

@@ -3,7 +3,7 @@ use Prim.Native.Nat.{ℕ, zero, suc, _+_, _-_}
 use mathlib.Core.Bool.{Bool, true, false, cond, _||_}
 use mathlib.Core.List.{List, [], _∷_}
 use lib.Dec.{ltb, leb, eqb}
-use lib.ListN.{length}
+use lib.ListN.{length, take}
 use Rattle.layout.specs.Answer.{Res, ok, refuse, bind, guard}
 use Rattle.layout.specs.Limits.{maxKey}
 use Rattle.layout.specs.Place.{splice}
@@ -14,7 +14,6 @@ use Rattle.layout.specs.Trailer.{Trailer, trailerOf, dataOf, Region, reg
 pub data Direction : Type 0 where
   ascending descending : Direction
 
--- the carried key is known by its length and its bytes: those past the length tell nothing
 pub record Cursor : Type 0 where
   pub direction : Direction
   pub region : ℕ
@@ -22,6 +21,10 @@ pub record Cursor : Type 0 where
   pub keyLen : ℕ
   pub key : Key
   pub mark : Bool
+
+-- a cursor as it is kept, its key at the start of an array: the bytes past the key's length tell nothing, and are cut off here
+abbrev pub keptCursor : Direction → ℕ → ℕ → ℕ → List ℕ → Bool → Cursor
+keptCursor d region at keyLen array mark = record { direction = d; region = region; at = at; keyLen = keyLen; key = take keyLen array; mark = mark }
 
 abbrev pub cursorIs : Direction → ℕ → ℕ → Key → Bool → Cursor
 cursorIs d region at key mark = record { direction = d; region = region; at = at; keyLen = length key; key = key; mark = mark }
@@ -77,7 +80,7 @@ stepUp c b t room =
     (bind (readRow (dataOf b t) (c .at) (g .end) (c .keyLen) (eqb (c .at) (g .start))) λ r.
     give room r (keyOf (dataOf b t) (c .key) r) (pastRow c g r (keyOf (dataOf b t) (c .key) r)))))
 
--- descending: the row of a region that ends at `stop`, read from the region's start; rows up to there are tested as read, a row that straddles it is 18
+-- a row that was read, and its full key
 pub record Keyed : Type 0 where
   pub row : RowRead
   pub key : Key
@@ -85,6 +88,8 @@ pub record Keyed : Type 0 where
 abbrev pub keyed : RowRead → Key → Keyed
 keyed r k = record { row = r; key = k }
 
+-- descending: of the rows of a region, read from its start, the one that ends at `stop`; rows up to there are tested as read, a row that straddles it is 18. As many steps as there are
+-- bytes are enough: the first clause is never met
 unfoldable pub rowEndingAt : ℕ → List ℕ → Region → ℕ → ℕ → Key → Res Keyed
 rowEndingAt zero d g stop at before = refuse 18
 rowEndingAt (suc left) d g stop at before =

@@ -1,4 +1,5 @@
 pub mod Runs
+pub mod Rows
 pub mod RunsProof
 pub mod Proof3
 pub mod Proof2

@@ -2,12 +2,13 @@
 use Prim.Native.Nat.{ℕ, zero, suc}
 use mathlib.Core.Path.{_≡_}
 use mathlib.Core.Bool.{Bool, true, false, cond}
-use mathlib.Core.List.{List, [], _∷_, _++_}
+use mathlib.Core.List.{List, [], _∷_, _++_, map}
 use lib.Dec.{ltb, eqb}
 use lib.ListN.{length}
 use Rattle.layout.specs.Answer.{Res, ok, refuse, bind}
 use Rattle.layout.specs.Key.{Key, mayFollow}
-use Rattle.layout.specs.RowRead.{RowRead, readRow, keyOf}
+use Rattle.layout.specs.Row.{Row}
+use Rattle.layout.specs.RowRead.{RowRead, readRow, keyOf, fieldsOf}
 use Rattle.layout.specs.Trailer.{Trailer, trailerOf, dataOf, Region, regionOf, allOffsets}
 use Rattle.layout.specs.Cursor.{Keyed, keyed}
 
@@ -45,6 +46,23 @@ allRows (rows ∷ more) = rows ++ allRows more
 abbrev pub NeverFall : Key → List Keyed → Type 0
 NeverFall before [] = Unit {0}
 NeverFall before (k ∷ ks) = (mayFollow before (k .key) ≡ true) × NeverFall (k .key) ks
+
+-- accepted: the rows are read, in order, and the answer is how many there are
+pub record Accepts (b : List ℕ) (n : ℕ) : Type 0 where
+  pub t : Trailer
+  pub regions : List (List Keyed)
+  pub reads : Reads b t regions
+  pub in-order : NeverFall [] (allRows regions)
+  pub many : n ≡ length (allRows regions)
+
+-- ---- what is said of rows that were read
+
+-- a row's key and what it holds, out of its places
+abbrev pub contentOf : List ℕ → Keyed → Row
+contentOf d k = record { key = k .key; fields = fieldsOf d (k .row) }
+
+abbrev pub keysOf : List Keyed → List Key
+keysOf ks = map (λ (k : Keyed). k .key) ks
 
 -- what holds of each of some rows
 abbrev pub AllOf : (Keyed → Type 0) → List Keyed → Type 0

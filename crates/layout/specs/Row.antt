@@ -1,10 +1,12 @@
 -- "A row on the wire", as it is written: its bytes, its size from lengths alone, and the tests before one row is encoded.
-use Prim.Native.Nat.{ℕ, zero, suc, _+_}
+use Prim.Native.Nat.{ℕ, zero, suc, _+_, _^_, _<_}
+use mathlib.Core.Path.{_≡_}
 use mathlib.Core.Bool.{Bool, true, false}
 use mathlib.Core.List.{List, [], _∷_, _++_}
 use lib.Dec.{ltb, eqb}
 use lib.IntN.{ℤ}
 use lib.ListN.{length, take, drop}
+use lib.Signed.{mag}
 use Rattle.layout.specs.Answer.{Res, ok, refuse, bind, guard}
 use Rattle.layout.specs.Limits.{maxKey, maxValue}
 use Rattle.layout.specs.Varint.{varint, varintLength}
@@ -127,3 +129,30 @@ restoreKey prev shared suffix room =
     (bind (keyLengthTests (shared + length suffix)) λ _.
     guard (ltb room (shared + length suffix)) 19
     (ok (take shared prev ++ suffix)))
+
+-- ---- what is said of rows
+
+-- a row as it is read back: a tombstone's value is empty
+abbrev pub plain : Fields → Fields
+plain f = record { kind = f .kind; val = valueOf f; seq = f .seq; expire = f .expire; create = f .create }
+
+abbrev pub plainRow : Row → Row
+plainRow r = record { key = r .key; fields = plain (r .fields) }
+
+-- numbers are offered in their types: 64 bits, signed for times
+abbrev pub TimeOk : Time → Type 0
+TimeOk Absent = Unit {0}
+TimeOk (At t) = mag t < 2 ^ 63
+
+pub record Typed (f : Fields) : Type 0 where
+  pub seq-fits : f .seq < 2 ^ 64
+  pub expire-fits : TimeOk (f .expire)
+  pub create-fits : TimeOk (f .create)
+
+-- two rows after one previous key, each by its share, its suffix and its fields, are one, and so are the bytes t₁ and t₂ that follow them
+pub record SameRow (s₁ : ℕ) (x₁ : List ℕ) (f₁ : Fields) (t₁ : List ℕ) (s₂ : ℕ) (x₂ : List ℕ) (f₂ : Fields) (t₂ : List ℕ) : Type 0 where
+  pub shares : s₁ ≡ s₂
+  pub suffixes : x₁ ≡ x₂
+  pub fields : plain f₁ ≡ plain f₂
+  pub bytes : rowBytes s₁ x₁ f₁ ≡ rowBytes s₂ x₂ f₂
+  pub tails : t₁ ≡ t₂

@@ -20,13 +20,14 @@ pub record Found : Type 0 where
 abbrev pub foundIs : ℕ → ℕ → Found
 foundIs p n = record { place = p; reads = n }
 
+-- one more key read
 abbrev pub tick : Found → Res Found
 tick f = ok (foundIs (f .place) (suc (f .reads)))
 
 unfoldable pub middle : ℕ → ℕ → ℕ
 middle low high = low + (high - low) / 2
 
--- reads the middle's key; keeps the upper part if it is below the target, else the lower one, until the span is empty
+-- reads the middle's key; keeps the upper part if it is below the target, else the lower one, until the span is empty; as many steps as the span is long are enough
 unfoldable pub searchIn : ℕ → (ℕ → Res Bool) → ℕ → ℕ → Res Found
 searchIn zero isBelow low high = ok (foundIs low 0)
 searchIn (suc left) isBelow low high =
@@ -53,7 +54,7 @@ searchRestarts b t target = search (restartBelow b t target) 0 (t .count)
 
 -- ---- ascending: start one restart earlier (not below 0) and walk to the first row at or above the target, else "done"
 
--- where the walk of a region stops: at that row or at the region's end, after the key of the row before in the same region, else none
+-- where the walk of a region stops: at that row or at the region's end, after the key of the row before in the same region, else none; as many steps as there are bytes are enough
 pub record Stop : Type 0 where
   pub at : ℕ
   pub before : Key
@@ -74,6 +75,7 @@ walkRegion (suc left) d g target at before =
 abbrev pub doneUp : Trailer → Cursor
 doneUp t = cursorIs ascending (t .count - 1) (t .size) [] true
 
+-- over `left` regions; past the last one there is no row
 unfoldable pub walkUp : ℕ → List ℕ → Trailer → Key → ℕ → Res Cursor
 walkUp zero b t target region = ok (doneUp t)
 walkUp (suc left) b t target region =
@@ -87,6 +89,7 @@ seekUp b t target place = walkUp (t .count - (place - 1)) b t target (place - 1)
 
 -- ---- descending: start at the last of the run of restarts equal to the target, if the one found is equal; otherwise one earlier (not below 0)
 
+-- as many steps as there are restarts are enough
 unfoldable pub lastEqual : ℕ → List ℕ → Trailer → Key → ℕ → Res ℕ
 lastEqual zero b t target i = ok i
 lastEqual (suc left) b t target i =
@@ -102,7 +105,7 @@ startDown b t target place =
     cond (same k target) (lastEqual (t .count) b t target place) (ok (place - 1)))
     (ok (place - 1))
 
--- read that whole region: where its last row at or below the target ends, or `best`
+-- read that whole region: where its last row at or below the target ends, or `best`; as many steps as there are bytes are enough
 unfoldable pub lastAtOrBelow : ℕ → List ℕ → Region → Key → ℕ → Key → ℕ → Res ℕ
 lastAtOrBelow zero d g target at before best = ok best
 lastAtOrBelow (suc left) d g target at before best =
@@ -115,6 +118,7 @@ lastAtOrBelow (suc left) d g target at before best =
 abbrev pub doneDown : Cursor
 doneDown = cursorIs descending 0 0 [] true
 
+-- over `left` regions; before region 0 there is no row
 unfoldable pub walkDown : ℕ → List ℕ → Trailer → Key → ℕ → Res Cursor
 walkDown zero b t target region = ok doneDown
 walkDown (suc left) b t target region =
@@ -126,7 +130,7 @@ walkDown (suc left) b t target region =
 unfoldable pub seekDown : List ℕ → Trailer → Key → ℕ → Res Cursor
 seekDown b t target place = bind (startDown b t target place) λ region. walkDown (suc region) b t target region
 
--- ---- a seek takes only the direction from the cursor, and reports how many restart keys the search read
+-- ---- a seek takes only the direction from the cursor, and reports how many restart keys the search read; it says "done" by its cursor's mark
 
 pub record Sought : Type 0 where
   pub cursor : Cursor

@@ -62,7 +62,7 @@ pub record Region : Type 0 where
 abbrev pub regionIs : ℕ → ℕ → ℕ → Region
 regionIs s e r = record { start = s; end = e; reach = r }
 
--- what must be 0: the offset of region 0
+-- what must be 0: the offset of region 0; of every other region nothing, so 0
 abbrev pub firstOf : ℕ → ℕ → ℕ
 firstOf r offset = cond (eqb r 0) offset 0
 

@@ -32,7 +32,7 @@ pub record Num : Type 0 where
 abbrev pub num : ℕ → ℕ → Num
 num v n = record { val = v; len = n }
 
--- the low seven bits of the byte b, below the number that the bytes after it spell
+-- the number that the bytes after b spell, put above the low seven bits of b
 abbrev pub above : ℕ → Num → Res Num
 above b r = ok (num (b - 128 + 128 * r .val) (suc (r .len)))
 

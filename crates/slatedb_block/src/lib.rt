@@ -195,7 +195,7 @@ fn builder_of(s: State) -> BlockBuilderV2
         used: s.used,
         restarts: s.restarts,
         counter: s.counter,
-        last_key: [0; 1024],
+        last_key: [0; types::MAX_KEY],
         last_key_len: s.last_key_len,
     }
 }
@@ -289,7 +289,7 @@ fn iterator_of(p: Place) -> BlockIteratorV2
         order,
         region: p.region,
         at: p.at,
-        key: [0; 1024],
+        key: [0; types::MAX_KEY],
         key_len: p.key_len,
         done: p.done,
     }

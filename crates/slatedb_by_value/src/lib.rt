@@ -69,7 +69,7 @@ fn iterator_over(p: Place, key: &[u8]) -> BlockIteratorV2
     ensures { λ r. ⌜ r ≡ iteratorOver p (now (key .entry)) ⌝ }
 {
     let order = p.order;
-    let mut carried = [0; 1024];
+    let mut carried = [0; types::MAX_KEY];
     buf_mut::copy_in(&mut carried, 0, key);
     BlockIteratorV2 {
         order,

@@ -88,7 +88,7 @@ fn by_value(block: &[u8], start: BlockIteratorV2, limit: u64) -> Walked
     ensures { λ r. ⌜ saysWalked r ≡ bind (walk limit (viewOf start) (now (block .entry))) wrapped ⌝ }
 {
     let mut c = start;
-    let mut key = [0; 1024];
+    let mut key = [0; types::MAX_KEY];
     let mut rows = 0;
     let mut sum = 0;
     while rows < limit {
@@ -153,8 +153,8 @@ fn in_place(block: &[u8], start: Place, limit: u64) -> Walked
     ensures { λ r. ⌜ saysWalked r ≡ bind (walk limit (viewIn start (replicate maxKey 0)) (now (block .entry))) wrapped ⌝ }
 {
     let mut p = start;
-    let mut carried = [0; 1024];
-    let mut key = [0; 1024];
+    let mut carried = [0; types::MAX_KEY];
+    let mut key = [0; types::MAX_KEY];
     let mut rows = 0;
     let mut sum = 0;
     while rows < limit {

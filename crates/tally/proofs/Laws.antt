@@ -11,7 +11,8 @@ use Rattle.layout.specs.Trailer.{Trailer}
 use Rattle.layout.specs.Check.{check}
 use Rattle.layout.specs.Cursor.{ascending, Cursor, opened, cursorOr, openBlock, Keyed, found, stepIs, next}
 use Rattle.layout.specs.Demands.Runs.{Walks, stands, gives}
-use Rattle.layout.specs.Demands.Proof2.{Rows, Walked, rows-room}
+use Rattle.layout.specs.Demands.Rows.{Rows, Walked}
+use Rattle.layout.specs.Demands.Proof2.{rows-room}
 use Rattle.layout.specs.Demands.Demand2.{has-rows, walk-steps}
 use Rattle.layout.specs.Laws.Answer.{ok-inj}
 use Rattle.types.specs.Answers.{apart, yes}

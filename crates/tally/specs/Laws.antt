@@ -18,7 +18,7 @@ use Rattle.layout.specs.Trailer.{Trailer, trailerOf, dataOf, offsetAt, Region, 
 use Rattle.layout.specs.Check.{check}
 use Rattle.layout.specs.Cursor.{Keyed}
 use Rattle.layout.specs.Reads.{regionRows, regionsRows, allRows}
-use Rattle.layout.specs.Demands.Proof2.{Rows}
+use Rattle.layout.specs.Demands.Rows.{Rows}
 use Rattle.layout.specs.Demands.Demand2.{has-rows}
 use Rattle.layout.specs.Laws.Answer.{bind-then, guard-then, ok-inj}
 use Rattle.layout.specs.Laws.Reads.{RegionIs, over, more, region-is, RegionsAre, next, regions-are, regions-none, allRows-none, allRows-next}

@@ -93,8 +93,8 @@ fn fold(t: Tally, block: &[u8], start: Place, n: usize) -> Tally
 {
     let mut tally = t;
     let mut p = start;
-    let mut carried = [0; 1024];
-    let mut key = [0; 1024];
+    let mut carried = [0; types::MAX_KEY];
+    let mut key = [0; types::MAX_KEY];
     let mut i = 0;
     while i < n {
         let moved = block_step_v2::next_in_place(&mut carried, p, block, &mut key);

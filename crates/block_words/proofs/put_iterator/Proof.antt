@@ -1,6 +1,7 @@
 -- A cursor is stored: its words are those of its view, and its key's bytes are all copied. Where either has another number, both are left.
 use mathlib.Core.Path.{_≡_}
 use lib.ListN.{length}
+use Rattle.layout.specs.Limits.{maxKey}
 use Rattle.block_words.proofs.Laws.{copied-whole, iterator-no-words, iterator-no-key, iterator-put}
 use Rattle.row_words.proofs.Laws.{stored}
 use borrow.Author.Needs.{needs}
@@ -33,7 +34,7 @@ returns-3 c =
     let after-put-cursor = c .before .before .before .before .before .before .before .before .before in
     let enough = after-put-cursor .before .before .before in
     let start = enough .before .before .before .before in
-    let whole : length (start .args .t3 .key) ≡ 1024 = search needs in
+    let whole : length (start .args .t3 .key) ≡ maxKey = search needs in
     iterator-put (start .args .t3) _ _ (enough .before .if1 .left) (enough .if2 .left) (rw (after-put-cursor .before .place-of .ensures) at (stored (enough .before .if1 .left) (after-put-cursor .put-cursor .ensures))) (copied-whole (start .args .t3 .key) (enough .if2 .left) whole (c .before .before .copy-in .ensures))
 
 pub put-iterator-spec : {M : Type 1} → statement M

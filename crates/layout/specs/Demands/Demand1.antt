@@ -1,6 +1,6 @@
 -- Demand 1. Whatever arrives, every call ends without fault, checks for itself and refuses by number: this is each function's contract, an equation that any input meets. What is shown
--- here is that bytes which tell nothing tell nothing: two cursors, or two builders, that carry the same key, whatever stands past its end in their arrays, and two lent key buffers of
--- equal length, give equal answers, equal cursors or builders, and equal key bytes.
+-- here: a refused call changes neither cursor, builder nor lent memory; and bytes that tell nothing tell nothing: two cursors, or two builders, whose arrays differ only past the end of
+-- the key that they carry, and two lent key buffers of equal length, give equal answers, equal cursors or builders, and equal bytes.
 use Prim.Native.Nat.{ℕ, _+_, _≤_}
 use mathlib.Core.Path.{_≡_, refl, ap}
 use mathlib.Core.Bool.{Bool}
@@ -8,56 +8,62 @@ use mathlib.Core.List.{List}
 use native.Mathlib.Nat.{zero-add}
 use native.Mathlib.Omega.{arith}
 use lib.ListN.{length, take, drop}
-use Rattle.layout.specs.Answer.{ok}
+use Rattle.layout.specs.Answer.{ok, refuse}
 use Rattle.layout.specs.Key.{Key}
-use Rattle.layout.specs.Row.{Fields}
+use Rattle.layout.specs.Row.{Fields, encodeRow, written, restoreKey}
 use Rattle.layout.specs.RowRead.{RowRead}
-use Rattle.layout.specs.Builder.{Builder, wouldFit, add, stateAfter, build}
-use Rattle.layout.specs.Cursor.{Direction, Cursor, found, stepIs, next, cursorAfter, keyAfter, isEmpty}
-use Rattle.layout.specs.Seek.{seek}
+use Rattle.layout.specs.Builder.{Builder, keptBuilder, wouldFit, add, stateAfter, dataAfter, placesAfter, build, blockAfter}
+use Rattle.layout.specs.Cursor.{Direction, Cursor, keptCursor, found, stepIs, next, cursorAfter, keyAfter, isEmpty}
+use Rattle.layout.specs.Seek.{seek, soughtAfter}
 use Rattle.layout.specs.Laws.Splice.{take-past-splice, drop-past-splice}
 
--- a cursor as it is kept: an array, of which only the first keyLen bytes are the carried key
-pub record KeptCursor : Type 0 where
-  pub direction : Direction
-  pub region : ℕ
-  pub at : ℕ
-  pub keyLen : ℕ
-  pub array : List ℕ
-  pub mark : Bool
+-- ---- a refused call changes nothing
 
-abbrev pub carried : KeptCursor → Cursor
-carried c = record { direction = c .direction; region = c .region; at = c .at; keyLen = c .keyLen; key = take (c .keyLen) (c .array); mark = c .mark }
+pub refused-step : (c : Cursor) (b out : List ℕ) (n : ℕ) → next c b (length out) ≡ refuse n
+    → (cursorAfter (next c b (length out)) c ≡ c) × (keyAfter (next c b (length out)) out ≡ out)
+refused-step c b out n e = rw e (refl, refl)
 
--- a builder as it is kept
-pub record KeptBuilder : Type 0 where
-  pub size : ℕ
-  pub interval : ℕ
-  pub used : ℕ
-  pub restarts : ℕ
-  pub rows : ℕ
-  pub lastLen : ℕ
-  pub array : List ℕ
+pub refused-seek : (c : Cursor) (b : List ℕ) (target : Key) (n : ℕ) → seek (c .direction) b target ≡ refuse n → soughtAfter (seek (c .direction) b target) c ≡ c
+refused-seek c b target n e = rw e
 
-abbrev pub carriedBy : KeptBuilder → Builder
-carriedBy b =
-    record { size = b .size; interval = b .interval; used = b .used; restarts = b .restarts; rows = b .rows; lastLen = b .lastLen; last = take (b .lastLen) (b .array) }
+module _ (b : Builder) (bytes places : List ℕ) (n : ℕ) where
+  pub refused-add : (key : Key) (f : Fields) → let want = add b (length bytes) (length places) key f in want ≡ refuse n
+      → (stateAfter want b ≡ b) × (dataAfter want b key f bytes ≡ bytes) × (placesAfter want b places ≡ places)
+  refused-add key f e = rw e (refl, refl, refl)
 
--- The answer of a step holds the row's places and fields and the key bytes given; so equal answers give equal key bytes.
-module _ (c₁ c₂ : KeptCursor) (same : carried c₁ ≡ carried c₂) (b : List ℕ) where
-  module _ (out₁ out₂ : List ℕ) (equal : length out₁ ≡ length out₂) where
-    pub stale-bytes-tell-nothing : (next (carried c₁) b (length out₁) ≡ next (carried c₂) b (length out₂))
-        × (cursorAfter (next (carried c₁) b (length out₁)) (carried c₁) ≡ cursorAfter (next (carried c₂) b (length out₂)) (carried c₂))
-    stale-bytes-tell-nothing = rw (same, equal) (refl, refl)
+  pub refused-build : let want = build b (length bytes) (length places) in want ≡ refuse n → blockAfter want b bytes places ≡ bytes
+  refused-build e = rw e
 
-  pub stale-bytes-empty : isEmpty (carried c₁) b ≡ isEmpty (carried c₂) b
-  stale-bytes-empty = rw same
+pub refused-encode : (prevLen shared : ℕ) (suffix : List ℕ) (f : Fields) (buf : List ℕ) (n : ℕ) → encodeRow prevLen shared suffix f (length buf) ≡ refuse n
+    → written (encodeRow prevLen shared suffix f (length buf)) buf ≡ buf
+refused-encode prevLen shared suffix f buf n e = rw e
 
-  -- a seek takes only the direction
-  pub stale-bytes-seek : (target : Key) → seek (c₁ .direction) b target ≡ seek (c₂ .direction) b target
-  stale-bytes-seek target = ap (λ (c : Cursor). seek (c .direction) b target) same
+pub refused-restore : (prev : Key) (shared : ℕ) (suffix buf : List ℕ) (n : ℕ) → restoreKey prev shared suffix (length buf) ≡ refuse n
+    → written (restoreKey prev shared suffix (length buf)) buf ≡ buf
+refused-restore prev shared suffix buf n e = rw e
 
--- The key bytes that a step gives stand at the start of the lent buffer, whatever it held; its other bytes stay.
+-- ---- bytes that tell nothing: a cursor's, and a lent key buffer's
+
+module _ (d : Direction) (region at keyLen : ℕ) (mark : Bool) (array₁ array₂ : List ℕ) (agree : take keyLen array₁ ≡ take keyLen array₂) (b : List ℕ) where
+  abbrev c₁ : Cursor
+  c₁ = keptCursor d region at keyLen array₁ mark
+
+  abbrev c₂ : Cursor
+  c₂ = keptCursor d region at keyLen array₂ mark
+
+  -- the answer of a step holds the row's places and fields and the key bytes given; so equal answers give equal key bytes
+  pub stale-bytes-tell-nothing : (out₁ out₂ : List ℕ) → length out₁ ≡ length out₂
+      → (next c₁ b (length out₁) ≡ next c₂ b (length out₂)) × (cursorAfter (next c₁ b (length out₁)) c₁ ≡ cursorAfter (next c₂ b (length out₂)) c₂)
+  stale-bytes-tell-nothing out₁ out₂ equal = rw (agree, equal) (refl, refl)
+
+  pub stale-bytes-empty : isEmpty c₁ b ≡ isEmpty c₂ b
+  stale-bytes-empty = rw agree
+
+  -- a seek takes only the direction; one that is refused gives back the cursor that came, which carries the same
+  pub stale-bytes-seek : (target : Key) → soughtAfter (seek (c₁ .direction) b target) c₁ ≡ soughtAfter (seek (c₂ .direction) b target) c₂
+  stale-bytes-seek target = rw agree
+
+-- the key bytes that a step gives stand at the start of the lent buffer, whatever it held; its other bytes stay
 pub given-bytes : (out : List ℕ) (c : Cursor) (r : RowRead) (key : Key) → length key ≤ length out
     → (take (length key) (keyAfter (ok (stepIs c (found r key))) out) ≡ key) × (drop (length key) (keyAfter (ok (stepIs c (found r key))) out) ≡ drop (length key) out)
 given-bytes out c r key h =
@@ -65,13 +71,22 @@ given-bytes out c r key h =
     let fits : 0 + length key ≤ length out = omega arith in
     (rw n at (take-past-splice out 0 key fits), rw n at (drop-past-splice out 0 key fits))
 
-module _ (b₁ b₂ : KeptBuilder) (same : carriedBy b₁ ≡ carriedBy b₂) (dataLen placesLen : ℕ) where
-  pub stale-bytes-fit : (key : Key) (f : Fields) → wouldFit (carriedBy b₁) dataLen placesLen key f ≡ wouldFit (carriedBy b₂) dataLen placesLen key f
-  stale-bytes-fit key f = rw same
+-- ---- a builder's
 
-  pub stale-bytes-add : (key : Key) (f : Fields) → (add (carriedBy b₁) dataLen placesLen key f ≡ add (carriedBy b₂) dataLen placesLen key f)
-      × (stateAfter (add (carriedBy b₁) dataLen placesLen key f) (carriedBy b₁) ≡ stateAfter (add (carriedBy b₂) dataLen placesLen key f) (carriedBy b₂))
-  stale-bytes-add key f = rw same (refl, refl)
+module _ (size interval used restarts rows lastLen : ℕ) (array₁ array₂ : List ℕ) (agree : take lastLen array₁ ≡ take lastLen array₂) (bytes places : List ℕ) where
+  abbrev b₁ : Builder
+  b₁ = keptBuilder size interval used restarts rows lastLen array₁
 
-  pub stale-bytes-build : build (carriedBy b₁) dataLen placesLen ≡ build (carriedBy b₂) dataLen placesLen
-  stale-bytes-build = rw same
+  abbrev b₂ : Builder
+  b₂ = keptBuilder size interval used restarts rows lastLen array₂
+
+  pub stale-bytes-fit : (key : Key) (f : Fields) → wouldFit b₁ (length bytes) (length places) key f ≡ wouldFit b₂ (length bytes) (length places) key f
+  stale-bytes-fit key f = rw agree
+
+  pub stale-bytes-add : (key : Key) (f : Fields) → let x = add b₁ (length bytes) (length places) key f in let y = add b₂ (length bytes) (length places) key f in
+      (x ≡ y) × (stateAfter x b₁ ≡ stateAfter y b₂) × (dataAfter x b₁ key f bytes ≡ dataAfter y b₂ key f bytes) × (placesAfter x b₁ places ≡ placesAfter y b₂ places)
+  stale-bytes-add key f = rw agree (refl, refl, refl, refl)
+
+  pub stale-bytes-build : let x = build b₁ (length bytes) (length places) in let y = build b₂ (length bytes) (length places) in
+      (x ≡ y) × (blockAfter x b₁ bytes places ≡ blockAfter y b₂ bytes places)
+  stale-bytes-build = rw agree (refl, refl)

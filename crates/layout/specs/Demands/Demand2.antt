@@ -1,28 +1,30 @@
 -- Demand 2. Inside the limits, on blocks that the check accepts: a row decodes to what was encoded; an ascending seek lands on the first row whose key is at least the target, a
 -- descending seek on the last whose key is at most it, or says that none is left.
 --
--- The rows of an accepted block (`Rows`) are named by their places. The right-hand sides are the definitions that the contracts name. The proofs are in Proof2.
+-- What the statements say is in Rows, of runs of calls and of steps in Runs; every call in them is a definition that a contract names. The rows of an accepted block (`Rows`) are named by
+-- their places. A key buffer is asked that is no shorter than any key (`RoomFor`): one of 1,024 bytes is (`room-enough`). The proofs are in Proof2.
 use Prim.Native.Nat.{ℕ, suc, _<_, _≤_}
 use mathlib.Core.Path.{_≡_, ap, sym, _∙_}
+use mathlib.Core.Bool.{true, false}
 use mathlib.Core.List.{List, [], _∷_, _++_}
 use lib.ListN.{length, getD}
 use Rattle.layout.specs.Answer.{ok}
-use Rattle.layout.specs.Limits.{maxRestarts}
-use Rattle.layout.specs.Key.{Key}
-use Rattle.layout.specs.Row.{Fields, Row, encodeRow}
+use Rattle.layout.specs.Limits.{maxKey, maxRestarts}
+use Rattle.layout.specs.Key.{Key, below, firstAtOrAbove, firstAbove}
+use Rattle.layout.specs.Row.{Fields, Row, encodeRow, Typed}
 use Rattle.layout.specs.Trailer.{Trailer}
 use Rattle.layout.specs.Check.{check}
 use Rattle.layout.specs.Cursor.{ascending, Cursor, Keyed, found, stepIs, next}
 use Rattle.layout.specs.Seek.{Sought, soughtIs, seek}
+use Rattle.layout.specs.Reads.{Accepts, keysOf}
 use Rattle.layout.specs.Demands.Runs.{Held, Call, Ran, Finishes, RoomFor}
+use Rattle.layout.specs.Demands.Rows.{DecodesBack, Rows, Walked, SoughtUp, SoughtDown, FoundFirst, RowsNeverFall}
 use Rattle.layout.specs.Demands.Proof3.{encode-tells, ran-laid}
-use Rattle.layout.specs.Demands.Proof2.{DecodesBack, decodes-back, Rows, Walked, rows-walked, accepted-rows, SoughtUp, SoughtDown, sought-up, sought-down, Found, retry-present, retry-absent, restarts-few, RowsNeverFall, laid-accepted, accepted-laid}
+use Rattle.layout.specs.Demands.Proof2.{decodes-back, rows-walked, accepted-rows, rows-room, sought-up, sought-down, first-splits, last-splits, retry-present, retry-absent, restarts-few, laid-accepted, accepted-laid}
 use Rattle.layout.specs.Laws.Answer.{ok-inj}
-use Rattle.layout.specs.Laws.Made.{Typed}
-use Rattle.layout.specs.Laws.Accept.{Accepts, check-accepts, accepts-check}
-use Rattle.layout.specs.Laws.Sorted.{keysOf}
+use Rattle.layout.specs.Laws.Accept.{check-accepts, accepts-check}
 
--- A row that was encoded, before any bytes, decodes to what was encoded, and ends where it ended; its full key is the shared bytes of the previous key, then the suffix.
+-- A row that was encoded decodes, whatever bytes follow, to what was encoded, and ends where it ended; its full key is the shared bytes of the previous key, then the suffix.
 pub decode-encode : (prevLen shared : ℕ) (suffix : List ℕ) (f : Fields) (room : ℕ) (w post : List ℕ) → Typed f → encodeRow prevLen shared suffix f room ≡ ok w
     → DecodesBack prevLen shared suffix f w post
 decode-encode prevLen shared suffix f room w post t e = decodes-back prevLen shared suffix f w post (encode-tells prevLen shared suffix f room w e) t
@@ -36,6 +38,24 @@ module _ (b : List ℕ) (n : ℕ) (accepted : check b ≡ ok n) where
   -- An accepted block has rows, as many as the check says.
   pub has-rows : (t : Trailer) × (rows : List Keyed) × Rows b n t rows
   has-rows = accepted-rows b n accepted
+
+module _ (b : List ℕ) (n : ℕ) (t : Trailer) (rows : List Keyed) (q : Rows b n t rows) where
+  pub room-enough : RoomFor maxKey rows
+  room-enough = rows-room b n t rows q
+
+  -- If its elements are bytes, it has at most 5,042 restarts.
+  pub restarts-at-most : ((i : ℕ) → getD b i 0 < 256) → t .count ≤ maxRestarts
+  restarts-at-most bytes = restarts-few b t (q .regions) (q .reads) bytes
+
+  -- Its keys never fall, so "the first at or above the target" parts its rows: those before it are below the target, and no row from it on is.
+  pub first-at-or-above : (target : Key) (i : ℕ) → i < length rows
+      → (i < firstAtOrAbove target (keysOf rows) → below (getD (keysOf rows) i []) target ≡ true) × (firstAtOrAbove target (keysOf rows) ≤ i → below (getD (keysOf rows) i []) target ≡ false)
+  first-at-or-above target i h = first-splits target rows (q .in-order) i h
+
+  -- And so does "the last at or below", which is the one before the first above: no row up to it is above the target, and every row after it is.
+  pub last-at-or-below : (target : Key) (i : ℕ) → i < length rows
+      → (i < firstAbove target (keysOf rows) → below target (getD (keysOf rows) i []) ≡ false) × (firstAbove target (keysOf rows) ≤ i → below target (getD (keysOf rows) i []) ≡ true)
+  last-at-or-below target i h = last-splits target rows (q .in-order) i h
 
 module _ (b : List ℕ) (n : ℕ) (t : Trailer) (rows : List Keyed) (q : Rows b n t rows) (room : ℕ) (fits : RoomFor room rows) where
   -- A walk from an opened cursor gives every row, in order or reversed, and says "done" after exactly as many steps as there are rows, and ever after, with the cursor unchanged.
@@ -52,16 +72,12 @@ module _ (b : List ℕ) (n : ℕ) (t : Trailer) (rows : List Keyed) (q : Rows b 
 
   -- Some row has the target as its key exactly when the row after the ascending seek has it; and then that is the first such row.
   pub retry-found : (target : Key) (c : Cursor) (reads : ℕ) → seek ascending b target ≡ ok (soughtIs c reads)
-      → ((i : ℕ) → i < length rows → getD (keysOf rows) i [] ≡ target → Found b target rows room c)
+      → ((i : ℕ) → i < length rows → getD (keysOf rows) i [] ≡ target → FoundFirst b target rows room c)
       × ((k : Keyed) (moved : Cursor) → next c b room ≡ ok (stepIs moved (found (k .row) (k .key))) → k .key ≡ target → (i : ℕ) × (i < length rows) × (getD (keysOf rows) i [] ≡ target))
   retry-found target c reads e =
       let s = sought-up b n t rows q target room fits in
       let same : s .c ≡ c = ap (λ (x : Sought). x .cursor) (ok-inj (sym (s .is) ∙ e)) in
       (λ i h k. rw same at (retry-present b n t rows q target room fits i h k), λ k moved g has. retry-absent b n t rows q target room fits k moved (rw same g) has)
-
-  -- Of bytes, it has at most 5,042 restarts.
-  pub restarts-at-most : ((i : ℕ) → getD b i 0 < 256) → t .count ≤ maxRestarts
-  restarts-at-most bytes = restarts-few b t (q .regions) (q .reads) bytes
 
 -- A finished block is accepted exactly when its keys never fall.
 pub finished-accepted : (size interval : ℕ) (calls : List Call) (rows : List Row) (end : Held) (block : List ℕ) → Ran size interval calls rows end → 1 ≤ length rows → Finishes end block

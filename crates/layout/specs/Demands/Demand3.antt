@@ -8,17 +8,15 @@ use mathlib.Core.Path.{_≡_, refl, sym, ap, _∙_}
 use mathlib.Core.List.{List, [], _∷_, _++_, map}
 use lib.ListN.{length}
 use Rattle.layout.specs.Answer.{ok}
-use Rattle.layout.specs.Row.{Fields, Row, encodeRow}
+use Rattle.layout.specs.Limits.{maxKey}
+use Rattle.layout.specs.Row.{Fields, Row, encodeRow, plain, SameRow, Typed, plainRow}
 use Rattle.layout.specs.RowRead.{RowRead, decodeRow}
 use Rattle.layout.specs.Block.{blockBytes}
 use Rattle.layout.specs.Trailer.{Trailer, dataOf}
 use Rattle.layout.specs.Cursor.{ascending, descending, opened, openBlock, Keyed}
-use Rattle.layout.specs.Demands.Runs.{Held, Call, Ran, Finishes, backwards}
-use Rattle.layout.specs.Demands.RunsProof.{WalksAll}
-use Rattle.layout.specs.Demands.Proof3.{ran-finishes, ran-block, ran-laid, same-rows, KeysFit, ReadsBack, laid-reads-back, Encoded, encode-tells, encoded-differ, decoded-differ}
-use Rattle.layout.specs.Laws.Row.{plain, SameRow}
-use Rattle.layout.specs.Laws.Made.{Typed}
-use Rattle.layout.specs.Laws.Laid.{contentOf, plainRow}
+use Rattle.layout.specs.Reads.{contentOf}
+use Rattle.layout.specs.Demands.Runs.{Held, Call, Ran, Finishes, backwards, WalksAll, KeysFit}
+use Rattle.layout.specs.Demands.Proof3.{ran-finishes, ran-block, ran-laid, ran-fits, same-rows, ReadsBack, laid-reads-back, Encoded, encode-tells, encoded-differ, decoded-differ}
 
 -- After at least one accepted row, build answers a block, never 6 or 18: the block of the accepted rows.
 pub run-finishes : (size interval : ℕ) (calls : List Call) (rows : List Row) (end : Held) → Ran size interval calls rows end → 1 ≤ length rows → Finishes end (blockBytes interval rows)
@@ -31,6 +29,10 @@ pub blocks-differ : (size₁ size₂ n₁ n₂ : ℕ) (calls₁ calls₂ : List 
 blocks-differ size₁ size₂ n₁ n₂ calls₁ calls₂ rows₁ rows₂ end₁ end₂ block₁ block₂ ran₁ ran₂ some₁ some₂ f₁ f₂ differ same =
     differ
     (same-rows block₂ n₁ n₂ rows₁ rows₂ (rw same at (ran-laid size₁ n₁ calls₁ rows₁ end₁ ran₁ some₁ block₁ f₁)) (ran-laid size₂ n₂ calls₂ rows₂ end₂ ran₂ some₂ block₂ f₂))
+
+-- A key buffer of 1,024 bytes is no shorter than any accepted key.
+pub keys-fit : (size interval : ℕ) (calls : List Call) (rows : List Row) (end : Held) → Ran size interval calls rows end → KeysFit maxKey rows
+keys-fit size interval calls rows end ran = ran-fits size interval calls rows end ran
 
 module _ (size interval : ℕ) (calls : List Call) (rows : List Row) (end : Held) (block : List ℕ) (ran : Ran size interval calls rows end) (some : 1 ≤ length rows) (f : Finishes end block)
     (room : ℕ) (fits : KeysFit room rows) where

@@ -14,29 +14,23 @@ use Rattle.layout.specs.Limits.{maxKey, maxRestarts}
 use Rattle.layout.specs.Varint.{varint, varintIn, varintLength, readVarint, readVarintIn}
 use Rattle.layout.specs.Fixed.{big, unbig, bits, unbits}
 use Rattle.layout.specs.Place.{varintAt, fixedAt, splice}
-use Rattle.layout.specs.Key.{Key, below, mayFollow, common}
-use Rattle.layout.specs.Row.{Kind, value, Time, Absent, Fields, Row, timeBytes, rowBytes, rowSize, keyLengthTests, lengthTests, encodeRow}
+use Rattle.layout.specs.Key.{Key, below, mayFollow, common, leading, firstAtOrAbove, firstAbove}
+use Rattle.layout.specs.Row.{Kind, value, Time, Absent, Fields, Row, timeBytes, rowBytes, rowSize, keyLengthTests, lengthTests, encodeRow, Typed, plainRow}
 use Rattle.layout.specs.RowRead.{RowRead, lengthsAt, headAt, flagsAt, bodyAt, timeAt, timesAt, rowAt, readRow, readKey, decodeRow}
 use Rattle.layout.specs.Block.{isRestart, shareOf, laidRow, rowsFrom, offsetsFrom, blockRows, offsets, offsetBytes, trailer, blockBytes}
 use Rattle.layout.specs.Trailer.{shortAt, Trailer, dataOf, trailerOf, risingFrom, allOffsets, regionOf}
-use Rattle.layout.specs.Builder.{Builder, fresh, newBuilder, stateTests, fits, wouldFit, add, build}
+use Rattle.layout.specs.Builder.{Builder, keptBuilder, fresh, newBuilder, stateTests, fits, wouldFit, add, stateAfter, build}
 use Rattle.layout.specs.Check.{checkRow, checkFrom, check}
-use Rattle.layout.specs.Cursor.{ascending, descending, opened, openBlock, Keyed, next, isEmpty}
-use Rattle.layout.specs.Seek.{seek}
-use Rattle.layout.specs.Reads.{regionRows, regionsRows, allRows}
+use Rattle.layout.specs.Cursor.{ascending, descending, Cursor, keptCursor, opened, openBlock, Keyed, next, isEmpty}
+use Rattle.layout.specs.Seek.{seek, soughtAfter}
+use Rattle.layout.specs.Reads.{regionRows, regionsRows, allRows, Accepts, contentOf, keysOf}
 use Rattle.layout.specs.Cases.{rowWith}
-use Rattle.layout.specs.Demands.Runs.{Held, held, Call, offer, would-fit, is-empty, finish, run, rowsOf, Ran, Finishes, RoomFor, backwards}
-use Rattle.layout.specs.Demands.RunsProof.{WalksAll}
-use Rattle.layout.specs.Demands.Proof2.{DecodesBack, Rows, Walked, SoughtUp, SoughtDown, Found, rows-room}
-use Rattle.layout.specs.Demands.Proof3.{KeysFit}
-use Rattle.layout.specs.Demands.Demand1.{KeptCursor, carried, KeptBuilder, carriedBy, stale-bytes-tell-nothing, stale-bytes-empty, stale-bytes-seek, stale-bytes-fit, stale-bytes-add, stale-bytes-build}
-use Rattle.layout.specs.Demands.Demand2.{decode-encode, check-exact, has-rows, walk-steps, seek-ascending-lands, seek-descending-lands, retry-found, restarts-at-most, finished-accepted}
+use Rattle.layout.specs.Demands.Runs.{Held, held, Call, offer, would-fit, is-empty, finish, run, rowsOf, Ran, Finishes, RoomFor, backwards, WalksAll, KeysFit}
+use Rattle.layout.specs.Demands.Rows.{DecodesBack, Rows, Walked, SoughtUp, SoughtDown, FoundFirst}
+use Rattle.layout.specs.Demands.Demand1.{refused-add, stale-bytes-tell-nothing, stale-bytes-empty, stale-bytes-seek, stale-bytes-fit, stale-bytes-add, stale-bytes-build}
+use Rattle.layout.specs.Demands.Demand2.{decode-encode, check-exact, has-rows, room-enough, first-at-or-above, last-at-or-below, walk-steps, seek-ascending-lands, seek-descending-lands, retry-found, restarts-at-most, finished-accepted}
 use Rattle.layout.specs.Demands.Demand3.{run-finishes, blocks-differ, reads-forwards, reads-backwards, row-begins-no-other, read-begins-no-other}
 use Rattle.layout.specs.Laws.Answer.{ltb-cases, clash}
-use Rattle.layout.specs.Laws.Accept.{Accepts}
-use Rattle.layout.specs.Laws.Made.{Typed}
-use Rattle.layout.specs.Laws.Row.{SameRow}
-use Rattle.layout.specs.Laws.Laid.{contentOf, plainRow}
 
 -- ---- case 2, by a run
 
@@ -159,7 +153,7 @@ reads8 =
     }
 
 room8 : RoomFor maxKey rows8
-room8 = rows-room block8 5 t8 rows8 reads8
+room8 = room-enough block8 5 t8 rows8 reads8
 
 pub case-8-walked : Walked block8 t8 maxKey rows8
 case-8-walked = walk-steps block8 5 t8 rows8 reads8 maxKey room8
@@ -171,7 +165,7 @@ pub case-8-descending : SoughtDown block8 t8 (98 ∷ []) rows8 maxKey
 case-8-descending = seek-descending-lands block8 5 t8 rows8 reads8 maxKey room8 (98 ∷ [])
 
 -- row 1 has the key "b", so the row after the seek has it
-pub case-8-retry : Found block8 (98 ∷ []) rows8 maxKey (case-8-ascending .c)
+pub case-8-retry : FoundFirst block8 (98 ∷ []) rows8 maxKey (case-8-ascending .c)
 unfolding blockBytes blockRows offsets rowsFrom offsetsFrom trailer offsetBytes isRestart shareOf laidRow rowBytes timeBytes big varint varintIn common regionsRows regionRows allRows trailerOf shortAt unbig allOffsets risingFrom regionOf readRow rowAt headAt lengthsAt varintAt readVarint readVarintIn keyLengthTests bodyAt fixedAt flagsAt timesAt timeAt
 case-8-retry =
     retry-found block8 5 t8 rows8 reads8 maxKey room8 (98 ∷ []) (case-8-ascending .c) (case-8-ascending .reads) (case-8-ascending .is) .0
@@ -190,56 +184,78 @@ are-bytes (x ∷ xs) h (suc i) = ⊎-elim (λ u. are-bytes xs (rw (u .0) at h) i
 
 pub case-8-restarts : 3 ≤ maxRestarts
 unfolding blockBytes blockRows offsets rowsFrom offsetsFrom trailer offsetBytes isRestart shareOf laidRow rowBytes timeBytes big varint varintIn common
-case-8-restarts = restarts-at-most block8 5 t8 rows8 reads8 maxKey room8 (are-bytes block8 refl)
+case-8-restarts = restarts-at-most block8 5 t8 rows8 reads8 (are-bytes block8 refl)
+
+-- row 1 is the first at or above "b", and row 3 the last at or below: so row 0 is below it, and row 4 above
+pub case-8-parts : (firstAtOrAbove (98 ∷ []) (keysOf rows8) ≡ 1) × (firstAbove (98 ∷ []) (keysOf rows8) ≡ 4)
+unfolding blockBytes blockRows offsets rowsFrom offsetsFrom trailer offsetBytes isRestart shareOf laidRow rowBytes timeBytes big varint varintIn common regionsRows regionRows allRows trailerOf shortAt unbig allOffsets risingFrom regionOf readRow rowAt headAt lengthsAt varintAt readVarint readVarintIn keyLengthTests bodyAt fixedAt flagsAt timesAt timeAt firstAtOrAbove firstAbove leading below
+case-8-parts = (refl, refl)
+
+pub case-8-below : below (getD (keysOf rows8) 0 []) (98 ∷ []) ≡ true
+case-8-below = first-at-or-above block8 5 t8 rows8 reads8 (98 ∷ []) 0 (omega (arith, reads8 .many)) .0 (omega (arith, case-8-parts .0))
+
+pub case-8-above : below (98 ∷ []) (getD (keysOf rows8) 4 []) ≡ true
+case-8-above = last-at-or-below block8 5 t8 rows8 reads8 (98 ∷ []) 4 (omega (arith, reads8 .many)) .1 (omega (arith, case-8-parts .1))
 
 -- ---- one row, and bytes that tell nothing
 
--- case 1's row begins no row but itself
-pub case-1-begins : SameRow 0 (97 ∷ []) (rowA .fields) [] 0 (97 ∷ []) (rowA .fields) []
-unfolding encodeRow lengthTests keyLengthTests rowBytes timeBytes big varint varintIn
-case-1-begins =
-    row-begins-no-other 0 0 (97 ∷ []) (rowA .fields) 13 (rowBytes 0 (97 ∷ []) (rowA .fields)) 0 (97 ∷ []) (rowA .fields) 64 (rowBytes 0 (97 ∷ []) (rowA .fields)) []
-    (typed (97 ∷ []) [] 1 (omega arith))
-    (typed (97 ∷ []) [] 1 (omega arith))
-    refl
-    refl
-    refl
-
--- nor does it as it is read
+-- after the key "a", case 2's two rows as `encode` writes them: neither begins the other
 abbrev bytesOfA : List ℕ
 bytesOfA = rowBytes 0 (97 ∷ []) (rowA .fields)
 
-pub case-1-decodes : DecodesBack 0 0 (97 ∷ []) (rowA .fields) bytesOfA []
+abbrev bytesOfAB : List ℕ
+bytesOfAB = rowBytes 1 (98 ∷ []) (rowAB .fields)
+
+pub case-2-begins-no-other : (tail : List ℕ) → bytesOfA ++ tail ≡ bytesOfAB → ⊥
 unfolding encodeRow lengthTests keyLengthTests rowBytes timeBytes big varint varintIn
-case-1-decodes = decode-encode 0 0 (97 ∷ []) (rowA .fields) 13 bytesOfA [] (typed (97 ∷ []) [] 1 (omega arith)) refl
+case-2-begins-no-other tail e =
+    let same = row-begins-no-other 1 0 (97 ∷ []) (rowA .fields) 13 bytesOfA 1 (98 ∷ []) (rowAB .fields) 14 bytesOfAB tail (typed (97 ∷ []) [] 1 (omega arith)) (typed (97 ∷ 98 ∷ []) (120 ∷ []) 2 (omega arith)) refl refl e in
+    absurd (omega (arith, same .shares))
 
-pub case-1-begins-read : (_≡_ {A = List ℕ} [] []) × (case-1-decodes .row ≡ case-1-decodes .row)
-case-1-begins-read =
-    let whole = append-nil bytesOfA in
-    read-begins-no-other 0 bytesOfA bytesOfA [] (case-1-decodes .row) (case-1-decodes .row) (rw whole at (case-1-decodes .reads)) (case-1-decodes .ends) (rw whole at (case-1-decodes .reads)) (case-1-decodes .ends) whole
+-- nor as they are read
+pub case-2-decodes-first : DecodesBack 1 0 (97 ∷ []) (rowA .fields) bytesOfA []
+unfolding encodeRow lengthTests keyLengthTests rowBytes timeBytes big varint varintIn
+case-2-decodes-first = decode-encode 1 0 (97 ∷ []) (rowA .fields) 13 bytesOfA [] (typed (97 ∷ []) [] 1 (omega arith)) refl
 
--- two cursors on case 8's block that carry "a", before other bytes, and two key buffers of eight bytes
-abbrev kept : List ℕ → KeptCursor
-kept after = record { direction = ascending; region = 0; at = 13; keyLen = 1; array = 97 ∷ after; mark = false }
+pub case-2-decodes-second : DecodesBack 1 1 (98 ∷ []) (rowAB .fields) bytesOfAB []
+unfolding encodeRow lengthTests keyLengthTests rowBytes timeBytes big varint varintIn
+case-2-decodes-second = decode-encode 1 1 (98 ∷ []) (rowAB .fields) 14 bytesOfAB [] (typed (97 ∷ 98 ∷ []) (120 ∷ []) 2 (omega arith)) refl
 
-pub case-8-stale : (x y : List ℕ) → next (carried (kept x)) block8 8 ≡ next (carried (kept y)) block8 8
-case-8-stale x y = stale-bytes-tell-nothing (kept x) (kept y) refl block8 (replicate 8 0) (replicate 8 7) refl .0
+pub case-2-read-begins-no-other : (tail : List ℕ) → bytesOfA ++ tail ≡ bytesOfAB → tail ≡ []
+case-2-read-begins-no-other tail e =
+    let a = case-2-decodes-first in
+    let b = case-2-decodes-second in
+    read-begins-no-other 1 bytesOfA bytesOfAB tail (a .row) (b .row) (rw (append-nil bytesOfA) at (a .reads)) (a .ends) (rw (append-nil bytesOfAB) at (b .reads)) (b .ends) e .0
 
-pub case-8-stale-empty : (x y : List ℕ) → isEmpty (carried (kept x)) block8 ≡ isEmpty (carried (kept y)) block8
-case-8-stale-empty x y = stale-bytes-empty (kept x) (kept y) refl block8
+-- a cursor on case 8's block that carries "a", whatever bytes stand behind it, and two key buffers of eight bytes
+abbrev after-a : List ℕ → Cursor
+after-a x = keptCursor ascending 0 13 1 (97 ∷ x) false
 
-pub case-8-stale-seek : (x y : List ℕ) → seek (kept x .direction) block8 (98 ∷ []) ≡ seek (kept y .direction) block8 (98 ∷ [])
-case-8-stale-seek x y = stale-bytes-seek (kept x) (kept y) refl block8 (98 ∷ [])
+module _ (x y : List ℕ) where
+  pub case-8-stale : next (after-a x) block8 8 ≡ next (after-a y) block8 8
+  case-8-stale = stale-bytes-tell-nothing ascending 0 13 1 false (97 ∷ x) (97 ∷ y) refl block8 (replicate 8 0) (replicate 8 7) refl .0
 
--- two builders after case 2's first row, with other bytes behind its key
-abbrev keptBuilder : List ℕ → KeptBuilder
-keptBuilder after = record { size = 4096; interval = 16; used = 13; restarts = 1; rows = 1; lastLen = 1; array = 97 ∷ after }
+  pub case-8-stale-empty : isEmpty (after-a x) block8 ≡ isEmpty (after-a y) block8
+  case-8-stale-empty = stale-bytes-empty ascending 0 13 1 false (97 ∷ x) (97 ∷ y) refl block8
 
-pub case-2-stale-fit : (x y : List ℕ) → wouldFit (carriedBy (keptBuilder x)) 48 2 (rowAB .key) (rowAB .fields) ≡ wouldFit (carriedBy (keptBuilder y)) 48 2 (rowAB .key) (rowAB .fields)
-case-2-stale-fit x y = stale-bytes-fit (keptBuilder x) (keptBuilder y) refl 48 2 (rowAB .key) (rowAB .fields)
+  pub case-8-stale-seek : soughtAfter (seek ascending block8 (98 ∷ [])) (after-a x) ≡ soughtAfter (seek ascending block8 (98 ∷ [])) (after-a y)
+  case-8-stale-seek = stale-bytes-seek ascending 0 13 1 false (97 ∷ x) (97 ∷ y) refl block8 (98 ∷ [])
 
-pub case-2-stale-add : (x y : List ℕ) → add (carriedBy (keptBuilder x)) 48 2 (rowAB .key) (rowAB .fields) ≡ add (carriedBy (keptBuilder y)) 48 2 (rowAB .key) (rowAB .fields)
-case-2-stale-add x y = stale-bytes-add (keptBuilder x) (keptBuilder y) refl 48 2 (rowAB .key) (rowAB .fields) .0
+-- a builder after case 2's first row, whatever bytes stand behind its key, over buffers of 48 bytes and two places
+abbrev with-a : List ℕ → Builder
+with-a x = keptBuilder 4096 16 13 1 1 1 (97 ∷ x)
 
-pub case-2-stale-build : (x y : List ℕ) → build (carriedBy (keptBuilder x)) 48 2 ≡ build (carriedBy (keptBuilder y)) 48 2
-case-2-stale-build x y = stale-bytes-build (keptBuilder x) (keptBuilder y) refl 48 2
+module _ (x y bytes places : List ℕ) where
+  pub case-2-stale-fit : wouldFit (with-a x) (length bytes) (length places) (rowAB .key) (rowAB .fields) ≡ wouldFit (with-a y) (length bytes) (length places) (rowAB .key) (rowAB .fields)
+  case-2-stale-fit = stale-bytes-fit 4096 16 13 1 1 1 (97 ∷ x) (97 ∷ y) refl bytes places (rowAB .key) (rowAB .fields)
+
+  pub case-2-stale-add : add (with-a x) (length bytes) (length places) (rowAB .key) (rowAB .fields) ≡ add (with-a y) (length bytes) (length places) (rowAB .key) (rowAB .fields)
+  case-2-stale-add = stale-bytes-add 4096 16 13 1 1 1 (97 ∷ x) (97 ∷ y) refl bytes places (rowAB .key) (rowAB .fields) .0
+
+  pub case-2-stale-build : build (with-a x) (length bytes) (length places) ≡ build (with-a y) (length bytes) (length places)
+  case-2-stale-build = stale-bytes-build 4096 16 13 1 1 1 (97 ∷ x) (97 ∷ y) refl bytes places .0
+
+-- an empty key is refused with 1, and changes nothing
+pub case-2-refused : let want = add (fresh 4096 16) 48 2 [] (noKey .fields) in (want ≡ refuse 1) × (stateAfter want (fresh 4096 16) ≡ fresh 4096 16)
+unfolding add wouldFit stateTests lengthTests keyLengthTests
+case-2-refused = (refl, refused-add (fresh 4096 16) (replicate 48 7) (replicate 2 7) 1 [] (noKey .fields) refl .0)

@@ -9,13 +9,13 @@ use native.Mathlib.Omega.{arith}
 use native.Mathlib.Nat.{not-suc-le-zero}
 use native.Mathlib.Numerals.{add-one}
 use lib.Dec.{ltb, eqb}
-use lib.ListN.{length, take, drop, getD, length-append, length-drop, length-map}
+use lib.ListN.{length, take, drop, getD, length-append, length-drop, length-map, drop-of-length-le}
 use lib.Seq.{getD-drop}
 use borrow.Author.Tests.{eq-eqb}
 use Rattle.layout.specs.Answer.{Res, ok, refuse, bind}
 use Rattle.layout.specs.Limits.{maxKey, maxRestarts}
 use Rattle.layout.specs.Key.{Key, below, mayFollow, leading, isBelow, notAbove, firstAtOrAbove, firstAbove}
-use Rattle.layout.specs.Row.{Fields, Row, rowBytes}
+use Rattle.layout.specs.Row.{Fields, Row, rowBytes, plain, Typed, plainRow}
 use Rattle.layout.specs.RowRead.{RowRead, readRow, decodeRow, keyLength, keyOf, fieldsOf}
 use Rattle.layout.specs.Block.{blockBytes, blockRows, offsets}
 use Rattle.layout.specs.Fixed.{unbig}
@@ -23,37 +23,30 @@ use Rattle.layout.specs.Trailer.{shortAt, Trailer, trailerOf, dataOf, of
 use Rattle.layout.specs.Check.{check}
 use Rattle.layout.specs.Cursor.{ascending, descending, Cursor, marked, opened, openBlock, Keyed, keyed, found, done, Step, stepIs, next}
 use Rattle.layout.specs.Seek.{doneUp, doneDown, Sought, soughtIs, seek}
-use Rattle.layout.specs.Reads.{regionRows, regionsRows, Reads, allRows, NeverFall}
-use Rattle.layout.specs.Demands.Runs.{RoomFor, backwards, Walks, stands, gives}
-use Rattle.layout.specs.Demands.RunsProof.{WalksAll, walks-before, walks-after}
+use Rattle.layout.specs.Reads.{regionRows, regionsRows, Reads, allRows, NeverFall, Accepts, keysOf, contentOf}
+use Rattle.layout.specs.Demands.Runs.{RoomFor, backwards, Walks, stands, gives, WalksAll}
+use Rattle.layout.specs.Demands.Rows.{DecodesBack, Rows, Walked, RowsNeverFall, SoughtUp, SoughtDown, FoundFirst}
+use Rattle.layout.specs.Demands.RunsProof.{walks-before, walks-after}
 use Rattle.layout.specs.Demands.Proof3.{Encoded, encode-tells, encoded-fields}
-use Rattle.layout.specs.Laws.Answer.{ok-inj, ltb-cases, clash}
+use Rattle.layout.specs.Laws.Answer.{ok-inj, ltb-cases, bool-cases, clash}
 use Rattle.layout.specs.Laws.Key.{AtMost, at-most-refl, at-most-trans, at-most-antisym, below-false, le-below, below-le}
-use Rattle.layout.specs.Laws.Row.{plain, placesOf, readRow-law, placesOf-fields, placesOf-key}
+use Rattle.layout.specs.Laws.Row.{placesOf, readRow-law, placesOf-fields, placesOf-key}
 use Rattle.layout.specs.Laws.Tells.{RowEnds, readRow-ends, restart-least}
 use Rattle.layout.specs.Laws.Trailer.{regionOf-tells, trailerOf-tells, OffsetsTell, allOffsets-tell}
 use Rattle.layout.specs.Laws.Cursor.{open-good, next-marked}
-use Rattle.layout.specs.Laws.Made.{Typed}
 use Rattle.layout.specs.Laws.Block.{AllOk, AllFit}
 use Rattle.layout.specs.Laws.Reads.{region-at, rows-all}
 use Rattle.layout.specs.Laws.Ascend.{Before, opened-before}
 use Rattle.layout.specs.Laws.Descend.{After, opened-after}
-use Rattle.layout.specs.Laws.Accept.{Accepts, check-accepts, accepts-check}
-use Rattle.layout.specs.Laws.Sorted.{keysOf, may-at-most}
-use Rattle.layout.specs.Laws.First.{first-before, first-here}
+use Rattle.layout.specs.Laws.Accept.{check-accepts, accepts-check}
+use Rattle.layout.specs.Laws.Sorted.{may-at-most}
+use Rattle.layout.specs.Laws.First.{first-before, first-here, above-before, above-here}
 use Rattle.layout.specs.Laws.Split.{Split, split-at}
 use Rattle.layout.specs.Laws.LandsUp.{LandsUp, lands, passes, SeeksUp, seeks-up}
 use Rattle.layout.specs.Laws.LandsDown.{LandsDown, lands as lands-down, passes as passes-down, SeeksDown, seeks-down}
-use Rattle.layout.specs.Laws.Laid.{contentOf, plainRow, LaidBlock, laid-block}
+use Rattle.layout.specs.Laws.Laid.{LaidBlock, laid-block}
 
 -- ---- one row
-
-pub record DecodesBack (prevLen shared : ℕ) (suffix : List ℕ) (f : Fields) (w post : List ℕ) : Type 0 where
-  pub row : RowRead
-  pub reads : decodeRow (w ++ post) prevLen ≡ ok row
-  pub ends : row .next ≡ length w
-  pub fields : fieldsOf (w ++ post) row ≡ plain f
-  pub key : (prev : Key) → keyOf (w ++ post) prev row ≡ take shared prev ++ suffix
 
 pub decodes-back : (prevLen shared : ℕ) (suffix : List ℕ) (f : Fields) (w post : List ℕ) → Encoded prevLen shared suffix f w → Typed f → DecodesBack prevLen shared suffix f w post
 unfolding decodeRow
@@ -80,20 +73,6 @@ room-take room zero ks f = tt
 room-take room (suc n) [] f = tt
 room-take room (suc n) (k ∷ ks) f = (f .0, room-take room n ks (f .1))
 
--- what an accepted block has: its rows, named by their places, which both walks give, and how many they are
-pub record Rows (b : List ℕ) (n : ℕ) (t : Trailer) (rows : List Keyed) : Type 0 where
-  pub regions : List (List Keyed)
-  pub reads : Reads b t regions
-  pub are : rows ≡ allRows regions
-  pub in-order : NeverFall [] rows
-  pub many : n ≡ length rows
-
-pub record Walked (b : List ℕ) (t : Trailer) (room : ℕ) (rows : List Keyed) : Type 0 where
-  pub opens-up : openBlock b ascending ≡ ok (opened ascending t)
-  pub opens-down : openBlock b descending ≡ ok (opened descending t)
-  pub forwards : WalksAll b room (opened ascending t) rows
-  pub back : WalksAll b room (opened descending t) (backwards rows)
-
 module _ (b : List ℕ) (n : ℕ) (t : Trailer) (rows : List Keyed) (q : Rows b n t rows) (room : ℕ) (f : RoomFor room rows) where
   pub rows-walked : Walked b t room rows
   rows-walked =
@@ -117,23 +96,6 @@ rows-room b n t rows q =
 
 -- ---- seeks
 
--- ascending: the rows walked after the seek are those from the first at or above the target on; or it is marked "done", exactly when there is none
-pub record SoughtUp (b : List ℕ) (t : Trailer) (target : Key) (rows : List Keyed) (room : ℕ) : Type 0 where
-  pub c : Cursor
-  pub reads : ℕ
-  pub is : seek ascending b target ≡ ok (soughtIs c reads)
-  pub landed :
-      ((firstAtOrAbove target (keysOf rows) < length rows) × (c .mark ≡ false) × WalksAll b room c (drop (firstAtOrAbove target (keysOf rows)) rows))
-      ⊎ ((firstAtOrAbove target (keysOf rows) ≡ length rows) × (c ≡ doneUp t))
-
-pub record SoughtDown (b : List ℕ) (t : Trailer) (target : Key) (rows : List Keyed) (room : ℕ) : Type 0 where
-  pub c : Cursor
-  pub reads : ℕ
-  pub is : seek descending b target ≡ ok (soughtIs c reads)
-  pub landed :
-      ((0 < firstAbove target (keysOf rows)) × (c .mark ≡ false) × WalksAll b room c (backwards (take (firstAbove target (keysOf rows)) rows)))
-      ⊎ ((firstAbove target (keysOf rows) ≡ 0) × (c ≡ doneDown))
-
 module _ (b : List ℕ) (n : ℕ) (t : Trailer) (rows : List Keyed) (q : Rows b n t rows) (target : Key) (room : ℕ) (f : RoomFor room rows) where
   s-up : SeeksUp b t target rows
   s-up = rw (q .are) (seeks-up b t (q .regions) target (q .reads) (rw (q .are) at (q .in-order)))
@@ -141,30 +103,46 @@ module _ (b : List ℕ) (n : ℕ) (t : Trailer) (rows : List Keyed) (q : Rows b 
   s-down : SeeksDown b t target rows
   s-down = rw (q .are) (seeks-down b t (q .regions) target (q .reads) (rw (q .are) at (q .in-order)))
 
+  -- a marked cursor says "done", unchanged
+  over-up : WalksAll b room (doneUp t) []
+  over-up =
+      let says : next (doneUp t) b room ≡ ok (stepIs (doneUp t) done) = next-marked (doneUp t) b room t (q .reads .trailer-good) (omega (arith, trailerOf-tells b t (q .reads .trailer-good) .1)) zero-le refl in
+      record { last = doneUp t; walks = stands (doneUp t); ends = record { says-done = says; ever-after = says } }
+
+  over-down : WalksAll b room doneDown []
+  over-down =
+      let says : next doneDown b room ≡ ok (stepIs doneDown done) = next-marked doneDown b room t (q .reads .trailer-good) (omega (arith, trailerOf-tells b t (q .reads .trailer-good) .1)) zero-le refl in
+      record { last = doneDown; walks = stands doneDown; ends = record { says-done = says; ever-after = says } }
+
   pub sought-up : SoughtUp b t target rows room
   unfolding firstAtOrAbove
-  sought-up = record { c = s-up .c; reads = s-up .reads; is = s-up .is; landed = go (s-up .c) (ok (s-up .c)) refl (s-up .landing) }
+  sought-up = let w = go (s-up .c) (ok (s-up .c)) refl (s-up .landing) in record { c = s-up .c; reads = s-up .reads; is = s-up .is; walked = w .0; over = w .1 }
     where
       go : (c : Cursor) (x : Res Cursor) → x ≡ ok c → LandsUp b t target rows x
-          → ((leading (isBelow target) (keysOf rows) < length rows) × (c .mark ≡ false) × WalksAll b room c (drop (leading (isBelow target) (keysOf rows)) rows))
-          ⊎ ((leading (isBelow target) (keysOf rows) ≡ length rows) × (c ≡ doneUp t))
+          → WalksAll b room c (drop (leading (isBelow target) (keysOf rows)) rows)
+          × (((leading (isBelow target) (keysOf rows) < length rows) × (c .mark ≡ false)) ⊎ ((leading (isBelow target) (keysOf rows) ≡ length rows) × (c ≡ doneUp t)))
       go c x e (lands d h l) =
           let same : d ≡ c = ok-inj e in
-          rw (← same) (inl (h, l .stands .unmarked, walks-before b t room d (drop (leading (isBelow target) (keysOf rows)) rows) l (room-drop room (leading (isBelow target) (keysOf rows)) rows f)))
-      go c x e (passes h) = inr (h, sym (ok-inj e))
+          rw (← same) (walks-before b t room d (drop (leading (isBelow target) (keysOf rows)) rows) l (room-drop room (leading (isBelow target) (keysOf rows)) rows f), inl (h, l .stands .unmarked))
+      go c x e (passes h) =
+          let same : doneUp t ≡ c = ok-inj e in
+          let none : drop (leading (isBelow target) (keysOf rows)) rows ≡ [] = drop-of-length-le rows {i = leading (isBelow target) (keysOf rows)} (omega (arith, h)) in
+          (rw (none, ← same) over-up, inr (h, sym same))
 
   pub sought-down : SoughtDown b t target rows room
   unfolding firstAbove
-  sought-down = record { c = s-down .c; reads = s-down .reads; is = s-down .is; landed = go (s-down .c) (ok (s-down .c)) refl (s-down .landing) }
+  sought-down = let w = go (s-down .c) (ok (s-down .c)) refl (s-down .landing) in record { c = s-down .c; reads = s-down .reads; is = s-down .is; walked = w .0; over = w .1 }
     where
       go : (c : Cursor) (x : Res Cursor) → x ≡ ok c → LandsDown b t target rows x
-          → ((0 < leading (notAbove target) (keysOf rows)) × (c .mark ≡ false) × WalksAll b room c (backwards (take (leading (notAbove target) (keysOf rows)) rows)))
-          ⊎ ((leading (notAbove target) (keysOf rows) ≡ 0) × (c ≡ doneDown))
+          → WalksAll b room c (backwards (take (leading (notAbove target) (keysOf rows)) rows))
+          × (((0 < leading (notAbove target) (keysOf rows)) × (c .mark ≡ false)) ⊎ ((leading (notAbove target) (keysOf rows) ≡ 0) × (c ≡ doneDown)))
       go c x e (lands-down d h l) =
           let same : d ≡ c = ok-inj e in
           rw (← same)
-          (inl (h, l .unmarked, walks-after (length (take (leading (notAbove target) (keysOf rows)) rows)) b t room d (take (leading (notAbove target) (keysOf rows)) rows) (omega arith) l (room-take room (leading (notAbove target) (keysOf rows)) rows f)))
-      go c x e (passes-down h) = inr (h, sym (ok-inj e))
+          (walks-after (length (take (leading (notAbove target) (keysOf rows)) rows)) b t room d (take (leading (notAbove target) (keysOf rows)) rows) (omega arith) l (room-take room (leading (notAbove target) (keysOf rows)) rows f), inl (h, l .unmarked))
+      go c x e (passes-down h) =
+          let same : doneDown ≡ c = ok-inj e in
+          (rw (h, ← same) (unfold backwards in over-down), inr (h, sym same))
 
 -- ---- the retry's row
 
@@ -181,6 +159,34 @@ sorted-by a (k ∷ ks) o zero (suc j) h l = sorted-from (k .key) ks (o .1) j (om
 sorted-by a (k ∷ ks) o (suc i) zero h l = absurd (not-suc-le-zero h)
 sorted-by a (k ∷ ks) o (suc i) (suc j) h l = sorted-by (k .key) ks (o .1) i j (omega arith) (omega arith)
 
+-- ---- what "first at or above" and "first above" name, where keys never fall
+
+module _ (target : Key) (rows : List Keyed) (o : NeverFall [] rows) (i : ℕ) (here : i < length rows) where
+  keys-many : length (keysOf rows) ≡ length rows
+  keys-many = length-map rows (λ (k : Keyed). k .key)
+
+  pub first-splits : (i < firstAtOrAbove target (keysOf rows) → below (getD (keysOf rows) i []) target ≡ true)
+      × (firstAtOrAbove target (keysOf rows) ≤ i → below (getD (keysOf rows) i []) target ≡ false)
+  first-splits = (first-before target (keysOf rows) i, from)
+    where
+      from : firstAtOrAbove target (keysOf rows) ≤ i → below (getD (keysOf rows) i []) target ≡ false
+      from h =
+          let j : ℕ = firstAtOrAbove target (keysOf rows) in
+          let up : AtMost target (getD (keysOf rows) j []) = below-false (getD (keysOf rows) j []) target (first-here target (keysOf rows) (omega (arith, keys-many))) in
+          le-below (getD (keysOf rows) i []) target (at-most-trans target (getD (keysOf rows) j []) (getD (keysOf rows) i []) up (sorted-by [] rows o j i h here))
+
+  pub last-splits : (i < firstAbove target (keysOf rows) → below target (getD (keysOf rows) i []) ≡ false)
+      × (firstAbove target (keysOf rows) ≤ i → below target (getD (keysOf rows) i []) ≡ true)
+  last-splits = (above-before target (keysOf rows) i, from)
+    where
+      from : firstAbove target (keysOf rows) ≤ i → below target (getD (keysOf rows) i []) ≡ true
+      from h =
+          let j : ℕ = firstAbove target (keysOf rows) in
+          let rise = sorted-by [] rows o j i h here in
+          ⊎-elim (λ e. e)
+          (λ e. absurd (clash (above-here target (keysOf rows) (omega (arith, keys-many))) (le-below target (getD (keysOf rows) j []) (at-most-trans (getD (keysOf rows) j []) (getD (keysOf rows) i []) target rise (below-false target (getD (keysOf rows) i []) e)))))
+          (bool-cases (below target (getD (keysOf rows) i [])))
+
 key-at : (ks : List Keyed) (n : ℕ) (k : Keyed) (rest : List Keyed) → drop n ks ≡ k ∷ rest → getD (keysOf ks) n [] ≡ k .key
 key-at [] zero k rest e = absurd (let z : _≡_ {A = ℕ} 0 1 = cc in omega arith)
 key-at [] (suc n) k rest e = absurd (let z : _≡_ {A = ℕ} 0 1 = cc in omega arith)
@@ -196,16 +202,6 @@ first-given b room c k ks last w = go c (k ∷ ks) last w refl
     go c xs last (stands c₀) e = absurd (let z : _≡_ {A = ℕ} 0 1 = cc in omega arith)
     go c xs last (gives c₀ c′ c″ x ys p w) e = let s : x ≡ k = cc in (c′, rw (← s) p)
 
--- the row after the seek, when a row has the target as its key: it is the first such row
-pub record Found (b : List ℕ) (target : Key) (rows : List Keyed) (room : ℕ) (c : Cursor) : Type 0 where
-  pub k : Keyed
-  pub rest : List Keyed
-  pub moved : Cursor
-  pub gives-it : next c b room ≡ ok (stepIs moved (found (k .row) (k .key)))
-  pub has-it : k .key ≡ target
-  pub stands-first : drop (firstAtOrAbove target (keysOf rows)) rows ≡ k ∷ rest
-  pub none-before : (j : ℕ) → j < firstAtOrAbove target (keysOf rows) → getD (keysOf rows) j [] ≡ target → ⊥
-
 module _ (b : List ℕ) (n : ℕ) (t : Trailer) (rows : List Keyed) (q : Rows b n t rows) (target : Key) (room : ℕ) (f : RoomFor room rows) where
   count : length (keysOf rows) ≡ length rows
   count = length-map rows (λ (k : Keyed). k .key)
@@ -213,8 +209,10 @@ module _ (b : List ℕ) (n : ℕ) (t : Trailer) (rows : List Keyed) (q : Rows b 
   below-before : (j : ℕ) → j < firstAtOrAbove target (keysOf rows) → below (getD (keysOf rows) j []) target ≡ true
   below-before j h = first-before target (keysOf rows) j h
 
-  pub retry-present : (i : ℕ) → i < length rows → getD (keysOf rows) i [] ≡ target → Found b target rows room (sought-up b n t rows q target room f .c)
-  retry-present i h e = ⊎-elim (λ l. here (l .0) (l .2)) (λ l. absurd (late (l .0))) (sought-up b n t rows q target room f .landed)
+  pub retry-present : (i : ℕ) → i < length rows → getD (keysOf rows) i [] ≡ target → FoundFirst b target rows room (sought-up b n t rows q target room f .c)
+  retry-present i h e =
+      let s = sought-up b n t rows q target room f in
+      ⊎-elim (λ l. here (l .0) (s .walked)) (λ l. absurd (late (l .0))) (s .over)
     where
       first : ℕ
       first = firstAtOrAbove target (keysOf rows)
@@ -232,11 +230,11 @@ module _ (b : List ℕ) (n : ℕ) (t : Trailer) (rows : List Keyed) (q : Rows b 
       late z = omega (arith, no-later)
 
       here : firstAtOrAbove target (keysOf rows) < length rows → WalksAll b room (sought-up b n t rows q target room f .c) (drop (firstAtOrAbove target (keysOf rows)) rows)
-          → Found b target rows room (sought-up b n t rows q target room f .c)
+          → FoundFirst b target rows room (sought-up b n t rows q target room f .c)
       here l w = made (drop (firstAtOrAbove target (keysOf rows)) rows) refl w
         where
           made : (ks : List Keyed) → drop (firstAtOrAbove target (keysOf rows)) rows ≡ ks → WalksAll b room (sought-up b n t rows q target room f .c) ks
-              → Found b target rows room (sought-up b n t rows q target room f .c)
+              → FoundFirst b target rows room (sought-up b n t rows q target room f .c)
           made [] z w = absurd (omega (arith, ap length z, length-drop (firstAtOrAbove target (keysOf rows)) rows))
           made (k ∷ ks) z w =
               let g = first-given b room (sought-up b n t rows q target room f .c) k ks (w .last) (w .walks) in
@@ -255,7 +253,9 @@ module _ (b : List ℕ) (n : ℕ) (t : Trailer) (rows : List Keyed) (q : Rows b 
 
   pub retry-absent : (k : Keyed) (moved : Cursor) → next (sought-up b n t rows q target room f .c) b room ≡ ok (stepIs moved (found (k .row) (k .key))) → k .key ≡ target
       → (i : ℕ) × (i < length rows) × (getD (keysOf rows) i [] ≡ target)
-  retry-absent k moved e is = ⊎-elim (λ l. here (l .0) (l .2)) (λ l. absurd (never (l .1))) (sought-up b n t rows q target room f .landed)
+  retry-absent k moved e is =
+      let s = sought-up b n t rows q target room f in
+      ⊎-elim (λ l. here (l .0) (s .walked)) (λ l. absurd (never (l .1))) (s .over)
     where
       here : firstAtOrAbove target (keysOf rows) < length rows → WalksAll b room (sought-up b n t rows q target room f .c) (drop (firstAtOrAbove target (keysOf rows)) rows)
           → (i : ℕ) × (i < length rows) × (getD (keysOf rows) i [] ≡ target)
@@ -318,10 +318,6 @@ restarts-few b t regions q h =
     omega (arith, short-small b (t .size + 2 * (t .count - 1)) h)
 
 -- ---- a finished block is accepted exactly when its keys never fall
-
-abbrev pub RowsNeverFall : Key → List Row → Type 0
-RowsNeverFall before [] = Unit {0}
-RowsNeverFall before (r ∷ rs) = (mayFollow before (r .key) ≡ true) × RowsNeverFall (r .key) rs
 
 same-keys : (d : List ℕ) (k : Keyed) (r : Row) → contentOf d k ≡ plainRow r → k .key ≡ r .key
 same-keys d k r e = ap (λ (x : Row). x .key) e

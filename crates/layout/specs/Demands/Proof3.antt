@@ -11,27 +11,27 @@ use borrow.Author.Tests.{le-ltb, ltb-false}
 use Rattle.layout.specs.Answer.{Res, ok, refuse, bind, guard}
 use Rattle.layout.specs.Limits.{maxKey, maxValue}
 use Rattle.layout.specs.Key.{Key}
-use Rattle.layout.specs.Row.{Fields, Row, valueOf, rowBytes, keyLengthTests, lengthTests, encodeRow}
+use Rattle.layout.specs.Row.{Fields, Row, valueOf, rowBytes, keyLengthTests, lengthTests, encodeRow, plain, SameRow, Typed, plainRow}
 use Rattle.layout.specs.RowRead.{RowRead, rowAt, readRow, decodeRow, keyLength, keyOf, fieldsOf}
 use Rattle.layout.specs.Block.{blockBytes, offsets}
 use Rattle.layout.specs.Trailer.{Trailer, trailerOf, dataOf, Region, regionOf, allOffsets}
 use Rattle.layout.specs.Builder.{blockAfter}
 use Rattle.layout.specs.Cursor.{ascending, descending, Cursor, opened, openBlock, Keyed, keyed}
-use Rattle.layout.specs.Reads.{regionsRows, Reads, allRows, AllOf}
-use Rattle.layout.specs.Demands.Runs.{Held, Call, buildOf, Ran, Finishes, RoomFor, backwards}
-use Rattle.layout.specs.Demands.RunsProof.{made-ran, made-finishes, WalksAll, walks-before, walks-after}
+use Rattle.layout.specs.Reads.{regionsRows, Reads, allRows, AllOf, contentOf}
+use Rattle.layout.specs.Demands.Runs.{Held, Call, buildOf, Ran, Finishes, RoomFor, backwards, WalksAll, KeysFit}
+use Rattle.layout.specs.Demands.RunsProof.{made-ran, made-finishes, walks-before, walks-after}
 use Rattle.layout.specs.Laws.Answer.{bind-then, guard-then, ok-inj}
-use Rattle.layout.specs.Laws.Row.{FieldsOk, KeyOk, plain, SameRow, prefix-free}
+use Rattle.layout.specs.Laws.Row.{FieldsOk, KeyOk, prefix-free}
 use Rattle.layout.specs.Laws.Tells.{RowEnds, readRow-ends, keyLengthTests-tells}
 use Rattle.layout.specs.Laws.Local.{readRow-local}
 use Rattle.layout.specs.Laws.Carry.{keyOf-length}
 use Rattle.layout.specs.Laws.Block.{RowOk, AllOk, AllFit}
 use Rattle.layout.specs.Laws.Cursor.{open-good}
-use Rattle.layout.specs.Laws.Made.{Typed, Made}
+use Rattle.layout.specs.Laws.Made.{Made}
 use Rattle.layout.specs.Laws.Reads.{rows-all}
 use Rattle.layout.specs.Laws.Ascend.{opened-before}
 use Rattle.layout.specs.Laws.Descend.{opened-after}
-use Rattle.layout.specs.Laws.Laid.{contentOf, plainRow, LaidBlock, laid-block}
+use Rattle.layout.specs.Laws.Laid.{LaidBlock, laid-block}
 
 -- ---- a run finishes
 
@@ -58,6 +58,14 @@ module _ (size n : ℕ) (calls : List Call) (rows : List Row) (end : Held) (ran 
       laid [] s a o = absurd (omega arith)
       laid (r ∷ rs) s a o = laid-block n r rs a o
 
+-- no accepted key is longer than the key limit
+pub ran-fits : (size n : ℕ) (calls : List Call) (rows : List Row) (end : Held) → Ran size n calls rows end → KeysFit maxKey rows
+ran-fits size n calls rows end ran = go rows (made-ran size n calls rows end ran .rows-ok)
+  where
+    go : (rows : List Row) → AllOk rows → KeysFit maxKey rows
+    go [] a = tt
+    go (r ∷ rs) a = (a .0 .key-fits, go rs (a .1))
+
 -- ---- a read has one outcome
 
 reads-one : (b : List ℕ) (t₁ t₂ : Trailer) (r₁ r₂ : List (List Keyed)) → Reads b t₁ r₁ → Reads b t₂ r₂ → (t₁ ≡ t₂) × (r₁ ≡ r₂)
@@ -75,11 +83,6 @@ same-rows b n₁ n₂ rows₁ rows₂ p q =
 -- keys that are read are as long as their rows say
 abbrev Keyeds : List Keyed → Type 0
 Keyeds ks = AllOf (λ (k : Keyed). length (k .key) ≡ keyLength (k .row)) ks
-
--- a buffer no shorter than any accepted key has room for each row's
-abbrev pub KeysFit : ℕ → List Row → Type 0
-KeysFit room [] = Unit {0}
-KeysFit room (r ∷ rs) = (length (r .key) ≤ room) × KeysFit room rs
 
 rooms : (room : ℕ) (d : List ℕ) (ks : List Keyed) (rows : List Row) → map (contentOf d) ks ≡ map plainRow rows → Keyeds ks → KeysFit room rows → RoomFor room ks
 rooms room d [] rows e k f = tt

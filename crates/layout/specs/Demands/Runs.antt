@@ -6,12 +6,11 @@ use mathlib.Core.List.{List, [], _∷_, _++_}
 use lib.ListN.{length, take}
 use Rattle.layout.specs.Answer.{Res, ok, refuse}
 use Rattle.layout.specs.Key.{Key}
-use Rattle.layout.specs.Row.{Fields, Row}
+use Rattle.layout.specs.Row.{Fields, Row, Typed}
 use Rattle.layout.specs.RowRead.{keyLength}
 use Rattle.layout.specs.Builder.{Builder, newBuilder, add, stateAfter, dataAfter, placesAfter, build, blockAfter}
-use Rattle.layout.specs.Cursor.{Cursor, Keyed, keyed, found, done, Step, stepIs, next}
+use Rattle.layout.specs.Cursor.{Cursor, marked, Keyed, keyed, found, done, Step, stepIs, next}
 use Rattle.layout.specs.Reads.{AllOf}
-use Rattle.layout.specs.Laws.Made.{Typed}
 
 -- ---- a builder, over its two lent buffers
 
@@ -102,9 +101,20 @@ pub record EndsDone (b : List ℕ) (room : ℕ) (c : Cursor) (marked-one : Curso
   pub says-done : next c b room ≡ ok (stepIs marked-one done)
   pub ever-after : next marked-one b room ≡ ok (stepIs marked-one done)
 
--- a key buffer no shorter than any key
+-- these rows, and then "done"
+pub record WalksAll (b : List ℕ) (room : ℕ) (c : Cursor) (rows : List Keyed) : Type 0 where
+  pub last : Cursor
+  pub walks : Walks b room c rows last
+  pub ends : EndsDone b room last (marked last)
+
+-- a key buffer no shorter than any key that is given
 abbrev pub RoomFor : ℕ → List Keyed → Type 0
 RoomFor room ks = AllOf (λ (k : Keyed). keyLength (k .row) ≤ room) ks
+
+-- nor than any accepted row's
+abbrev pub KeysFit : ℕ → List Row → Type 0
+KeysFit room [] = Unit {0}
+KeysFit room (r ∷ rs) = (length (r .key) ≤ room) × KeysFit room rs
 
 -- the last row first
 unfoldable pub backwards : List Keyed → List Keyed

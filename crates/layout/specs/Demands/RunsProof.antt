@@ -12,19 +12,19 @@ use Rattle.layout.specs.Answer.{Res, ok, refuse, bind, guard}
 use Rattle.layout.specs.Limits.{maxKey}
 use Rattle.layout.specs.Place.{splice}
 use Rattle.layout.specs.Key.{Key}
-use Rattle.layout.specs.Row.{Fields, Row}
+use Rattle.layout.specs.Row.{Fields, Row, Typed}
 use Rattle.layout.specs.RowRead.{RowRead, keyLength}
 use Rattle.layout.specs.Block.{blockRows, offsets, trailer, blockBytes}
 use Rattle.layout.specs.Trailer.{Trailer}
 use Rattle.layout.specs.Builder.{Builder, newBuilder, stateTests, presentSize, add, build, blockAfter}
 use Rattle.layout.specs.Cursor.{Cursor, marked, Keyed, keyed, found, done, stepIs, next}
-use Rattle.layout.specs.Demands.Runs.{Held, held, Call, offer, would-fit, is-empty, finish, addTo, buildOf, after, taken, accepted, run, rowsOf, TypedCall, TypedCalls, Ran, Finishes, Walks, stands, gives, EndsDone, RoomFor, backwards}
+use Rattle.layout.specs.Demands.Runs.{Held, held, Call, offer, would-fit, is-empty, finish, addTo, buildOf, after, taken, accepted, run, rowsOf, TypedCall, TypedCalls, Ran, Finishes, Walks, stands, gives, EndsDone, RoomFor, backwards, WalksAll}
 use Rattle.layout.specs.Laws.Answer.{bind-then, guard-then}
 use Rattle.layout.specs.Laws.Splice.{length-splice, take-splice}
 use Rattle.layout.specs.Laws.Trailer.{length-trailer}
 use Rattle.layout.specs.Laws.Ascend.{InRegion, Before, before-gives, before-done, marked-stays}
 use Rattle.layout.specs.Laws.Descend.{After, after-gives, after-done, FromEnd, empty, ending, from-end}
-use Rattle.layout.specs.Laws.Made.{Typed, Made, made-none, made-more, made-builds}
+use Rattle.layout.specs.Laws.Made.{Made, made-none, made-more, made-builds}
 
 -- ---- the builder
 
@@ -94,11 +94,6 @@ made-finishes n rows h m s =
     record { n = length (blockBytes n rows); answers = q .0; block-is = q .1 }
 
 -- ---- the cursor
-
-pub record WalksAll (b : List ℕ) (room : ℕ) (c : Cursor) (rows : List Keyed) : Type 0 where
-  pub last : Cursor
-  pub walks : Walks b room c rows last
-  pub ends : EndsDone b room last (marked last)
 
 pub walks-before : (b : List ℕ) (t : Trailer) (room : ℕ) (c : Cursor) (rows : List Keyed) → Before b t c rows → RoomFor room rows → WalksAll b room c rows
 walks-before b t room c [] q f =

@@ -17,7 +17,7 @@ use Rattle.layout.specs.RowRead.{RowRead, readRow, rowAt, headAt, maySha
 use Rattle.layout.specs.Trailer.{Trailer, trailerOf, dataOf, offsetAt, Region, regionOf, allOffsets}
 use Rattle.layout.specs.Check.{Passed, passedIs, passedRow, checkRow, checkFrom, check}
 use Rattle.layout.specs.Cursor.{Keyed, keyed}
-use Rattle.layout.specs.Reads.{regionRows, regionsRows, Reads, allRows, NeverFall}
+use Rattle.layout.specs.Reads.{regionRows, regionsRows, Reads, allRows, NeverFall, Accepts}
 use Rattle.layout.specs.Laws.Answer.{bind-then, guard-then, cond-ok, ok-inj, ltb-cases, bool-cases}
 use Rattle.layout.specs.Laws.Trailer.{RegionTells, regionOf-tells, trailerOf-tells, OffsetsTell, allOffsets-tell, region-good}
 use Rattle.layout.specs.Laws.Tells.{RowEnds, readRow-ends}
@@ -275,14 +275,6 @@ start-stands b t o h =
     let tells = regionOf-tells b t 0 (q .0) (q .1) in
     let z : q .0 .start ≡ 0 = tells .from ∙ o .first in
     (q .0, q .1, z, record { used = q .1; inside = h; low = omega arith; high = omega (arith, tells .rises); carries = inr refl })
-
--- accepted: the rows are read, in order, and the answer is how many there are
-pub record Accepts (b : List ℕ) (n : ℕ) : Type 0 where
-  pub t : Trailer
-  pub regions : List (List Keyed)
-  pub reads : Reads b t regions
-  pub in-order : NeverFall [] (allRows regions)
-  pub many : n ≡ length (allRows regions)
 
 pub check-accepts : (b : List ℕ) (n : ℕ) → check b ≡ ok n → Accepts b n
 unfolding check

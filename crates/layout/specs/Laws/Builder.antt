@@ -16,11 +16,11 @@ use Rattle.layout.specs.Answer.{Res, ok, refuse, bind, guard}
 use Rattle.layout.specs.Limits.{maxKey, maxValue, maxBlock, maxInterval, maxOffset, maxRestarts, leastRow}
 use Rattle.layout.specs.Place.{splice}
 use Rattle.layout.specs.Key.{Key}
-use Rattle.layout.specs.Row.{Fields, Row, valueOf, ifSo, keyLengthTests, lengthTests}
+use Rattle.layout.specs.Row.{Fields, Row, valueOf, ifSo, keyLengthTests, lengthTests, TimeOk}
 use Rattle.layout.specs.Block.{isRestart, laidRow, rowsFrom, offsetsFrom, blockRows, offsets, trailer, blockBytes}
 use Rattle.layout.specs.Builder.{Builder, fresh, newBuilder, restartsOf, stateTests, atRestart, nextRow, presentSize, grownSize, fits, wouldFit, grown, add, dataAfter, placesAfter, build, blockAfter}
 use Rattle.layout.specs.Laws.Answer.{bind-then, guard-then, ok-inj, bool-cases, ltb-cases, eqb-cases}
-use Rattle.layout.specs.Laws.Row.{FieldsOk, TimeOk}
+use Rattle.layout.specs.Laws.Row.{FieldsOk}
 use Rattle.layout.specs.Laws.Splice.{length-splice, take-splice, take-past-splice}
 use Rattle.layout.specs.Laws.Block.{RowOk, AllOk, AllFit, lastKey, onlyIf, blockRows-snoc, offsets-snoc, lastKey-snoc, offsets-count, restartsOf-step, blockRows-least, offsets-few, laidRow-least, first-restart}
 use Rattle.layout.specs.Laws.Trailer.{length-trailer}

@@ -1,4 +1,4 @@
--- The first of a list of keys at or above a target: those before it are below, and it is not.
+-- The first of a list of keys at or above a target: those before it are below, and it is not. Likewise the first above it.
 use Prim.Native.Nat.{ℕ, zero, suc, _<_}
 use mathlib.Core.Path.{_≡_}
 use mathlib.Core.Bool.{Bool, true, false}
@@ -6,7 +6,8 @@ use mathlib.Core.List.{List, [], _∷_}
 use mathlib.Core.Logic.{⊎-elim}
 use native.Mathlib.Nat.{le-of-suc-le-suc, not-suc-le-zero}
 use lib.ListN.{length, getD}
-use Rattle.layout.specs.Key.{Key, below, leading, isBelow, firstAtOrAbove}
+use borrow.Author.Tests.{not-true, not-false}
+use Rattle.layout.specs.Key.{Key, below, leading, isBelow, notAbove, firstAtOrAbove, firstAbove}
 use Rattle.layout.specs.Laws.Answer.{bool-cases}
 
 module _ (p : Key → Bool) where
@@ -29,3 +30,11 @@ module _ (t : Key) (ks : List Key) where
   pub first-here : firstAtOrAbove t ks < length ks → below (getD ks (firstAtOrAbove t ks) []) t ≡ false
   unfolding firstAtOrAbove
   first-here h = leading-here (isBelow t) ks h
+
+  pub above-before : (i : ℕ) → i < firstAbove t ks → below t (getD ks i []) ≡ false
+  unfolding firstAbove
+  above-before i h = not-true (below t (getD ks i [])) (leading-before (notAbove t) ks i h)
+
+  pub above-here : firstAbove t ks < length ks → below t (getD ks (firstAbove t ks) []) ≡ true
+  unfolding firstAbove
+  above-here h = not-false (below t (getD ks (leading (notAbove t) ks) [])) (leading-here (notAbove t) ks h)

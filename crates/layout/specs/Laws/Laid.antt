@@ -15,26 +15,19 @@ use borrow.Author.Tests.{lt-ltb, le-ltb, lt-leb, eq-eqb, ne-eqb, ltb-true}
 use Rattle.layout.specs.Answer.{Res, ok, refuse, bind, guard}
 use Rattle.layout.specs.Limits.{maxKey, maxOffset, maxRestarts}
 use Rattle.layout.specs.Key.{Key}
-use Rattle.layout.specs.Row.{Fields, Row, rowBytes}
+use Rattle.layout.specs.Row.{Fields, Row, rowBytes, plain, plainRow}
 use Rattle.layout.specs.RowRead.{RowRead, mayShare, readRow, keyOf, fieldsOf}
 use Rattle.layout.specs.Block.{isRestart, shareOf, laidRow, rowsFrom, offsetsFrom, blockRows, offsets, trailer, blockBytes}
 use Rattle.layout.specs.Trailer.{Trailer, trailerIs, trailerOf, dataOf, offsetAt, Region, regionOf, risingFrom, allOffsets}
 use Rattle.layout.specs.Cursor.{Keyed, keyed}
-use Rattle.layout.specs.Reads.{regionRows, regionsRows, Reads, allRows}
+use Rattle.layout.specs.Reads.{regionRows, regionsRows, Reads, allRows, contentOf}
 use Rattle.layout.specs.Laws.Answer.{ltb-cases, bool-cases, clash}
 use Rattle.layout.specs.Laws.Place.{past, within}
-use Rattle.layout.specs.Laws.Row.{FieldsOk, KeyOk, plain, placesOf, readRow-law, placesOf-fields, placesOf-key}
+use Rattle.layout.specs.Laws.Row.{FieldsOk, KeyOk, placesOf, readRow-law, placesOf-fields, placesOf-key}
 use Rattle.layout.specs.Laws.Block.{RowOk, AllOk, AllFit, Shares, shares-is, shares-ok, laidRow-least, first-restart, offsets-few}
 use Rattle.layout.specs.Laws.Trailer.{RegionTells, regionOf-tells, OffsetsTell, TrailerLaid, trailer-laid, offsets-good, region-good}
 use Rattle.layout.specs.Laws.Reads.{region-over, regions-cons, allRows-none, allRows-next}
 use Rattle.layout.specs.Laws.Accept.{Stands, Next, stay, enter, end, past-row, first-here, no-more, one-more}
-
--- what a row that was read is
-abbrev pub contentOf : List ℕ → Keyed → Row
-contentOf d k = record { key = k .key; fields = fieldsOf d (k .row) }
-
-abbrev pub plainRow : Row → Row
-plainRow r = record { key = r .key; fields = plain (r .fields) }
 
 -- ---- offsets that were laid rise from the place on, and lie below the rows' end
 

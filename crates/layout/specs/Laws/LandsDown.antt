@@ -19,7 +19,7 @@ use Rattle.layout.specs.RowRead.{RowRead, readRow, keyOf}
 use Rattle.layout.specs.Trailer.{Trailer, trailerOf, dataOf, Region, regionOf}
 use Rattle.layout.specs.Cursor.{descending, Cursor, cursorIs, Keyed, keyed}
 use Rattle.layout.specs.Seek.{Found, restartKey, restartBelow, lastEqual, startDown, lastAtOrBelow, doneDown, walkDown, seekDown, Sought, soughtIs, seek}
-use Rattle.layout.specs.Reads.{regionRows, regionsRows, Reads, allRows, NeverFall}
+use Rattle.layout.specs.Reads.{regionRows, regionsRows, Reads, allRows, NeverFall, keysOf}
 use Rattle.layout.specs.Laws.Answer.{bool-cases, ltb-cases, ok-inj, clash}
 use Rattle.layout.specs.Laws.Key.{AtMost, at-most-refl, at-most-trans, below-false, le-below, below-le, same-is}
 use Rattle.layout.specs.Laws.Trailer.{RegionTells, regionOf-tells, trailerOf-tells}
@@ -29,7 +29,7 @@ use Rattle.layout.specs.Laws.Seek.{below-is, start-past, start-earlier, 
 use Rattle.layout.specs.Laws.Reads.{region-at, region-over, endsAt, RegionsAre, next as next-region, regions-are, regions-none, allRows-none, allRows-next}
 use Rattle.layout.specs.Laws.Descend.{Front, none, then, After, region-some, reaches-end}
 use Rattle.layout.specs.Laws.Split.{Split, split-at, Searched, searched}
-use Rattle.layout.specs.Laws.Sorted.{keysOf, AllPass, leading-all, leading-most, leading-step, leading-stop, leading-within, leading-whole, rises, none-above, above-on, falls-on, falls-first}
+use Rattle.layout.specs.Laws.Sorted.{AllPass, leading-all, leading-most, leading-step, leading-stop, leading-within, leading-whole, rises, none-above, above-on, falls-on, falls-first}
 
 -- ---- the read of a whole region
 

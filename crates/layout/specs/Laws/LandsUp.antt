@@ -20,7 +20,7 @@ use Rattle.layout.specs.RowRead.{RowRead, KeyRead, readRow, readKey, key
 use Rattle.layout.specs.Trailer.{Trailer, trailerOf, dataOf, offsetAt, Region, regionOf, allOffsets}
 use Rattle.layout.specs.Cursor.{ascending, Cursor, cursorIs, Keyed, keyed}
 use Rattle.layout.specs.Seek.{Found, restartKey, restartBelow, search, searchIn, searchRestarts, Stop, stopIs, walkRegion, doneUp, walkUp, seekUp, Sought, soughtIs, seek}
-use Rattle.layout.specs.Reads.{regionRows, regionsRows, Reads, allRows, NeverFall}
+use Rattle.layout.specs.Reads.{regionRows, regionsRows, Reads, allRows, NeverFall, keysOf}
 use Rattle.layout.specs.Laws.Answer.{bool-cases, ltb-cases, ok-inj}
 use Rattle.layout.specs.Laws.Trailer.{RegionTells, regionOf-tells, trailerOf-tells}
 use Rattle.layout.specs.Laws.Tells.{RowEnds, readRow-ends, keyPart, readKey-of-readRow}
@@ -30,7 +30,7 @@ use Rattle.layout.specs.Laws.Seek.{restart-is, below-is, up-from, seek-i
 use Rattle.layout.specs.Laws.Reads.{region-at, region-over, RegionsAre, next as next-region, regions-are, regions-none, regions-cons, allRows-none, allRows-next}
 use Rattle.layout.specs.Laws.Ascend.{InRegion, Before}
 use Rattle.layout.specs.Laws.Descend.{Front, none, then, front-more, allRows-end, region-some}
-use Rattle.layout.specs.Laws.Sorted.{keysOf, AllPass, leading-all, leading-most, leading-step, leading-stop, leading-within, leading-whole, all-below}
+use Rattle.layout.specs.Laws.Sorted.{AllPass, leading-all, leading-most, leading-step, leading-stop, leading-within, leading-whole, all-below}
 
 -- ---- the walk of one region
 

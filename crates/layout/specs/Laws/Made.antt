@@ -16,22 +16,16 @@ use Rattle.layout.specs.Answer.{Res, ok, refuse, bind, guard}
 use Rattle.layout.specs.Limits.{maxKey, maxValue, maxBlock, maxInterval, maxOffset, maxRestarts, leastRow}
 use Rattle.layout.specs.Place.{splice}
 use Rattle.layout.specs.Key.{Key}
-use Rattle.layout.specs.Row.{Fields, Row, valueOf, ifSo, keyLengthTests, lengthTests}
+use Rattle.layout.specs.Row.{Fields, Row, valueOf, ifSo, keyLengthTests, lengthTests, Typed}
 use Rattle.layout.specs.Block.{isRestart, laidRow, rowsFrom, offsetsFrom, blockRows, offsets, trailer, blockBytes}
 use Rattle.layout.specs.Builder.{Builder, fresh, newBuilder, restartsOf, stateTests, atRestart, nextRow, presentSize, grownSize, fits, wouldFit, grown, add, dataAfter, placesAfter, build, blockAfter}
 use Rattle.layout.specs.Laws.Answer.{bind-then, guard-then, ok-inj, bool-cases, eqb-cases}
-use Rattle.layout.specs.Laws.Row.{FieldsOk, TimeOk}
+use Rattle.layout.specs.Laws.Row.{FieldsOk}
 use Rattle.layout.specs.Laws.Tells.{keyLengthTests-tells}
 use Rattle.layout.specs.Laws.Splice.{length-splice, take-past-splice}
 use Rattle.layout.specs.Laws.Block.{RowOk, AllOk, AllFit, lastKey, onlyIf, blockRows-snoc, offsets-snoc, lastKey-snoc, offsets-count, blockRows-least, offsets-few}
 use Rattle.layout.specs.Laws.Builder.{StateOk, state-good, build-good}
 use Rattle.layout.specs.Laws.Trailer.{length-trailer}
-
--- the numbers of a row fit the types that they are offered in
-pub record Typed (f : Fields) : Type 0 where
-  pub seq-fits : f .seq < 2 ^ 64
-  pub expire-fits : TimeOk (f .expire)
-  pub create-fits : TimeOk (f .create)
 
 pub record Made (n : ℕ) (rs : List Row) (b : Builder) (bytes places : List ℕ) : Type 0 where
   pub interval-is : b .interval ≡ n

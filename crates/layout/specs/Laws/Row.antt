@@ -16,7 +16,7 @@ use Rattle.layout.specs.Varint.{varint, varintLength}
 use Rattle.layout.specs.Fixed.{big, bits}
 use Rattle.layout.specs.Place.{varintAt, fixedAt}
 use Rattle.layout.specs.Key.{Key}
-use Rattle.layout.specs.Row.{Kind, value, tombstone, merge, Time, Absent, At, Fields, Row, kept, keptLength, valueOf, ifSo, present, flagsOf, timeBytes, rowBytes, rowSize, keyLengthTests}
+use Rattle.layout.specs.Row.{Kind, value, tombstone, merge, Time, Absent, At, Fields, Row, kept, keptLength, valueOf, ifSo, present, flagsOf, timeBytes, rowBytes, rowSize, keyLengthTests, TimeOk, plain, SameRow}
 use Rattle.layout.specs.RowRead.{Lengths, lengthsIs, lengthsAt, valueAt, seqAt, mayShare, headAt, Flags, flagsIs, flagsAt, heldAs, Body, bodyIs, bodyAt, TimeAt, timeIs, timeAt, Times, timesIs, timesAt, RowRead, rowIs, rowAt, readRow, keyOf, kindOf, heldBytes, fieldsOf, rowOf}
 use Rattle.layout.specs.Laws.Answer.{ok-inj}
 use Rattle.layout.specs.Laws.Varint.{length-varint, varint-few}
@@ -24,10 +24,6 @@ use Rattle.layout.specs.Laws.Fixed.{length-big, bits-fit, unbits-bits}
 use Rattle.layout.specs.Laws.Place.{past, within, byte-at, varintAt-law, fixedAt-law}
 
 -- ---- what may be laid
-
-abbrev pub TimeOk : Time → Type 0
-TimeOk Absent = Unit {0}
-TimeOk (At t) = mag t < 2 ^ 63
 
 -- the numbers of a row fit their types, and its value its limit
 pub record FieldsOk (f : Fields) : Type 0 where
@@ -40,10 +36,6 @@ pub record FieldsOk (f : Fields) : Type 0 where
 pub record KeyOk (shared suffixLen : ℕ) : Type 0 where
   pub some : 1 ≤ shared + suffixLen
   pub fits : shared + suffixLen ≤ maxKey
-
--- the row as it is read back: a tombstone's value is empty
-abbrev pub plain : Fields → Fields
-plain f = record { kind = f .kind; val = valueOf f; seq = f .seq; expire = f .expire; create = f .create }
 
 -- ---- lengths
 
@@ -239,13 +231,6 @@ module _ (d : List ℕ) (at shared : ℕ) (suffix : List ℕ) (f : Fields) (post
   placesOf-key prev = rw (body-here, take-at suffix (valueOf f ++ afterValue f post) (length suffix) refl)
 
 -- ---- two rows after one previous key, of which one's bytes begin the other's (t₂ empty), or both begin one list, are one
-
-pub record SameRow (s₁ : ℕ) (x₁ : List ℕ) (f₁ : Fields) (t₁ : List ℕ) (s₂ : ℕ) (x₂ : List ℕ) (f₂ : Fields) (t₂ : List ℕ) : Type 0 where
-  pub shares : s₁ ≡ s₂
-  pub suffixes : x₁ ≡ x₂
-  pub fields : plain f₁ ≡ plain f₂
-  pub bytes : rowBytes s₁ x₁ f₁ ≡ rowBytes s₂ x₂ f₂
-  pub tails : t₁ ≡ t₂
 
 pub prefix-free : (prevLen : ℕ) (restart : Bool) (s₁ : ℕ) (x₁ : List ℕ) (f₁ : Fields) (t₁ : List ℕ) (s₂ : ℕ) (x₂ : List ℕ) (f₂ : Fields) (t₂ : List ℕ)
     → s₁ ≤ mayShare restart prevLen → s₂ ≤ mayShare restart prevLen → KeyOk s₁ (length x₁) → KeyOk s₂ (length x₂) → FieldsOk f₁ → FieldsOk f₂

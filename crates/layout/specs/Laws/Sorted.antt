@@ -10,12 +10,9 @@ use lib.ListN.{length, take, drop, length-append}
 use borrow.Author.Tests.{not-true}
 use Rattle.layout.specs.Key.{Key, below, mayFollow, leading, isBelow, notAbove}
 use Rattle.layout.specs.Cursor.{Keyed}
-use Rattle.layout.specs.Reads.{NeverFall, AllOf}
+use Rattle.layout.specs.Reads.{NeverFall, AllOf, keysOf}
 use Rattle.layout.specs.Laws.Answer.{bool-cases, clash}
 use Rattle.layout.specs.Laws.Key.{AtMost, at-most-refl, at-most-trans, below-false, le-below, below-le, below-trans}
-
-abbrev pub keysOf : List Keyed → List Key
-keysOf ks = map (λ (k : Keyed). k .key) ks
 
 -- ---- rows that all pass a test
 

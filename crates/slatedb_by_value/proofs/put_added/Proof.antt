@@ -1,6 +1,7 @@
 -- A builder is put back: its words are those of its view, and its last key's bytes are all copied.
 use mathlib.Core.Path.{_≡_}
 use lib.ListN.{length}
+use Rattle.layout.specs.Limits.{maxKey}
 use Rattle.block_words.proofs.Laws.{copied-whole}
 use Rattle.row_words.proofs.Laws.{stored}
 use borrow.Author.Needs.{needs}
@@ -25,7 +26,7 @@ same-length-2 c = search needs
 returns : tie.Need-returns
 returns c =
     let s = c .before .before .before .before .before .before .before .before .before .before .before .before .before .before in
-    let whole : length (s .args .t3 .«last_key») ≡ 1024 = search needs in
+    let whole : length (s .args .t3 .«last_key») ≡ maxKey = search needs in
     record {
       words = rw (c .before .before .before .before .before .before .before .before .before .before .state-of .ensures) at (stored (s .pre .0) (c .before .before .before .before .before .before .before .before .before .put-state .ensures));
       bytes = copied-whole (s .args .t3 .«last_key») (s .pre .1) whole (c .before .before .copy-in .ensures);

@@ -2,12 +2,13 @@
 -- back; a refused one left the key as it was, and so the builder.
 use mathlib.Core.Path.{_≡_}
 use lib.ListN.{length}
+use Rattle.layout.specs.Limits.{maxKey}
 use borrow.Author.Needs.{needs}
 use Rattle.block_v2.proofs.Writes.{adds-not, adds-good}
 use Rattle.block_v2.proofs.BlockBuilderV2.add.Statement.{statement}
 use Rattle.block_v2.proofs.BlockBuilderV2.add.Tie as tie
 
-long : (c : tie.Start) → length (c .args .t1 .«last_key») ≡ 1024
+long : (c : tie.Start) → length (c .args .t1 .«last_key») ≡ maxKey
 long c = search needs
 
 state-of-requires : tie.Need-state-of-requires

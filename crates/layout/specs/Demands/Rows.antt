@@ -1,0 +1,80 @@
+-- What the demands say of rows: of one row that is decoded, of the rows that an accepted block has, of walks through them, and of seeks.
+use Prim.Native.Nat.{ℕ, _<_}
+use mathlib.Core.Path.{_≡_}
+use mathlib.Core.Bool.{true, false}
+use mathlib.Core.List.{List, [], _∷_, _++_}
+use mathlib.Core.Logic.{_⊎_}
+use lib.ListN.{length, take, drop, getD}
+use Rattle.layout.specs.Answer.{ok}
+use Rattle.layout.specs.Key.{Key, mayFollow, firstAtOrAbove, firstAbove}
+use Rattle.layout.specs.Row.{Fields, Row, plain}
+use Rattle.layout.specs.RowRead.{RowRead, decodeRow, keyOf, fieldsOf}
+use Rattle.layout.specs.Trailer.{Trailer}
+use Rattle.layout.specs.Cursor.{ascending, descending, Cursor, opened, openBlock, Keyed, found, stepIs, next}
+use Rattle.layout.specs.Seek.{doneUp, doneDown, soughtIs, seek}
+use Rattle.layout.specs.Reads.{Reads, allRows, NeverFall, keysOf}
+use Rattle.layout.specs.Demands.Runs.{WalksAll, backwards}
+
+-- ---- one row
+
+-- the bytes w, whatever bytes follow, decode to these fields (a tombstone's value is empty) and end where w ends; the full key is the shared bytes of the previous key, then the suffix
+pub record DecodesBack (prevLen shared : ℕ) (suffix : List ℕ) (f : Fields) (w post : List ℕ) : Type 0 where
+  pub row : RowRead
+  pub reads : decodeRow (w ++ post) prevLen ≡ ok row
+  pub ends : row .next ≡ length w
+  pub fields : fieldsOf (w ++ post) row ≡ plain f
+  pub key : (prev : Key) → keyOf (w ++ post) prev row ≡ take shared prev ++ suffix
+
+-- ---- the rows of an accepted block
+
+-- named by their places, with their keys; n is how many they are
+pub record Rows (b : List ℕ) (n : ℕ) (t : Trailer) (rows : List Keyed) : Type 0 where
+  pub regions : List (List Keyed)
+  pub reads : Reads b t regions
+  pub are : rows ≡ allRows regions
+  pub in-order : NeverFall [] rows
+  pub many : n ≡ length rows
+
+-- opened and stepped through, both ways
+pub record Walked (b : List ℕ) (t : Trailer) (room : ℕ) (rows : List Keyed) : Type 0 where
+  pub opens-up : openBlock b ascending ≡ ok (opened ascending t)
+  pub opens-down : openBlock b descending ≡ ok (opened descending t)
+  pub forwards : WalksAll b room (opened ascending t) rows
+  pub back : WalksAll b room (opened descending t) (backwards rows)
+
+-- the keys of rows that were offered never fall
+abbrev pub RowsNeverFall : Key → List Row → Type 0
+RowsNeverFall before [] = Unit {0}
+RowsNeverFall before (r ∷ rs) = (mayFollow before (r .key) ≡ true) × RowsNeverFall (r .key) rs
+
+-- ---- seeks
+
+-- ascending: the rows walked after the seek are those from the first at or above the target on; it says "done", by the mark, exactly when there is none
+pub record SoughtUp (b : List ℕ) (t : Trailer) (target : Key) (rows : List Keyed) (room : ℕ) : Type 0 where
+  pub c : Cursor
+  pub reads : ℕ
+  pub is : seek ascending b target ≡ ok (soughtIs c reads)
+  pub walked : WalksAll b room c (drop (firstAtOrAbove target (keysOf rows)) rows)
+  pub over :
+      ((firstAtOrAbove target (keysOf rows) < length rows) × (c .mark ≡ false))
+      ⊎ ((firstAtOrAbove target (keysOf rows) ≡ length rows) × (c ≡ doneUp t))
+
+-- descending: the rows walked after the seek are those before the first above the target, the last of them first; it says "done" exactly when there is none
+pub record SoughtDown (b : List ℕ) (t : Trailer) (target : Key) (rows : List Keyed) (room : ℕ) : Type 0 where
+  pub c : Cursor
+  pub reads : ℕ
+  pub is : seek descending b target ≡ ok (soughtIs c reads)
+  pub walked : WalksAll b room c (backwards (take (firstAbove target (keysOf rows)) rows))
+  pub over :
+      ((0 < firstAbove target (keysOf rows)) × (c .mark ≡ false))
+      ⊎ ((firstAbove target (keysOf rows) ≡ 0) × (c ≡ doneDown))
+
+-- the row that the step after the seek gives has the target as its key, and no row before it has
+pub record FoundFirst (b : List ℕ) (target : Key) (rows : List Keyed) (room : ℕ) (c : Cursor) : Type 0 where
+  pub k : Keyed
+  pub rest : List Keyed
+  pub moved : Cursor
+  pub gives-it : next c b room ≡ ok (stepIs moved (found (k .row) (k .key)))
+  pub has-it : k .key ≡ target
+  pub stands-first : drop (firstAtOrAbove target (keysOf rows)) rows ≡ k ∷ rest
+  pub none-before : (j : ℕ) → j < firstAtOrAbove target (keysOf rows) → getD (keysOf rows) j [] ≡ target → ⊥
