@@ -25,6 +25,7 @@ pub mod Parts
 pub mod Check
 pub mod Cursor
 pub mod Seek
+pub mod Refusals
 pub mod Restart
 pub mod Reads
 pub mod Ascend
