@@ -26,6 +26,7 @@ pub mod Check
 pub mod Cursor
 pub mod Seek
 pub mod Refusals
+pub mod Given
 pub mod Restart
 pub mod Reads
 pub mod Ascend

@@ -16,6 +16,7 @@ use Rattle.layout.specs.Builder.{Builder, keptBuilder, wouldFit, add, st
 use Rattle.layout.specs.Cursor.{Direction, Cursor, keptCursor, found, stepIs, next, cursorAfter, keyAfter, isEmpty}
 use Rattle.layout.specs.Seek.{seek, soughtAfter}
 use Rattle.layout.specs.Laws.Splice.{take-past-splice, drop-past-splice}
+use Rattle.layout.specs.Laws.Given.{next-within}
 
 -- ---- a refused call changes nothing
 
@@ -64,12 +65,13 @@ module _ (d : Direction) (region at keyLen : ℕ) (mark : Bool) (array₁ array�
   stale-bytes-seek target = rw agree
 
 -- the key bytes that a step gives stand at the start of the lent buffer, whatever it held; its other bytes stay
-pub given-bytes : (out : List ℕ) (c : Cursor) (r : RowRead) (key : Key) → length key ≤ length out
-    → (take (length key) (keyAfter (ok (stepIs c (found r key))) out) ≡ key) × (drop (length key) (keyAfter (ok (stepIs c (found r key))) out) ≡ drop (length key) out)
-given-bytes out c r key h =
+pub given-bytes : (c : Cursor) (b out : List ℕ) (moved : Cursor) (r : RowRead) (key : Key) → length (c .key) ≡ c .keyLen → next c b (length out) ≡ ok (stepIs moved (found r key))
+    → let after = keyAfter (next c b (length out)) out in (take (length key) after ≡ key) × (drop (length key) after ≡ drop (length key) out)
+given-bytes c b out moved r key whole e =
     let n : 0 + length key ≡ length key = zero-add (length key) in
+    let within : length key ≤ length out = next-within c b (length out) (stepIs moved (found r key)) whole e in
     let fits : 0 + length key ≤ length out = omega arith in
-    (rw n at (take-past-splice out 0 key fits), rw n at (drop-past-splice out 0 key fits))
+    rw e (rw n at (take-past-splice out 0 key fits), rw n at (drop-past-splice out 0 key fits))
 
 -- ---- a builder's
 

@@ -14,11 +14,12 @@ use Rattle.layout.specs.Key.{Key, below, firstAtOrAbove, firstAbove}
 use Rattle.layout.specs.Row.{Fields, Row, encodeRow, Typed}
 use Rattle.layout.specs.Trailer.{Trailer}
 use Rattle.layout.specs.Check.{check}
-use Rattle.layout.specs.Cursor.{ascending, Cursor, Keyed, found, stepIs, next}
+use Rattle.layout.specs.Cursor.{ascending, descending, Cursor, opened, Keyed, found, stepIs, next}
 use Rattle.layout.specs.Seek.{Sought, soughtIs, seek}
 use Rattle.layout.specs.Reads.{Accepts, keysOf}
-use Rattle.layout.specs.Demands.Runs.{Held, Call, Ran, Finishes, RoomFor}
+use Rattle.layout.specs.Demands.Runs.{Held, Call, Ran, Finishes, RoomFor, backwards, GivesFirst}
 use Rattle.layout.specs.Demands.Rows.{DecodesBack, Rows, Walked, SoughtUp, SoughtDown, FoundFirst, RowsNeverFall}
+use Rattle.layout.specs.Demands.RunsProof.{walks-first}
 use Rattle.layout.specs.Demands.Proof3.{encode-tells, ran-laid}
 use Rattle.layout.specs.Demands.Proof2.{decodes-back, rows-walked, accepted-rows, rows-room, sought-up, sought-down, first-splits, last-splits, retry-present, retry-absent, restarts-few, laid-accepted, accepted-laid}
 use Rattle.layout.specs.Laws.Answer.{ok-inj}
@@ -46,6 +47,12 @@ module _ (b : List ℕ) (n : ℕ) (t : Trailer) (rows : List Keyed) (q : Rows b 
   -- If its elements are bytes, it has at most 5,042 restarts.
   pub restarts-at-most : ((i : ℕ) → getD b i 0 < 256) → t .count ≤ maxRestarts
   restarts-at-most bytes = restarts-few b t (q .regions) (q .reads) bytes
+
+  -- Steps with key buffers of any lengths, refused ones among them, give its rows in order, or reversed: none twice, and none left out before one that is given.
+  pub walk-any-buffers : (rooms : List ℕ) → GivesFirst b (opened ascending t) rooms rows × GivesFirst b (opened descending t) rooms (backwards rows)
+  walk-any-buffers rooms =
+      let w = rows-walked b n t rows q maxKey room-enough in
+      (walks-first b maxKey rooms (opened ascending t) rows (w .forwards), walks-first b maxKey rooms (opened descending t) (backwards rows) (w .back))
 
   -- Its keys never fall, so "the first at or above the target" parts its rows: those before it are below the target, and no row from it on is.
   pub first-at-or-above : (target : Key) (i : ℕ) → i < length rows

@@ -15,7 +15,8 @@ use Rattle.layout.specs.Block.{blockBytes}
 use Rattle.layout.specs.Trailer.{Trailer, dataOf}
 use Rattle.layout.specs.Cursor.{ascending, descending, opened, openBlock, Keyed}
 use Rattle.layout.specs.Reads.{contentOf}
-use Rattle.layout.specs.Demands.Runs.{Held, Call, Ran, Finishes, backwards, WalksAll, KeysFit}
+use Rattle.layout.specs.Demands.Runs.{Held, Call, Ran, Finishes, backwards, WalksAll, GivesFirst, KeysFit}
+use Rattle.layout.specs.Demands.RunsProof.{walks-first}
 use Rattle.layout.specs.Demands.Proof3.{ran-finishes, ran-block, ran-laid, ran-fits, same-rows, ReadsBack, laid-reads-back, Encoded, encode-tells, encoded-differ, decoded-differ}
 
 -- After at least one accepted row, build answers a block, never 6 or 18: the block of the accepted rows.
@@ -48,6 +49,14 @@ module _ (size interval : ℕ) (calls : List Call) (rows : List Row) (end : Held
   pub reads-backwards : (t : Trailer) × (given : List Keyed) × (openBlock block descending ≡ ok (opened descending t)) × WalksAll block room (opened descending t) (backwards given)
       × (map (contentOf (dataOf block t)) given ≡ map plainRow rows)
   reads-backwards = (all-back .t, all-back .given, all-back .opens-down, all-back .back, all-back .are)
+
+-- Whatever key buffers the steps are lent, refused steps among them, they give the accepted rows in order, or reversed: none twice, and none left out before one that is given.
+pub reads-any-buffers : (size interval : ℕ) (calls : List Call) (rows : List Row) (end : Held) (block : List ℕ) → Ran size interval calls rows end → 1 ≤ length rows → Finishes end block
+    → (rooms : List ℕ) → (t : Trailer) × (given : List Keyed) × GivesFirst block (opened ascending t) rooms given × GivesFirst block (opened descending t) rooms (backwards given)
+    × (map (contentOf (dataOf block t)) given ≡ map plainRow rows)
+reads-any-buffers size interval calls rows end block ran some f rooms =
+    let r = laid-reads-back block interval maxKey rows (ran-laid size interval calls rows end ran some block f) (ran-fits size interval calls rows end ran) in
+    (r .t, r .given, walks-first block maxKey rooms (opened ascending (r .t)) (r .given) (r .forwards), walks-first block maxKey rooms (opened descending (r .t)) (backwards (r .given)) (r .back), r .are)
 
 -- After one previous key, of two rows that `encode` accepts: where one's bytes begin the other's, they are one row, and nothing follows.
 pub row-begins-no-other : (prevLen : ℕ) (shared₁ : ℕ) (suffix₁ : List ℕ) (f₁ : Fields) (room₁ : ℕ) (w₁ : List ℕ) (shared₂ : ℕ) (suffix₂ : List ℕ) (f₂ : Fields) (room₂ : ℕ) (w₂ tail : List ℕ)

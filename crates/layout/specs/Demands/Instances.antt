@@ -8,7 +8,7 @@ use mathlib.Core.Logic.{⊎-elim}
 use native.Mathlib.Omega.{arith}
 use lib.Count.{leadingZeros}
 use lib.Dec.{ltb}
-use lib.ListN.{length, take, replicate, getD}
+use lib.ListN.{length, take, drop, replicate, getD}
 use Rattle.layout.specs.Answer.{Res, ok, refuse}
 use Rattle.layout.specs.Limits.{maxKey, maxRestarts}
 use Rattle.layout.specs.Varint.{varint, varintIn, varintLength, readVarint, readVarintIn}
@@ -16,20 +16,20 @@ use Rattle.layout.specs.Fixed.{big, unbig, bits, unbits}
 use Rattle.layout.specs.Place.{varintAt, fixedAt, splice}
 use Rattle.layout.specs.Key.{Key, below, mayFollow, common, leading, firstAtOrAbove, firstAbove}
 use Rattle.layout.specs.Row.{Kind, value, Time, Absent, Fields, Row, timeBytes, rowBytes, rowSize, keyLengthTests, lengthTests, encodeRow, Typed, plainRow}
-use Rattle.layout.specs.RowRead.{RowRead, lengthsAt, headAt, flagsAt, bodyAt, timeAt, timesAt, rowAt, readRow, readKey, decodeRow}
+use Rattle.layout.specs.RowRead.{RowRead, holds, lengthsAt, headAt, flagsAt, bodyAt, timeAt, timesAt, rowAt, readRow, readKey, decodeRow}
 use Rattle.layout.specs.Block.{isRestart, shareOf, laidRow, rowsFrom, offsetsFrom, blockRows, offsets, offsetBytes, trailer, blockBytes}
 use Rattle.layout.specs.Trailer.{shortAt, Trailer, dataOf, trailerOf, risingFrom, allOffsets, regionOf}
 use Rattle.layout.specs.Builder.{Builder, keptBuilder, fresh, newBuilder, stateTests, fits, wouldFit, add, stateAfter, build}
 use Rattle.layout.specs.Check.{checkRow, checkFrom, check}
-use Rattle.layout.specs.Cursor.{ascending, descending, Cursor, keptCursor, opened, openBlock, Keyed, next, isEmpty}
+use Rattle.layout.specs.Cursor.{ascending, descending, Cursor, keptCursor, cursorIs, opened, openBlock, Keyed, stepUp, next, keyAfter, isEmpty}
 use Rattle.layout.specs.Seek.{seek, soughtAfter}
 use Rattle.layout.specs.Reads.{regionRows, regionsRows, allRows, Accepts, contentOf, keysOf}
 use Rattle.layout.specs.Cases.{rowWith}
-use Rattle.layout.specs.Demands.Runs.{Held, held, Call, offer, would-fit, is-empty, finish, run, rowsOf, Ran, Finishes, RoomFor, backwards, WalksAll, KeysFit}
+use Rattle.layout.specs.Demands.Runs.{Held, held, Call, offer, would-fit, is-empty, finish, run, rowsOf, Ran, Finishes, RoomFor, backwards, WalksAll, stepsGive, GivesFirst, KeysFit}
 use Rattle.layout.specs.Demands.Rows.{DecodesBack, Rows, Walked, SoughtUp, SoughtDown, FoundFirst}
-use Rattle.layout.specs.Demands.Demand1.{refused-add, stale-bytes-tell-nothing, stale-bytes-empty, stale-bytes-seek, stale-bytes-fit, stale-bytes-add, stale-bytes-build}
-use Rattle.layout.specs.Demands.Demand2.{decode-encode, check-exact, has-rows, room-enough, first-at-or-above, last-at-or-below, walk-steps, seek-ascending-lands, seek-descending-lands, retry-found, restarts-at-most, finished-accepted}
-use Rattle.layout.specs.Demands.Demand3.{run-finishes, blocks-differ, reads-forwards, reads-backwards, row-begins-no-other, read-begins-no-other}
+use Rattle.layout.specs.Demands.Demand1.{refused-add, given-bytes, stale-bytes-tell-nothing, stale-bytes-empty, stale-bytes-seek, stale-bytes-fit, stale-bytes-add, stale-bytes-build}
+use Rattle.layout.specs.Demands.Demand2.{decode-encode, check-exact, has-rows, room-enough, walk-any-buffers, first-at-or-above, last-at-or-below, walk-steps, seek-ascending-lands, seek-descending-lands, retry-found, restarts-at-most, finished-accepted}
+use Rattle.layout.specs.Demands.Demand3.{run-finishes, blocks-differ, reads-forwards, reads-backwards, reads-any-buffers, row-begins-no-other, read-begins-no-other}
 use Rattle.layout.specs.Laws.Answer.{ltb-cases, clash}
 
 -- ---- case 2, by a run
@@ -90,6 +90,10 @@ case-2-forwards = reads-forwards 4096 16 calls2 (rowA ∷ rowAB ∷ []) (run sta
 pub case-2-backwards : (t : Trailer) × (given : List Keyed) × (openBlock block2 descending ≡ ok (opened descending t)) × WalksAll block2 2 (opened descending t) (backwards given)
     × (map (contentOf (dataOf block2 t)) given ≡ map plainRow (rowA ∷ rowAB ∷ []))
 case-2-backwards = reads-backwards 4096 16 calls2 (rowA ∷ rowAB ∷ []) (run start2 calls2) block2 case-2-ran (omega arith) case-2-finishes 2 (omega arith, (omega arith, tt))
+
+pub case-2-any-buffers : (rooms : List ℕ) → (t : Trailer) × (given : List Keyed) × GivesFirst block2 (opened ascending t) rooms given × GivesFirst block2 (opened descending t) rooms (backwards given)
+    × (map (contentOf (dataOf block2 t)) given ≡ map plainRow (rowA ∷ rowAB ∷ []))
+case-2-any-buffers rooms = reads-any-buffers 4096 16 calls2 (rowA ∷ rowAB ∷ []) (run start2 calls2) block2 case-2-ran (omega arith) case-2-finishes rooms
 
 -- the run of case 2's first row alone accepts other rows, so it makes another block
 abbrev calls1 : List Call
@@ -157,6 +161,14 @@ room8 = room-enough block8 5 t8 rows8 reads8
 
 pub case-8-walked : Walked block8 t8 maxKey rows8
 case-8-walked = walk-steps block8 5 t8 rows8 reads8 maxKey room8
+
+-- of steps with key buffers of 0, 8, 0 and 1 bytes two are refused, and two give the first two rows
+pub case-8-two-given : length (stepsGive block8 (opened ascending t8) (0 ∷ 8 ∷ 0 ∷ 1 ∷ [])) ≡ 2
+unfolding blockBytes blockRows offsets rowsFrom offsetsFrom trailer offsetBytes isRestart shareOf laidRow rowBytes timeBytes big varint varintIn common trailerOf shortAt unbig regionOf readRow rowAt headAt lengthsAt varintAt readVarint readVarintIn keyLengthTests bodyAt fixedAt flagsAt timesAt timeAt next stepUp stepsGive
+case-8-two-given = refl
+
+pub case-8-any-buffers : GivesFirst block8 (opened ascending t8) (0 ∷ 8 ∷ 0 ∷ 1 ∷ []) rows8
+case-8-any-buffers = walk-any-buffers block8 5 t8 rows8 reads8 (0 ∷ 8 ∷ 0 ∷ 1 ∷ []) .0
 
 pub case-8-ascending : SoughtUp block8 t8 (98 ∷ []) rows8 maxKey
 case-8-ascending = seek-ascending-lands block8 5 t8 rows8 reads8 maxKey room8 (98 ∷ [])
@@ -240,6 +252,14 @@ module _ (x y : List ℕ) where
 
   pub case-8-stale-seek : soughtAfter (seek ascending block8 (98 ∷ [])) (after-a x) ≡ soughtAfter (seek ascending block8 (98 ∷ [])) (after-a y)
   case-8-stale-seek = stale-bytes-seek ascending 0 13 1 false (97 ∷ x) (97 ∷ y) refl block8 (98 ∷ [])
+
+-- the step gives row 1, and its key "b" at the start of a buffer of sevens
+row1 : RowRead
+row1 = record { start = 13; next = 26; shared = 0; suffixAt = 16; suffixLen = 1; held = holds 17 0; seq = 2; expire = Absent; create = Absent }
+
+pub case-8-given : let after = keyAfter (next (after-a []) block8 8) (replicate 8 7) in (take 1 after ≡ 98 ∷ []) × (drop 1 after ≡ drop 1 (replicate 8 7))
+unfolding blockBytes blockRows offsets rowsFrom offsetsFrom trailer offsetBytes isRestart shareOf laidRow rowBytes timeBytes big varint varintIn common trailerOf shortAt unbig regionOf readRow rowAt headAt lengthsAt varintAt readVarint readVarintIn keyLengthTests bodyAt fixedAt flagsAt timesAt timeAt next stepUp row1
+case-8-given = given-bytes (after-a []) block8 (replicate 8 7) (cursorIs ascending 1 26 [] false) row1 (98 ∷ []) refl refl
 
 -- a builder after case 2's first row, whatever bytes stand behind its key, over buffers of 48 bytes and two places
 abbrev with-a : List ℕ → Builder

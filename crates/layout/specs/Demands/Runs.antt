@@ -9,7 +9,7 @@ use Rattle.layout.specs.Key.{Key}
 use Rattle.layout.specs.Row.{Fields, Row, Typed}
 use Rattle.layout.specs.RowRead.{keyLength}
 use Rattle.layout.specs.Builder.{Builder, newBuilder, add, stateAfter, dataAfter, placesAfter, build, blockAfter}
-use Rattle.layout.specs.Cursor.{Cursor, marked, Keyed, keyed, found, done, Step, stepIs, next}
+use Rattle.layout.specs.Cursor.{Cursor, marked, Keyed, keyed, Answer, found, done, Step, stepIs, next, cursorAfter}
 use Rattle.layout.specs.Reads.{AllOf}
 
 -- ---- a builder, over its two lent buffers
@@ -106,6 +106,24 @@ pub record WalksAll (b : List ℕ) (room : ℕ) (c : Cursor) (rows : List Keyed)
   pub last : Cursor
   pub walks : Walks b room c rows last
   pub ends : EndsDone b room last (marked last)
+
+-- a run of steps, each with a key buffer of its own: what is given, where a refused step gives nothing and leaves the cursor
+abbrev pub rowIn : Answer → List Keyed
+rowIn (found r key) = keyed r key ∷ []
+rowIn done = []
+
+abbrev pub givenBy : Res Step → List Keyed
+givenBy (ok s) = rowIn (s .answer)
+givenBy (refuse n) = []
+
+unfoldable pub stepsGive : List ℕ → Cursor → List ℕ → List Keyed
+stepsGive b c [] = []
+stepsGive b c (room ∷ rooms) = givenBy (next c b room) ++ stepsGive b (cursorAfter (next c b room) c) rooms
+
+-- it gives the first of these rows, and the rest is left
+pub record GivesFirst (b : List ℕ) (c : Cursor) (rooms : List ℕ) (rows : List Keyed) : Type 0 where
+  pub rest : List Keyed
+  pub parts : stepsGive b c rooms ++ rest ≡ rows
 
 -- a key buffer no shorter than any key that is given
 abbrev pub RoomFor : ℕ → List Keyed → Type 0

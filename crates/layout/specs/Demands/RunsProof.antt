@@ -1,9 +1,10 @@
 -- A run keeps `Made`: whatever calls were made, state and buffers are those of the accepted rows. A walk along cursors that each stand before (or after) the rows to
--- come gives exactly these rows.
+-- come gives exactly these rows; and with key buffers that are too short now and then, the first of them.
 use Prim.Native.Nat.{ℕ, zero, suc, _+_, _-_, _*_, _<_, _≤_, zero-le}
 use mathlib.Core.Path.{_≡_, refl, ap, sym, _∙_}
 use mathlib.Core.Bool.{Bool, true, false}
 use mathlib.Core.List.{List, [], _∷_, _++_, append-assoc, append-nil}
+use mathlib.Core.Logic.{⊎-elim}
 use native.Mathlib.Omega.{arith}
 use lib.Dec.{ltb, eqb}
 use lib.ListN.{length, take, length-append}
@@ -18,13 +19,14 @@ use Rattle.layout.specs.Block.{blockRows, offsets, trailer, blockBytes}
 use Rattle.layout.specs.Trailer.{Trailer}
 use Rattle.layout.specs.Builder.{Builder, newBuilder, stateTests, presentSize, add, build, blockAfter}
 use Rattle.layout.specs.Cursor.{Cursor, marked, Keyed, keyed, found, done, stepIs, next}
-use Rattle.layout.specs.Demands.Runs.{Held, held, Call, offer, would-fit, is-empty, finish, addTo, buildOf, after, taken, accepted, run, rowsOf, TypedCall, TypedCalls, Ran, Finishes, Walks, stands, gives, EndsDone, RoomFor, backwards, WalksAll}
-use Rattle.layout.specs.Laws.Answer.{bind-then, guard-then}
+use Rattle.layout.specs.Demands.Runs.{Held, held, Call, offer, would-fit, is-empty, finish, addTo, buildOf, after, taken, accepted, run, rowsOf, TypedCall, TypedCalls, Ran, Finishes, Walks, stands, gives, EndsDone, RoomFor, backwards, WalksAll, stepsGive, GivesFirst}
+use Rattle.layout.specs.Laws.Answer.{bind-then, guard-then, ltb-cases}
 use Rattle.layout.specs.Laws.Splice.{length-splice, take-splice}
 use Rattle.layout.specs.Laws.Trailer.{length-trailer}
 use Rattle.layout.specs.Laws.Ascend.{InRegion, Before, before-gives, before-done, marked-stays}
 use Rattle.layout.specs.Laws.Descend.{After, after-gives, after-done, FromEnd, empty, ending, from-end}
 use Rattle.layout.specs.Laws.Made.{Made, made-none, made-more, made-builds}
+use Rattle.layout.specs.Laws.Given.{next-again}
 
 -- ---- the builder
 
@@ -146,3 +148,24 @@ walks-after (suc n) b t room c rows h q f = go rows (from-end rows) h q f (walks
         let w = ih (g .moved) xs (omega (arith, length-append xs (x ∷ []))) (g .then-after) (room-first room xs (x ∷ []) f) in
         rw (backwards-end xs x)
         (record { last = w .last; walks = gives c (g .moved) (w .last) x (backwards xs) (g .gives (room-last room xs x f)) (w .walks); ends = w .ends })
+
+-- ---- steps with key buffers of any lengths
+
+-- a row whose key has no room stays to be given; every other step goes on along the walk
+pub walks-first : (b : List ℕ) (room : ℕ) (rooms : List ℕ) (c : Cursor) (rows : List Keyed) → WalksAll b room c rows → GivesFirst b c rooms rows
+unfolding stepsGive
+walks-first b room [] c rows w = record { rest = rows; parts = refl }
+walks-first b room (other ∷ rooms) c rows w = go c rows (w .last) (w .walks) (w .ends) (walks-first b room rooms)
+  where
+    go : (c : Cursor) (rows : List Keyed) (last : Cursor) → Walks b room c rows last → EndsDone b room last (marked last)
+        → ((c : Cursor) (rows : List Keyed) → WalksAll b room c rows → GivesFirst b c rooms rows) → GivesFirst b c (other ∷ rooms) rows
+    go c rows last (stands d) ends ih =
+        let same = next-again d b room other (stepIs (marked d) done) (ends .says-done) in
+        let more = ih (marked d) [] (record { last = marked d; walks = stands (marked d); ends = record { says-done = ends .ever-after; ever-after = ends .ever-after } }) in
+        record { rest = more .rest; parts = rw same (more .parts) }
+    go c rows last (gives d d′ d″ k ks p w) ends ih =
+        let same = next-again d b room other (stepIs d′ (found (k .row) (k .key))) p in
+        ⊎-elim
+        (λ u. let more = ih d (k ∷ ks) (record { last = d″; walks = gives d d′ d″ k ks p w; ends = ends }) in record { rest = more .rest; parts = rw (same, u .0) (more .parts) })
+        (λ u. let more = ih d′ ks (record { last = d″; walks = w; ends = ends }) in record { rest = more .rest; parts = rw (same, u .0) (ap (λ (x : List Keyed). k ∷ x) (more .parts)) })
+        (ltb-cases other (keyLength (k .row)))
