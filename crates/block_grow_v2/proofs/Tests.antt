@@ -1,4 +1,6 @@
 -- The tests of the builder's code, exit by exit, by what was met on the way: of its state, of a row's fit, of its adding.
+-- A row is known by what was found of it: its share is the definition's, so share and suffix make its key, its size is the count of the bytes that are laid, and the sum that is
+-- compared is the grown size. Adding goes on from there with the tests of 5 and 6 alone.
 use Prim.Native.Nat.{ℕ, _+_, _*_, _/_, _≤_, _<_}
 use mathlib.Core.Path.{_≡_, refl, ap, sym, _∙_}
 use mathlib.Core.Bool.{Bool, true, false, cond, _&&_, _||_}

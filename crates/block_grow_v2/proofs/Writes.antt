@@ -1,4 +1,6 @@
 -- What follows the tests: a row that passed them has room, so it is written; and the promises of the public functions, from what their parts did.
+-- What the definition's `add` tells of an accepted row is all that the writers ask: room in the data, a free place, an offset that is not too far, a key that fits. What is refused is
+-- refused before the first write, or by the trailer's writer, which leaves the buffer as it was.
 use Prim.Native.Nat.{ℕ, _+_, _-_, _*_, _≤_}
 use mathlib.Core.Path.{_≡_, refl, ap, sym, _∙_}
 use mathlib.Core.Bool.{Bool, true, false, cond, _&&_}

@@ -1,4 +1,5 @@
--- A promise from what was met: one law for each exit.
+-- The promises of `new`, `is_empty` and `next` from what was met: laws for the exits of the first two, and one law for the whole step.
+-- A step keeps the order, so the place that it leaves, put into the cursor that came, makes the cursor that is wanted; beside a refusal place and key bytes are those that came.
 use Prim.Native.Nat.{ℕ, _-_}
 use mathlib.Core.Path.{_≡_, refl, ap, sym, _∙_, subst}
 use mathlib.Core.Bool.{Bool, true, false}

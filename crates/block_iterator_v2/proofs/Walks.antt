@@ -1,4 +1,5 @@
 -- A seek's promise from what its walk met: one law for each exit of the walks from region to region.
+-- The count of the search stands beside what the walk leaves: a refusal gives back the cursor that came, a landing has no key or the one that the walk up carries, "done" has no key.
 use Prim.Native.Nat.{ℕ}
 use mathlib.Core.Path.{_≡_, refl, ap, sym, _∙_}
 use mathlib.Core.Bool.{true, false}

@@ -1,4 +1,5 @@
 -- What the proofs of more than one function cite: a row's test, and the turn of each loop for the array that a put left.
+-- The suffix put over the carried key makes the row's own key, and the array carries that one from then on; so the law that moves a loop's invariant past a row holds of this array.
 use Prim.Native.Nat.{ℕ, _+_, _-_, _≤_, _<_}
 use mathlib.Core.Path.{_≡_, refl, sym}
 use mathlib.Core.Bool.{Bool, true, false, cond, not}

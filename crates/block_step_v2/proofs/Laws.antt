@@ -1,4 +1,5 @@
--- A promise from what was met: one law for each exit.
+-- A promise from what was met: one law for each exit of a step, of the two looks, of the writes past a row and of the way back before one.
+-- The looks hold whatever the key's bytes are. Past a row these bytes carry the row's key, which goes to the lent buffer; on the way back they stay, and the region's read gives the key.
 use Prim.Native.Nat.{ℕ, _+_, _-_, _≤_, _<_}
 use mathlib.Core.Path.{_≡_, refl, ap, sym, _∙_, subst}
 use mathlib.Core.Bool.{false}

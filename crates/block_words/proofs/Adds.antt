@@ -1,4 +1,5 @@
 -- Adding a row over lent words: what each exit leaves, in place and by value alike, from the builder that is wanted.
+-- The tests of the words come first and leave everything; once they are passed the promise is about `add` alone (`adds-asked`), and it is kept in two cases, a row added and a refusal.
 use Prim.Native.Nat.{ℕ}
 use mathlib.Core.Path.{_≡_, refl}
 use mathlib.Core.List.{List}

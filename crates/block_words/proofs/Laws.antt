@@ -1,4 +1,6 @@
 -- Words that are loaded and stored, over plain variables: what the exits of the functions here, and of the exports above, use.
+-- What is loaded is the definition's once each of its tests is known. A copy over all bytes leaves nothing of the old ones. An answer that says only whether, with the value beside it,
+-- is the whole answer.
 use Prim.Native.Nat.{ℕ, _+_}
 use mathlib.Core.Bool.{Bool, true, false, not}
 use mathlib.Core.Path.{_≡_, refl, ap, sym, _∙_}

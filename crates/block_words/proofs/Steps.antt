@@ -1,4 +1,5 @@
 -- A step over lent words: what each exit leaves, in place and by value alike, from the answer, the cursor and the buffer that the step below promised.
+-- A row, "done" and a refusal are told apart, so what was told leaves one case of the step that is wanted; a refusal leaves the cursor's words, the key bytes and the row's words.
 use Prim.Native.Nat.{ℕ}
 use mathlib.Core.Path.{_≡_, refl, ap, subst, sym, _∙_}
 use mathlib.Core.List.{List}

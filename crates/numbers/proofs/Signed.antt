@@ -1,4 +1,5 @@
 -- What the two signed functions use of signed numbers: the complement of a number is -1 less it.
+-- Of a number below 0 it is at 0 or above, and the other way round, so only numbers at 0 or above are cast; and a number that fits 64 bits is read back from them as it was.
 use Prim.Native.Nat.{ℕ, zero, suc, _^_, _<_}
 use mathlib.Core.Bool.{true, false}
 use mathlib.Core.Path.{_≡_, refl, sym, ap, _∙_, subst}

@@ -1,4 +1,5 @@
 -- What the proofs cite: three writes that follow one another with room for all, and the three parts that a row is written in.
+-- A row's bytes are its lengths, its body and its marks, one after another (`row-parts`); so room for the row is room for each part where the one before it ended.
 use Prim.Native.Nat.{ℕ, _+_, _≤_}
 use mathlib.Core.Path.{_≡_, refl, ap, _∙_}
 use mathlib.Core.List.{List, _++_}

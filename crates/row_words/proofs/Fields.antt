@@ -1,4 +1,6 @@
 -- The words of a row's fields, read and written: each exit of the functions that do it is one of these laws.
+-- What is read is the definition's once the number of words, the kind and the two times are known, in this order; what is written is put together from the words of the value and of
+-- each time, case by case.
 use Prim.Native.Nat.{ℕ}
 use mathlib.Core.Bool.{true, false}
 use mathlib.Core.Path.{_≡_, refl, ap, sym, _∙_}

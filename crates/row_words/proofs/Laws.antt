@@ -1,4 +1,5 @@
 -- Words that are loaded and stored, over plain variables: what the exits of the functions here and above use.
+-- 0 and 1 stand for two cases, any other word for none. The number of words is one test, which both a load and a store begin with: known either way, it settles what is answered and left.
 use Prim.Native.Nat.{ℕ}
 use mathlib.Core.Bool.{Bool, true, false}
 use mathlib.Core.Path.{_≡_, refl, sym}

@@ -1,4 +1,5 @@
 -- Words that are stored one by one: with all places of a list set, it is the list of what was stored.
+-- The list is taken apart word by word: at the length that is given the stores compute, and every list that is shorter or longer contradicts that length.
 use Prim.Native.Nat.{ℕ}
 use mathlib.Core.Path.{_≡_, refl}
 use mathlib.Core.List.{List, [], _∷_}

@@ -1,4 +1,6 @@
 -- What the exits of the exports use, over plain variables: what a good, a refused or a done answer sets and leaves.
+-- Past the tests of the words the promise is the definition's answer, which the function below has given; a refusal leaves what was lent. Building, a seek and the two questions about
+-- emptiness don't read a key's bytes, so that zeros stand in for them.
 use Prim.Native.Nat.{ℕ}
 use mathlib.Core.Bool.{Bool, true, false, cond}
 use mathlib.Core.Logic.{⊎-elim}

@@ -1,4 +1,5 @@
--- One row written and read, and rows added: what each exit of these exports leaves, from what the function below promised.
+-- One row written and read, asked about, and added: what each exit of these exports leaves, from what the function below promised.
+-- The tests of the words are the definition's first ones; past them the case that the function answered leaves one case of the definition's answer, and this settles code, words and bytes.
 use Prim.Native.Nat.{ℕ}
 use mathlib.Core.Path.{_≡_, refl, ap, sym, _∙_}
 use mathlib.Core.List.{List, []}

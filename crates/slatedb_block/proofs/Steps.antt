@@ -1,4 +1,5 @@
 -- A step in place: what each of its exits leaves, from what `next_in_place` promised.
+-- The key bytes are as many as a key may have, so the step is the rules' own (`lent-whole`); for each case of its answer, what `put_moved` stored is what a step over words has to leave.
 use Prim.Native.Nat.{ℕ}
 use mathlib.Core.Path.{_≡_, refl, ap, sym, _∙_}
 use mathlib.Core.List.{List}

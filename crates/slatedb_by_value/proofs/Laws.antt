@@ -1,4 +1,5 @@
 -- What each exit of the two functions by value leaves, from what the method below promised.
+-- The method gives back a whole builder or cursor; its words and key bytes, put back, are what the function in place leaves, so both end in the laws of `Adds` and `Steps`.
 use Prim.Native.Nat.{ℕ}
 use mathlib.Core.Path.{_≡_, refl, ap, sym, _∙_}
 use mathlib.Core.List.{List}

@@ -1,4 +1,5 @@
--- The loop over a block's rows: the rows still to come, counted from here on, make the whole. An accepted block's walk gives every row, so no step of the loop finds none.
+-- One row counted, the loop over a block's rows, and the whole. The loop: the rows still to come, counted from here on, make the whole.
+-- An accepted block's walk gives every row (`walk-steps`), so while there are rows to come each step finds the next one, and no step of the loop finds none.
 use Prim.Native.Nat.{ℕ, _+_, _<_, _≤_}
 use mathlib.Core.Path.{_≡_, refl, ap, ap₂, sym, _∙_}
 use mathlib.Core.List.{List, [], _∷_}

@@ -1,4 +1,5 @@
--- `first_of` keeps its promise: its test is the definition's.
+-- `first_of` answers the offset for region 0, and 0 for any other region.
+-- Its one test is the definition's: in each branch, with the test known, the definition is the number that the branch answers.
 use borrow.Author.Tests.{eq-eqb, ne-eqb}
 use Rattle.block.proofs.first_of.Statement.{statement}
 use Rattle.block.proofs.first_of.Tie as tie

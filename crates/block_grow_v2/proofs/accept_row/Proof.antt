@@ -1,4 +1,5 @@
--- `accept_row` keeps its promise: the fit question's refusals, then 5 and 6 in their order. Each exit is one of the definition's.
+-- `accept_row` keeps its promise: the fit question's refusals, then 5 and 6 in their order, or what was found of the row.
+-- What `plan_row` found are the definition's share, size and mark (`found`), so the three tests after it are those of adding; each exit is one law of `Tests`.
 use mathlib.Core.Path.{_≡_, sym, _∙_}
 use borrow.Author.Needs.{needs}
 use Rattle.layout.specs.Answer.{ok}

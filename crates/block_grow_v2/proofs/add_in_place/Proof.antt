@@ -1,4 +1,5 @@
 -- `add_in_place` keeps its promise: bytes that are not a last key's are 18, what the tests refuse is refused, both with nothing written; what they accept is grown by.
+-- All tests come before all writes, so a refusal leaves the three lent arrays as they came; a row that passed them is what `grow` requires (`tested-is`), and what `grow` leaves is wanted.
 use mathlib.Core.Path.{refl}
 use borrow.Author.Needs.{needs}
 use Rattle.types.specs.Answers.{yes, no}

@@ -1,4 +1,5 @@
--- `build_in_place` keeps its promise: 18, 7, or what `put_trailer` says, whose room is the one that 6 tests.
+-- `build_in_place` keeps its promise, whatever the last key's bytes are: 18, 7, 6, or the block's length with the trailer after the rows.
+-- The state is judged for any such bytes. `put_trailer` refuses where there is too little room, and that is the room of 6: what is used and the trailer make the present size.
 use borrow.Author.Needs.{needs}
 use Rattle.block_grow_v2.proofs.Tests.{state-refused, state-taken}
 use Rattle.block_grow_v2.proofs.Writes.{ends-bad, ends-none, ends-block, ends-short}

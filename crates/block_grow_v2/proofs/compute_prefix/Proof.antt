@@ -1,4 +1,5 @@
--- `compute_prefix` keeps its promise: the part that it compares is as long as it says.
+-- `compute_prefix` answers how many bytes the key and the last key begin with alike.
+-- The last key is the first `last_len` of the lent bytes: there are so many, as required, so the part that is passed on is that long, and `common_prefix` promises the rest.
 use mathlib.Core.Path.{sym}
 use lib.Seq.{length-take-le}
 use borrow.Author.Needs.{needs}

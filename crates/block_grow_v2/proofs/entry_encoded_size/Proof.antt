@@ -1,4 +1,5 @@
--- `entry_encoded_size` keeps its promise: the suffix is what the share leaves of the key.
+-- `entry_encoded_size` answers the size of a row with this share, or 1, 2, 3.
+-- `encoded_size` is given the key's length less the share, which is the length of the suffix that the definition cuts off; the share is no longer than the key, so nothing wraps.
 use lib.ListN.{length-drop}
 use borrow.Author.Needs.{needs}
 use Rattle.block_grow_v2.proofs.entry_encoded_size.Statement.{statement}

@@ -1,4 +1,5 @@
--- `has_room` keeps its promise: an empty block has room for any row.
+-- `has_room` answers whether the block has no row yet, or is within its size with this one.
+-- Without a row the first part of that "or" holds, so any row has room; with one it fails, and the comparison that is answered is the second part.
 use borrow.Author.Tests.{eq-eqb, ne-eqb}
 use Rattle.block_grow_v2.proofs.has_room.Statement.{statement}
 use Rattle.block_grow_v2.proofs.has_room.Tie as tie

@@ -1,4 +1,5 @@
--- `is_restart_point` keeps its promise: its test is the definition's.
+-- `is_restart_point` answers whether the row's number is a multiple of the interval.
+-- A remainder of 0 is the definition's own rule (`restart-rule`); the interval is at least 1, as required, so the remainder is there to be taken.
 use borrow.Author.Needs.{needs}
 use Rattle.layout.specs.Laws.Building.{restart-rule}
 use Rattle.block_grow_v2.proofs.is_restart_point.Statement.{statement}

@@ -1,4 +1,5 @@
--- `no_place_left` keeps its promise: a row that is no restart takes no place.
+-- `no_place_left` answers whether the row is a restart and there is no free place for its offset.
+-- For a restart that "and" is the comparison which is answered; a row that is no restart takes no place, and for it the "and" is false whatever the places.
 use borrow.Author.Needs.{needs}
 use Rattle.block_grow_v2.proofs.no_place_left.Statement.{statement}
 use Rattle.block_grow_v2.proofs.no_place_left.Tie as tie

@@ -1,4 +1,5 @@
--- `planned_refusal` takes the refusal out of an answer: in its case it is the one bound.
+-- `planned_refusal` takes the refusal out of what the tests of a row answered.
+-- Each case of that answer is one arm, and in it the definition gives what the arm gives. For a row that passed it gives 1, which is never met: it is asked only where none did.
 use mathlib.Core.Path.{sym, ap}
 use borrow.Author.Needs.{needs}
 use Rattle.block_grow_v2.specs.Plan.{plannedRefusal}

@@ -1,4 +1,5 @@
--- `put_restart` keeps its promise: at a restart the offset fits 16 bits and there is a place for it.
+-- `put_restart` stores a restart's offset at the next place and counts it; for any other row it leaves places and count.
+-- At a restart, by what is required, the offset fits 16 bits, so the cast keeps it, and there is a place for it, so the store lies in the array and the count can't wrap.
 use Prim.Native.Nat.{_<_}
 use mathlib.Core.Path.{_≡_, refl}
 use mathlib.Core.Bool.{false}

@@ -1,4 +1,5 @@
--- `restart_too_far` keeps its promise: a row that is no restart has no offset.
+-- `restart_too_far` answers whether the row is a restart and its offset is above the largest that the trailer can hold.
+-- For a restart that "and" is the comparison; a row that is no restart has no offset in the trailer, and "no" is the definition's answer too.
 use borrow.Author.Needs.{needs}
 use Rattle.block_grow_v2.proofs.restart_too_far.Statement.{statement}
 use Rattle.block_grow_v2.proofs.restart_too_far.Tie as tie

@@ -1,4 +1,5 @@
--- `shared_bytes` keeps its promise: nothing at a restart, else the common prefix.
+-- `shared_bytes` keeps its promise: nothing at a restart, else the common prefix of the last key and this one.
+-- The two branches are the two cases of the definition (`share-restart`, `share-plain`); the prefix is what `compute_prefix` promised.
 use mathlib.Core.Path.{_∙_}
 use borrow.Author.Needs.{needs}
 use Rattle.layout.specs.Laws.Building.{share-restart, share-plain}

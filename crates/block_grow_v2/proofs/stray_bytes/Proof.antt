@@ -1,4 +1,5 @@
--- `stray_bytes` keeps its promise: its test is the definition's.
+-- `stray_bytes` answers how many bytes belong to no row: where there is no row all that are used, else none.
+-- The test of the counter is the definition's, which with that test known is the number that the branch answers.
 use borrow.Author.Tests.{eq-eqb, ne-eqb}
 use Rattle.block_grow_v2.proofs.stray_bytes.Statement.{statement}
 use Rattle.block_grow_v2.proofs.stray_bytes.Tie as tie

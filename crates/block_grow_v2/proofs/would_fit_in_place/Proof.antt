@@ -1,4 +1,5 @@
--- `would_fit_in_place` keeps its promise: bytes that are not a last key's are 18; for others `plan_row` makes the same tests, and says more.
+-- `would_fit_in_place` keeps its promise: bytes that are not a last key's are 18; for others the answer is the fit question's.
+-- `plan_row` makes the same tests, and says more: of a row that fits, what was found is dropped, and a refusal is handed on as it is.
 use borrow.Author.Needs.{needs}
 use Rattle.types.specs.Answers.{yes}
 use Rattle.row_size_v2.specs.Says.{fieldsFrom}

@@ -1,4 +1,5 @@
--- `bad_settings` gives the zero builder beside its refusal.
+-- `bad_settings` gives 8 beside the zero builder: of size 0 and interval 1, with nothing used.
+-- That builder is what `empty_builder` promised for these two numbers; put beside the refusal, it is the definition itself.
 use borrow.Author.Needs.{needs}
 use Rattle.block_v2.proofs.bad_settings.Statement.{statement}
 use Rattle.block_v2.proofs.bad_settings.Tie as tie

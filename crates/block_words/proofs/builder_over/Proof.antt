@@ -1,4 +1,5 @@
--- A builder's numbers and its last key's bytes become a builder by value: the copy leaves what its promise says.
+-- `builder_over` makes a builder by value from a builder's numbers and the bytes of its last key, which lie over zeros.
+-- The array after the copy is what `copy_in` promised, for any number of bytes: too many are not copied. The numbers are taken over one by one.
 use mathlib.Core.Path.{ap}
 use Rattle.block_v2.specs.Says.{builderFrom}
 use borrow.Author.Needs.{needs}

@@ -1,4 +1,5 @@
--- A word is an order exactly when the definition says so: 0, 1, or none.
+-- `order_in` takes 0 for ascending and 1 for descending, and no other word for an order.
+-- Its two tests are the definition's, in the same order: each exit is one law of a word that stands for one of two cases.
 use Rattle.layout.specs.Cursor.{ascending, descending}
 use Rattle.row_words.proofs.Laws.{of-0, of-1, of-none}
 use Rattle.block_words.proofs.order_in.Statement.{statement}

@@ -1,4 +1,5 @@
--- Five words stored one by one are the words of the cursor: with every place set, nothing of the old list is left. Words of another number are left.
+-- `put_cursor` stores a cursor as five words; where there is another number of words it leaves them and says so.
+-- With every place set, nothing of the old list is left (`five`): the list is the definition's, with the words that stand for the order and for the mark at its ends.
 use Rattle.row_words.proofs.Stores.{five}
 use Rattle.row_words.proofs.Laws.{stores-none, stores-all}
 use native.Mathlib.Omega.{arith}

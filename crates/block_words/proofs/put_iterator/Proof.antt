@@ -1,4 +1,5 @@
--- A cursor is stored: its words are those of its view, and its key's bytes are all copied. Where either has another number, both are left.
+-- `put_iterator` stores a cursor that came by value: its words are those of its view, and its key's bytes are all copied. Where either has another number, both are left.
+-- Both numbers are tested before the first write; so neither `put_cursor` nor the copy refuses, and a copy over all of the lent bytes leaves nothing of the old ones.
 use mathlib.Core.Path.{_≡_}
 use lib.ListN.{length}
 use Rattle.layout.specs.Limits.{maxKey}

@@ -1,4 +1,5 @@
--- Six words stored one by one are the words of the builder: with every place set, nothing of the old list is left. Words of another number are left.
+-- `put_state` stores a builder's numbers as six words; where there is another number of words it leaves them and says so.
+-- The six stores go to the six places, so nothing of the old list is left (`six`), and they have the order of the definition's list.
 use native.Mathlib.Omega.{arith}
 use lib.ListN.{length-set}
 use Rattle.row_words.proofs.Laws.{stores-none, stores-all}

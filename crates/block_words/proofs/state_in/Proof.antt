@@ -1,4 +1,5 @@
--- A builder's words become its state: each word that is read is the one that the definition names. Words of another number are none.
+-- `state_in` loads a builder's numbers from six words; words of another number are none.
+-- Once their number is right no words are refused: each one that is read is the one that the definition names, and goes into its field unchanged.
 use mathlib.Core.Path.{sym}
 use Rattle.layout.specs.Answer.{ok}
 use Rattle.block_words.specs.Says.{stateIn}

@@ -1,4 +1,5 @@
--- The loop over the lines ends: each takes something off the text.
+-- `answer_all` goes through the text line by line: each line lies inside the text, and the loop over the lines ends.
+-- A line's end, as `end` promised, lies between its start and the text's end; the next line starts past it, so each takes something off the text.
 use Prim.Native.Nat.{_-_}
 use borrow.Author.Needs.{needs}
 use lib.ListN.{length}

@@ -1,4 +1,5 @@
--- The loop runs over the text, and keeps the length of the block's buffer.
+-- `report_all` hands each byte of the text to `taken`: it reads none past the end, and it ends.
+-- The loop's invariant: it runs to the text's length, and the block's buffer still has its 512 bytes, so that it can be lent again.
 use Prim.Native.Nat.{_-_}
 use mathlib.Core.Path.{_≡_}
 use borrow.Author.Needs.{needs}

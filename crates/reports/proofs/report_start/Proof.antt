@@ -1,4 +1,5 @@
--- The part lent has as many bytes as are asked for: the buffer is no shorter.
+-- `report_start` lends the first `n` bytes of the buffer to the report, where there are as many.
+-- By the test the buffer is no shorter, so the part that is lent has the `n` bytes that are asked for; a shorter one is not lent at all.
 use mathlib.Core.Path.{sym}
 use native.Mathlib.Omega.{arith}
 use lib.Seq.{length-take-le}

@@ -1,4 +1,5 @@
--- `write_marks` writes the flags, then the expire time, then the create time: each starts where the one before ended, and there is room for all.
+-- `write_marks` writes the flags, then the expire time, then the create time.
+-- The store of the flags is a write of one byte. Each part starts where the one before ended, and there is room for all; so the three writes are one, of the definition's bytes.
 use Prim.Native.Nat.{ℕ, _+_, _≤_}
 use mathlib.Core.Path.{_≡_, ap}
 use mathlib.Core.List.{List, [], _∷_, _++_}

@@ -1,4 +1,5 @@
--- `write_row` writes the row's three parts, one after another, with room for all. Of the value it takes the bytes that are kept.
+-- `write_row` writes the row's three parts, its lengths, its body and its marks, one after another at the start of the buffer.
+-- Room for the row is room for each part in its turn, by the laws of `Parts`, and the three writes are one. Of the value it takes the bytes that are kept, as many as the lengths say.
 use mathlib.Core.Path.{sym}
 use native.Mathlib.Omega.{arith}
 use lib.Seq.{length-take-le}

@@ -1,4 +1,5 @@
 -- `write_time` writes eight bytes for a time, and none for an absent one.
+-- In each arm the time is known, and with it its bytes: writing none leaves buffer and place as they are, and for eight there is room, so `put_i64` wrote them.
 use mathlib.Core.Path.{_≡_, sym, ap, _∙_}
 use native.Mathlib.Omega.{arith}
 use mir.Syntax.{w64}

@@ -1,4 +1,5 @@
--- `length_len` is `varint_len` of a length that fits 32 bits. No varint has more than 5 bytes.
+-- `length_len` answers how many bytes a length takes as a varint, and that these are at most 5.
+-- It is `varint_len` of a length that fits 32 bits, as required, so the cast keeps it; no varint has more than 5 bytes (`varint-few`).
 use native.Mathlib.Omega.{arith}
 use borrow.Author.Needs.{needs}
 use Rattle.layout.specs.Laws.Varint.{varint-few}

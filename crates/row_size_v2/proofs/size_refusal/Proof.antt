@@ -1,4 +1,5 @@
--- `size_refusal` takes the refusal out of an answer: in its case it is the one bound.
+-- `size_refusal` takes the refusal out of the answer about a key's length or a row's size.
+-- Each case of that answer is one arm, and in it the definition gives what the arm gives. For a count it gives 1, which no caller meets: they ask once they know that it is no count.
 use mathlib.Core.Path.{sym, ap}
 use borrow.Author.Needs.{needs}
 use Rattle.row_size_v2.specs.Says.{sizedRefusal}

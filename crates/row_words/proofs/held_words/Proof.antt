@@ -1,4 +1,5 @@
--- A value's words, by its three cases: each is the definition's own line.
+-- `held_words` gives a value as three words: its kind, where it starts and how long it is.
+-- Each of the three kinds is one arm, and what the arm builds is the definition's own line for it; a tombstone has two zeros.
 use mathlib.Core.Path.{ap, sym}
 use Rattle.row_words.specs.Says.{heldFrom}
 use borrow.Author.Needs.{needs}

@@ -1,4 +1,5 @@
--- A word is a kind exactly when the definition says so: the tests go through its cases in order.
+-- `kind_in` takes 2 for a merge, 0 for a value and 1 for a tombstone, and no other word for a kind.
+-- The tests go through the definition's cases in order; a word that has failed all three is none of them (`kind-none`).
 use mathlib.Core.Path.{refl}
 use Rattle.row_words.proofs.Fields.{kind-none}
 use Rattle.row_words.proofs.kind_in.Statement.{statement}

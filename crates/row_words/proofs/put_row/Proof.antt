@@ -1,4 +1,5 @@
--- Thirteen words stored one by one are the words of the row: with every place set, nothing of the old list is left. Words of another number are left.
+-- `put_row` stores a row as thirteen words; where there is another number of words it leaves them and says so.
+-- With every place set, nothing of the old list is left, and the new one is the row's (`row-stored`): its value and its two times are in it as `held_words` and `time_words` gave them.
 use native.Mathlib.Omega.{arith}
 use lib.ListN.{length-set}
 use Rattle.row_words.proofs.Laws.{stores-none, stores-all}

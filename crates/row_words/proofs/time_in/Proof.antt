@@ -1,4 +1,5 @@
--- Two words are a time exactly when the definition says so: whether there is one, and its bits.
+-- `time_in` loads a time from two words: whether there is one, and its bits.
+-- Each exit is one law of `timeIn`: a first word that is neither 0 nor 1 is none, at 0 the bits tell nothing, and at 1 the number is the one that `from_bits` promised of them.
 use mir.Syntax.{w64}
 use mir.Facts.{toZ-ofZ}
 use mathlib.Core.Path.{ap, _∙_}

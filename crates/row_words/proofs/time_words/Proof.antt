@@ -1,4 +1,5 @@
--- A time's words, by its two cases: the bits of a time are those of the definition.
+-- `time_words` gives a time as two words: whether there is one, and its bits.
+-- Each case is one arm: an absent time is two zeros, as the definition says; the bits of any other are what `to_bits` promised of the number, which its local holds unchanged.
 use mir.Syntax.{w64}
 use mir.Val.{toZ, ofZ}
 use Rattle.row_words.proofs.Fields.{timed}

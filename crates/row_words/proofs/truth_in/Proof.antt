@@ -1,4 +1,5 @@
--- A word is a truth exactly when the definition says so: 0, 1, or none.
+-- `truth_in` takes 0 for no and 1 for yes, and no other word.
+-- The definition asks for the same two words in the same order, so that its three answers are the three exits (`of-0`, `of-1`, `of-none`).
 use mathlib.Core.Bool.{true, false}
 use Rattle.row_words.proofs.Laws.{of-0, of-1, of-none}
 use Rattle.row_words.proofs.truth_in.Statement.{statement}

@@ -1,4 +1,5 @@
--- A builder is made as asked for, whatever the interval: the default one goes through `new`, whose promise is the same with the default in its place.
+-- `make` makes a builder as asked for, whatever the interval.
+-- The default one goes through `new`, whose promise is the same with the default in its place, and the test says that it is the default; any other is handed on as it is.
 use borrow.Author.Needs.{needs}
 use Rattle.slatedb_block.proofs.make.Statement.{statement}
 use Rattle.slatedb_block.proofs.make.Tie as tie

@@ -1,4 +1,5 @@
--- The question keeps its promise: whether there is no row doesn't depend on the last key's bytes, which are not lent.
+-- `slatedb_builder_is_empty` keeps its promise: 254 for words of another number, else 0 and whether there is no row.
+-- The answer doesn't depend on the last key's bytes, which are not lent: the builder is made with zeros for them, and its counter is the one in the words.
 use mathlib.Core.Path.{ap, _∙_}
 use Rattle.block_words.specs.Says.{builderAlone}
 use Rattle.block_words.proofs.Laws.{state-none, state-counts, state-is}

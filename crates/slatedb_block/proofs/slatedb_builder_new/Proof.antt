@@ -1,4 +1,5 @@
--- A new builder keeps its promise: its words are those of its view, and a refusal leaves the words as they were.
+-- `slatedb_builder_new` keeps its promise: the words are those of the new builder's view, and 254 or 8 leaves them as they were.
+-- Their number is tested first, so that `put_state` does store, and what it stores are the numbers of the builder that `make` promised; each exit is one law of `Laws`.
 use Rattle.row_words.proofs.Laws.{stored}
 use Rattle.slatedb_block.proofs.Laws.{makes-short, makes-good, makes-refused}
 use borrow.Author.Needs.{needs}

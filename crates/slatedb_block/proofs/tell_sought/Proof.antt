@@ -1,4 +1,5 @@
--- What is told is by the three cases of the answer.
+-- `tell_sought` tells how a seek ended by the three cases of its answer: where it landed or was done, the count of restart keys is set; a refusal leaves it.
+-- In each arm the case is known, and the definitions of the code and of the count compute at it.
 use mathlib.Core.Path.{ap, sym, _∙_}
 use Rattle.block_iterator_v2.specs.declared.SeekAnswer.{SeekAnswer}
 use Rattle.slatedb_block.specs.Says.{soughtCode, soughtReads}

@@ -1,4 +1,5 @@
--- A builder is put back: its words are those of its view, and its last key's bytes are all copied.
+-- `put_added` puts a builder back: its words are those of its view, and its last key's bytes are all copied.
+-- Words and bytes are as many as required, so `put_state` has stored, and the copy goes over all of the lent bytes: nothing of the old ones is left (`copied-whole`).
 use mathlib.Core.Path.{_≡_}
 use lib.ListN.{length}
 use Rattle.layout.specs.Limits.{maxKey}

@@ -1,4 +1,5 @@
--- What is stored and answered is what the walk says: with both words set, nothing of the old ones is left.
+-- `tell` stores and answers what the walk says: how many rows, their sum, and whether "done" ended it; a refused walk has its number answered and nothing stored.
+-- In each arm the walk's case is known. There are two words, as required: with both set, nothing of the old ones is left (`told-ended`).
 use mathlib.Core.Bool.{Bool, cond}
 use mathlib.Core.Path.{ap, sym}
 use Rattle.row_words.specs.Words.{doneCode}

@@ -1,4 +1,5 @@
--- The sum with a row more: the wrapping sums of its parts are the sum of the parts, wrapped once.
+-- `with_row` answers the sum with a row more, as 64 bits hold it.
+-- The wrapping sums of its parts are the sum of the parts, wrapped once (`row-added`). The key has a byte and lies inside its buffer, as required, so its last byte is there to be read.
 use Rattle.types.specs.Says.{saysHeld}
 use Rattle.slatedb_walks.specs.Walk.{heldLength}
 use Rattle.slatedb_walks.proofs.Laws.{row-added}

@@ -1,4 +1,5 @@
--- The rows still to come, counted from the tally at hand, make the whole; each step finds the next of them, so the two other answers are never met.
+-- `fold` answers the tally with each of the block's rows counted.
+-- The loop's invariant: the rows still to come, counted from the tally at hand, make the whole. Each step finds the next of them, so the two other answers are never met.
 use Prim.Native.Nat.{_-_}
 use mathlib.Core.Path.{_≡_, sym}
 use native.Mathlib.Omega.{arith}

@@ -1,4 +1,5 @@
--- One row counted: a law for each kind of it.
+-- `tallied` counts one row: among the rows, among the tombstones or the merges where it is one, and its value's bytes.
+-- There is one law for each of the three kinds: the counts that its arm sets are the sums that `added` promised, and the others are those that came.
 use borrow.Author.Needs.{needs}
 use Rattle.tally.proofs.Laws.{value-counted, tombstone-counted, merge-counted}
 use Rattle.tally.proofs.tallied.Statement.{statement}

@@ -1,4 +1,5 @@
--- The check's verdict is the answer; an accepted block is folded over from the cursor that `new` promised.
+-- `tally_block` answers the check's verdict, beside the tally with the block's rows counted, or the one that came where the block is refused.
+-- An accepted block opens, at the cursor that `new` promised: with the check's answer this is what `fold` requires, and what `fold` promised is the definition's tally.
 use borrow.Author.Needs.{needs}
 use Rattle.tally.proofs.Laws.{accepted, opens-so, block-counted, block-refused}
 use Rattle.tally.proofs.tally_block.Statement.{statement}

@@ -1,4 +1,5 @@
--- `new_with_restart_interval` keeps its promise: an empty builder, or 8 and the zero one. Each exit is one of the definition's.
+-- `new_with_restart_interval` keeps its promise: an empty builder with these settings, or 8 and the zero one.
+-- The three tests are the definition's, in its order, and each exit is one of its laws; the last key's bytes are zeros in any case.
 use borrow.Author.Needs.{needs}
 use Rattle.layout.specs.Laws.Builder.{new-large, new-none, new-long, new-good}
 use Rattle.block_v2.proofs.Writes.{made-not, made-good}

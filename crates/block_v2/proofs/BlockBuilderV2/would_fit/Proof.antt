@@ -1,4 +1,5 @@
--- `would_fit` keeps its promise: its array has as many bytes as the longest key, so `would_fit_in_place` answers as of the builder.
+-- `would_fit` keeps its promise: what the fit question answers of the builder.
+-- Its array has as many bytes as the longest key, so `would_fit_in_place` refuses nothing for them; and the builder's numbers beside this array are the builder.
 use borrow.Author.Needs.{needs}
 use Rattle.block_v2.proofs.Writes.{fits}
 use Rattle.block_v2.proofs.BlockBuilderV2.would_fit.Statement.{statement}

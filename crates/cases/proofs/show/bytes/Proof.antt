@@ -1,4 +1,5 @@
--- The loop over the bytes ends: fewer are left each time.
+-- `bytes` writes a count and the first so many bytes of a buffer: it reads none past the buffer's end, and it ends.
+-- The place of each byte is tested before the read, so the loop has nothing to keep; of the bytes to be written fewer are left each time.
 use Prim.Native.Nat.{_-_}
 use borrow.Author.Needs.{needs}
 use Rattle.cases.proofs.show.bytes.Statement.{statement}

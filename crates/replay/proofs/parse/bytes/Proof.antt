@@ -1,4 +1,5 @@
--- The count lies within `out`: the loop keeps the length of `out`, which the count is not above.
+-- `bytes` answers a count that lies within `out`; it stores no byte past the end of `out`, and it ends.
+-- The loop keeps the length of `out`, which the count, the lesser of two numbers, is not above; so each store has its place, and fewer bytes are left each time.
 use Prim.Native.Nat.{_-_, _≤_}
 use mathlib.Core.Path.{_≡_, sym}
 use native.Mathlib.Omega.{arith}

@@ -1,4 +1,5 @@
--- The loop reads no byte past the end, and ends.
+-- `number` reads each digit of a word, no byte past its end, and ends; of the number itself nothing is promised.
+-- The loop's invariant: it runs to the word's length, so that each place before its end can be read. Fewer digits are left each time.
 use Prim.Native.Nat.{_-_}
 use mathlib.Core.Path.{_≡_}
 use borrow.Author.Needs.{needs}

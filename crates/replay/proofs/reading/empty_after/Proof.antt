@@ -1,4 +1,5 @@
--- The loop ends: fewer turns are left each time.
+-- `empty_after` makes so many steps, then says whether no row is left; it ends.
+-- A step can be made with any cursor on any block, so the loop has nothing to keep; of the steps asked for fewer are left each time.
 use Prim.Native.Nat.{_-_}
 use borrow.Author.Needs.{needs}
 use Rattle.replay.proofs.reading.empty_after.Statement.{statement}

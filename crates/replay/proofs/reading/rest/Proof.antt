@@ -1,4 +1,5 @@
--- The loop ends: fewer turns are left each time.
+-- `rest` makes step after step and says what each gives, until the cursor is done; it ends.
+-- It has as many turns as the block has bytes, and fewer are left each time, whether or not it stops before. No step requires anything, so the loop has nothing to keep.
 use Prim.Native.Nat.{_-_}
 use borrow.Author.Needs.{needs}
 use Rattle.replay.proofs.reading.rest.Statement.{statement}

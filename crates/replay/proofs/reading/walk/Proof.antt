@@ -1,4 +1,5 @@
--- The loop ends: fewer turns are left each time.
+-- `walk` makes the operations of a line, one for each word from the fourth on; it ends.
+-- Any word is some operation and any cursor may be given to it, so the loop has nothing to keep; of the words that were counted fewer are left each time.
 use Prim.Native.Nat.{_-_}
 use borrow.Author.Needs.{needs}
 use Rattle.replay.proofs.reading.walk.Statement.{statement}

@@ -1,4 +1,5 @@
--- The loop ends: fewer turns are left each time.
+-- `bytes` writes so many bytes from a place on; it ends, whether or not there are as many.
+-- A byte past the end is read as 0, and the place is a sum that may wrap, so nothing has to be known of either; fewer bytes are left to be written each time.
 use Prim.Native.Nat.{_-_}
 use borrow.Author.Needs.{needs}
 use Rattle.replay.proofs.show.bytes.Statement.{statement}

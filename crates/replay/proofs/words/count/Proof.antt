@@ -1,4 +1,5 @@
--- The loop reads no byte past the end, and ends.
+-- `count` goes over all of the text and counts its marks; it reads no byte past the end, and it ends.
+-- The loop's invariant: it runs to the text's length. The count goes up by a sum that may wrap, so that no bound for it has to be kept.
 use Prim.Native.Nat.{_-_}
 use mathlib.Core.Path.{_≡_}
 use borrow.Author.Needs.{needs}

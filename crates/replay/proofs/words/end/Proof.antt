@@ -1,4 +1,5 @@
--- The loop ends, at a place between `from` and the end of the text.
+-- `end` answers a place between `from` and the end of the text, or that end where `from` lies past it.
+-- The loop's invariant: its place is not before `from`, and it runs to the text's length. It stops at a mark, which is inside, or at the end; fewer bytes are left each time.
 use Prim.Native.Nat.{_-_, _≤_}
 use mathlib.Core.Path.{_≡_}
 use borrow.Author.Needs.{needs}

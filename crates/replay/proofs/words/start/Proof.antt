@@ -1,4 +1,5 @@
--- The loop ends, and the place stays inside the text.
+-- `start` answers a place that is not past the end of the text, so that a word may start there.
+-- The loop's invariant is this of its place: `end` promises it, a place at the end is answered at once, and past a mark before the end it still holds. Fewer words are left to be passed.
 use Prim.Native.Nat.{_-_, _≤_}
 use borrow.Author.Needs.{needs}
 use lib.ListN.{length}

@@ -1,4 +1,5 @@
--- The loop ends: fewer turns are left each time.
+-- `which` looks for the first of the names that is the same as the word; it ends, found or not.
+-- Words are cut off and compared whatever their bytes are, so the loop has nothing to keep; it has as many turns as the names have bytes, and fewer are left each time.
 use Prim.Native.Nat.{_-_}
 use borrow.Author.Needs.{needs}
 use Rattle.replay.proofs.words.which.Statement.{statement}

@@ -1,4 +1,5 @@
--- The loop over the rows ends, and the lent buffers keep their lengths.
+-- `add_rows` offers the rows of a line to a new builder, one after another; it ends, and the lent buffers keep their lengths.
+-- The loop's invariant is these two lengths, which `add` doesn't change. From any word some row is made, which the builder accepts or refuses; fewer words are left each time.
 use Prim.Native.Nat.{_-_}
 use mathlib.Core.Path.{_≡_}
 use borrow.Author.Needs.{needs}
