@@ -1,24 +1,24 @@
 -- "Rows from the desk", cases 1 to 10, in a single list; `cases-hold` is the one fact over it, by computation against the definitions.
-use Prim.Native.Nat.{ℕ, zero, suc, _+_}
+use Prim.Native.Nat.{ℕ, zero, suc}
 use mathlib.Core.Path.{_≡_, refl}
 use mathlib.Core.Bool.{Bool, true, false, cond}
 use mathlib.Core.List.{List, [], _∷_, _++_}
 use lib.Count.{leadingZeros}
 use lib.Dec.{eqb}
-use lib.ListN.{length, take, drop, replicate, set}
+use lib.ListN.{length, take, replicate}
 use Rattle.layout.specs.Answer.{Res, ok, refuse, bind}
 use Rattle.layout.specs.Limits.{maxKey}
 use Rattle.layout.specs.Varint.{varint, varintIn, varintLength, Num, num, readVarint, readVarintIn}
 use Rattle.layout.specs.Fixed.{big, unbig, bits, unbits}
 use Rattle.layout.specs.Place.{varintAt, fixedAt, splice}
 use Rattle.layout.specs.Key.{Key, below, common}
-use Rattle.layout.specs.Row.{Kind, value, tombstone, Time, Absent, Fields, Row, present, timeBytes, rowBytes, rowSize, sizeAlone, keyLengthTests, lengthTests}
-use Rattle.layout.specs.RowRead.{RowRead, decodeRow, lengthsAt, headAt, flagsAt, bodyAt, timeAt, timesAt, rowAt, readRow, readKey}
+use Rattle.layout.specs.Row.{value, Absent, Row, present, timeBytes, rowBytes, rowSize, sizeAlone, keyLengthTests, lengthTests}
+use Rattle.layout.specs.RowRead.{decodeRow, lengthsAt, headAt, flagsAt, bodyAt, timeAt, timesAt, rowAt, readRow, readKey}
 use Rattle.layout.specs.Block.{isRestart, shareOf, laidRow, offsetBytes, trailer}
 use Rattle.layout.specs.Trailer.{shortAt, trailerOf, risingFrom, allOffsets, regionOf}
 use Rattle.layout.specs.Builder.{Builder, fresh, stateTests, fits, wouldFit, add, stateAfter, dataAfter, placesAfter, build, blockAfter}
 use Rattle.layout.specs.Cursor.{Direction, ascending, descending, Cursor, opened, Answer, found, done, Step, rowEndingAt, stepUp, stepBackIn, stepDown, next}
-use Rattle.layout.specs.Seek.{Found, middle, searchIn, search, restartKey, restartBelow, searchRestarts, walkRegion, walkUp, seekUp, lastEqual, startDown, lastAtOrBelow, walkDown, seekDown, Sought, seek}
+use Rattle.layout.specs.Seek.{middle, searchIn, search, restartKey, restartBelow, searchRestarts, walkRegion, walkUp, seekUp, lastEqual, startDown, lastAtOrBelow, walkDown, seekDown, seek}
 
 -- ---- a builder that is offered rows, over buffers that hold something before
 

@@ -1,7 +1,7 @@
 -- "How a cursor travels": opening, a step in both directions, `is_empty`; what each gives back, and the key buffer after.
 use Prim.Native.Nat.{ℕ, zero, suc, _+_, _-_}
 use mathlib.Core.Bool.{Bool, true, false, cond, _||_}
-use mathlib.Core.List.{List, [], _∷_}
+use mathlib.Core.List.{List, []}
 use lib.Dec.{ltb, leb, eqb}
 use lib.ListN.{length, take}
 use Rattle.layout.specs.Answer.{Res, ok, refuse, bind, guard}

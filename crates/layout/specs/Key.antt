@@ -1,9 +1,7 @@
 -- Keys: their order, what two begin with in common, and the first of a list at or above a target.
-use Prim.Native.Nat.{ℕ, zero, suc, _<_}
-use mathlib.Core.Path.{_≡_}
+use Prim.Native.Nat.{ℕ, suc}
 use mathlib.Core.Bool.{Bool, true, false, cond, not}
 use mathlib.Core.List.{List, [], _∷_}
-use mathlib.Core.Logic.{_⊎_}
 use lib.Dec.{ltb, eqb}
 
 abbrev pub Key : Type 0

@@ -1,11 +1,11 @@
 -- Numbers at a place of the data: the number, and where what follows it starts. What a lent buffer holds after bytes are put at a place of it.
-use Prim.Native.Nat.{ℕ, zero, suc, _+_}
-use mathlib.Core.Bool.{Bool, true, false, cond}
-use mathlib.Core.List.{List, [], _∷_, _++_}
+use Prim.Native.Nat.{ℕ, _+_}
+use mathlib.Core.Bool.{cond}
+use mathlib.Core.List.{List, _++_}
 use lib.Dec.{ltb}
 use lib.IntN.{ℤ}
 use lib.ListN.{length, take, drop}
-use Rattle.layout.specs.Answer.{Res, ok, refuse, bind, guard}
+use Rattle.layout.specs.Answer.{Res, ok, bind, guard}
 use Rattle.layout.specs.Varint.{readVarint, Num}
 use Rattle.layout.specs.Fixed.{unbig, unbits}
 

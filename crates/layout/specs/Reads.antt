@@ -1,14 +1,14 @@
 -- A block's rows, region by region, each read from its restart to the region's end. The order of keys is not asked: it stands beside, as `NeverFall`.
 use Prim.Native.Nat.{ℕ, zero, suc}
 use mathlib.Core.Path.{_≡_}
-use mathlib.Core.Bool.{Bool, true, false, cond}
+use mathlib.Core.Bool.{true, cond}
 use mathlib.Core.List.{List, [], _∷_, _++_, map}
 use lib.Dec.{ltb, eqb}
 use lib.ListN.{length}
-use Rattle.layout.specs.Answer.{Res, ok, refuse, bind}
+use Rattle.layout.specs.Answer.{Res, ok, bind}
 use Rattle.layout.specs.Key.{Key, mayFollow}
 use Rattle.layout.specs.Row.{Row}
-use Rattle.layout.specs.RowRead.{RowRead, readRow, keyOf, fieldsOf}
+use Rattle.layout.specs.RowRead.{readRow, keyOf, fieldsOf}
 use Rattle.layout.specs.Trailer.{Trailer, trailerOf, dataOf, Region, regionOf, allOffsets}
 use Rattle.layout.specs.Cursor.{Keyed, keyed}
 

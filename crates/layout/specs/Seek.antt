@@ -1,12 +1,12 @@
 -- "A seek starts afresh": the search over restart keys with its count, the run of equal restarts, both walks, and the cursor left behind.
 use Prim.Native.Nat.{ℕ, zero, suc, _+_, _-_, _/_}
 use mathlib.Core.Bool.{Bool, true, false, cond}
-use mathlib.Core.List.{List, [], _∷_}
+use mathlib.Core.List.{List, []}
 use lib.Dec.{ltb, eqb}
 use lib.ListN.{length}
-use Rattle.layout.specs.Answer.{Res, ok, refuse, bind, guard}
+use Rattle.layout.specs.Answer.{Res, ok, refuse, bind}
 use Rattle.layout.specs.Key.{Key, below, same}
-use Rattle.layout.specs.RowRead.{KeyRead, readRow, readKey, keyOf, joined}
+use Rattle.layout.specs.RowRead.{readRow, readKey, keyOf, joined}
 use Rattle.layout.specs.Trailer.{Trailer, trailerOf, dataOf, Region, regionOf}
 use Rattle.layout.specs.Cursor.{Direction, ascending, descending, Cursor, cursorIs}
 

@@ -1,6 +1,6 @@
 -- A varint: an unsigned 32-bit number, seven bits a byte, lowest first, the top bit set on all but the last byte.
 use Prim.Native.Nat.{ℕ, zero, suc, _+_, _-_, _*_, _/_, _%_}
-use mathlib.Core.Bool.{Bool, true, false, cond}
+use mathlib.Core.Bool.{cond}
 use mathlib.Core.List.{List, [], _∷_}
 use lib.Count.{leadingZeros}
 use lib.Dec.{ltb, eqb}

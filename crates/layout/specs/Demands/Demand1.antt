@@ -2,7 +2,7 @@
 -- here: a refused call changes neither cursor, builder nor lent memory; and bytes that tell nothing tell nothing: two cursors, or two builders, whose arrays differ only past the end of
 -- the key that they carry, and two lent key buffers of equal length, give equal answers, equal cursors or builders, and equal bytes.
 use Prim.Native.Nat.{ℕ, _+_, _≤_}
-use mathlib.Core.Path.{_≡_, refl, ap}
+use mathlib.Core.Path.{_≡_, refl}
 use mathlib.Core.Bool.{Bool}
 use mathlib.Core.List.{List}
 use native.Mathlib.Nat.{zero-add}

@@ -3,10 +3,10 @@
 --
 -- What the statements say is in Rows, of runs of calls and of steps in Runs; every call in them is a definition that a contract names. The rows of an accepted block (`Rows`) are named by
 -- their places. A key buffer is asked that is no shorter than any key (`RoomFor`): one of 1,024 bytes is (`room-enough`). The proofs are in Proof2.
-use Prim.Native.Nat.{ℕ, suc, _<_, _≤_}
+use Prim.Native.Nat.{ℕ, _<_, _≤_}
 use mathlib.Core.Path.{_≡_, ap, sym, _∙_}
 use mathlib.Core.Bool.{true, false}
-use mathlib.Core.List.{List, [], _∷_, _++_}
+use mathlib.Core.List.{List, []}
 use lib.ListN.{length, getD}
 use Rattle.layout.specs.Answer.{ok}
 use Rattle.layout.specs.Limits.{maxKey, maxRestarts}

@@ -3,13 +3,13 @@
 --
 -- A run (`Ran`) is any mix of calls on a fresh builder, refused ones among them, each given what the last gave back, over buffers of any length and content. A tombstone's value
 -- counts as empty (`plainRow`). The proofs are in Proof3.
-use Prim.Native.Nat.{ℕ, suc, _≤_, zero-le}
-use mathlib.Core.Path.{_≡_, refl, sym, ap, _∙_}
-use mathlib.Core.List.{List, [], _∷_, _++_, map}
+use Prim.Native.Nat.{ℕ, _≤_}
+use mathlib.Core.Path.{_≡_}
+use mathlib.Core.List.{List, [], _++_, map}
 use lib.ListN.{length}
 use Rattle.layout.specs.Answer.{ok}
 use Rattle.layout.specs.Limits.{maxKey}
-use Rattle.layout.specs.Row.{Fields, Row, encodeRow, plain, SameRow, Typed, plainRow}
+use Rattle.layout.specs.Row.{Fields, Row, encodeRow, SameRow, Typed, plainRow}
 use Rattle.layout.specs.RowRead.{RowRead, decodeRow}
 use Rattle.layout.specs.Block.{blockBytes}
 use Rattle.layout.specs.Trailer.{Trailer, dataOf}
@@ -17,7 +17,7 @@ use Rattle.layout.specs.Cursor.{ascending, descending, opened, openBlock
 use Rattle.layout.specs.Reads.{contentOf}
 use Rattle.layout.specs.Demands.Runs.{Held, Call, Ran, Finishes, backwards, WalksAll, GivesFirst, KeysFit}
 use Rattle.layout.specs.Demands.RunsProof.{walks-first}
-use Rattle.layout.specs.Demands.Proof3.{ran-finishes, ran-block, ran-laid, ran-fits, same-rows, ReadsBack, laid-reads-back, Encoded, encode-tells, encoded-differ, decoded-differ}
+use Rattle.layout.specs.Demands.Proof3.{ran-finishes, ran-laid, ran-fits, same-rows, ReadsBack, laid-reads-back, encode-tells, encoded-differ, decoded-differ}
 
 -- After at least one accepted row, build answers a block, never 6 or 18: the block of the accepted rows.
 pub run-finishes : (size interval : ℕ) (calls : List Call) (rows : List Row) (end : Held) → Ran size interval calls rows end → 1 ≤ length rows → Finishes end (blockBytes interval rows)

@@ -1,7 +1,7 @@
 -- Each demand's theorem once, on the desk's own rows, so that none is empty: what a theorem asks for is there, by computation, for a run that makes case 2's block with calls of every kind
 -- and a refused row among them, and for case 8's block.
-use Prim.Native.Nat.{ℕ, zero, suc, _+_, _<_, _≤_}
-use mathlib.Core.Path.{_≡_, refl, ap, sym, _∙_}
+use Prim.Native.Nat.{ℕ, zero, suc, _<_, _≤_}
+use mathlib.Core.Path.{_≡_, refl}
 use mathlib.Core.Bool.{Bool, true, false, cond}
 use mathlib.Core.List.{List, [], _∷_, _++_, map, append-nil}
 use mathlib.Core.Logic.{⊎-elim}
@@ -11,12 +11,12 @@ use lib.Dec.{ltb}
 use lib.ListN.{length, take, drop, replicate, getD}
 use Rattle.layout.specs.Answer.{Res, ok, refuse}
 use Rattle.layout.specs.Limits.{maxKey, maxRestarts}
-use Rattle.layout.specs.Varint.{varint, varintIn, varintLength, readVarint, readVarintIn}
-use Rattle.layout.specs.Fixed.{big, unbig, bits, unbits}
+use Rattle.layout.specs.Varint.{varint, varintIn, readVarint, readVarintIn}
+use Rattle.layout.specs.Fixed.{big, unbig}
 use Rattle.layout.specs.Place.{varintAt, fixedAt, splice}
 use Rattle.layout.specs.Key.{Key, below, mayFollow, common, leading, firstAtOrAbove, firstAbove}
-use Rattle.layout.specs.Row.{Kind, value, Time, Absent, Fields, Row, timeBytes, rowBytes, rowSize, keyLengthTests, lengthTests, encodeRow, Typed, plainRow}
-use Rattle.layout.specs.RowRead.{RowRead, holds, lengthsAt, headAt, flagsAt, bodyAt, timeAt, timesAt, rowAt, readRow, readKey, decodeRow}
+use Rattle.layout.specs.Row.{Absent, Row, timeBytes, rowBytes, keyLengthTests, lengthTests, encodeRow, Typed, plainRow}
+use Rattle.layout.specs.RowRead.{RowRead, holds, lengthsAt, headAt, flagsAt, bodyAt, timeAt, timesAt, rowAt, readRow}
 use Rattle.layout.specs.Block.{isRestart, shareOf, laidRow, rowsFrom, offsetsFrom, blockRows, offsets, offsetBytes, trailer, blockBytes}
 use Rattle.layout.specs.Trailer.{shortAt, Trailer, dataOf, trailerOf, risingFrom, allOffsets, regionOf}
 use Rattle.layout.specs.Builder.{Builder, keptBuilder, fresh, newBuilder, stateTests, fits, wouldFit, add, stateAfter, build}
@@ -25,7 +25,7 @@ use Rattle.layout.specs.Cursor.{ascending, descending, Cursor, keptCurso
 use Rattle.layout.specs.Seek.{seek, soughtAfter}
 use Rattle.layout.specs.Reads.{regionRows, regionsRows, allRows, Accepts, contentOf, keysOf}
 use Rattle.layout.specs.Cases.{rowWith}
-use Rattle.layout.specs.Demands.Runs.{Held, held, Call, offer, would-fit, is-empty, finish, run, rowsOf, Ran, Finishes, RoomFor, backwards, WalksAll, stepsGive, GivesFirst, KeysFit}
+use Rattle.layout.specs.Demands.Runs.{Held, held, Call, offer, would-fit, is-empty, finish, run, rowsOf, Ran, Finishes, RoomFor, backwards, WalksAll, stepsGive, GivesFirst}
 use Rattle.layout.specs.Demands.Rows.{DecodesBack, Rows, Walked, SoughtUp, SoughtDown, FoundFirst}
 use Rattle.layout.specs.Demands.Demand1.{refused-add, given-bytes, stale-bytes-tell-nothing, stale-bytes-empty, stale-bytes-seek, stale-bytes-fit, stale-bytes-add, stale-bytes-build}
 use Rattle.layout.specs.Demands.Demand2.{decode-encode, check-exact, has-rows, room-enough, walk-any-buffers, first-at-or-above, last-at-or-below, walk-steps, seek-ascending-lands, seek-descending-lands, retry-found, restarts-at-most, finished-accepted}

@@ -2,49 +2,46 @@
 -- its rows (`Accepts`), with the walks that stand before or after them.
 use Prim.Native.Nat.{ℕ, zero, suc, _+_, _-_, _*_, _<_, _≤_, zero-le}
 use mathlib.Core.Path.{_≡_, refl, ap, sym, _∙_}
-use mathlib.Core.Bool.{Bool, true, false, not}
-use mathlib.Core.List.{List, [], _∷_, _++_, append-nil, map}
+use mathlib.Core.Bool.{true, false}
+use mathlib.Core.List.{List, [], _∷_, _++_, map}
 use mathlib.Core.Logic.{_⊎_, ⊎-elim, inl, inr}
 use native.Mathlib.Omega.{arith}
 use native.Mathlib.Nat.{not-suc-le-zero}
 use native.Mathlib.Numerals.{add-one}
-use lib.Dec.{ltb, eqb}
 use lib.ListN.{length, take, drop, getD, length-append, length-drop, length-map, drop-of-length-le}
 use lib.Seq.{getD-drop}
 use borrow.Author.Tests.{eq-eqb}
-use Rattle.layout.specs.Answer.{Res, ok, refuse, bind}
+use Rattle.layout.specs.Answer.{Res, ok}
 use Rattle.layout.specs.Limits.{maxKey, maxRestarts}
-use Rattle.layout.specs.Key.{Key, below, mayFollow, leading, isBelow, notAbove, firstAtOrAbove, firstAbove}
-use Rattle.layout.specs.Row.{Fields, Row, rowBytes, plain, Typed, plainRow}
-use Rattle.layout.specs.RowRead.{RowRead, readRow, decodeRow, keyLength, keyOf, fieldsOf}
-use Rattle.layout.specs.Block.{blockBytes, blockRows, offsets}
+use Rattle.layout.specs.Key.{Key, below, leading, isBelow, notAbove, firstAtOrAbove, firstAbove}
+use Rattle.layout.specs.Row.{Fields, Row, rowBytes, Typed, plainRow}
+use Rattle.layout.specs.RowRead.{RowRead, readRow, decodeRow, keyLength}
 use Rattle.layout.specs.Fixed.{unbig}
-use Rattle.layout.specs.Trailer.{shortAt, Trailer, trailerOf, dataOf, offsetAt, Region, regionOf}
+use Rattle.layout.specs.Trailer.{shortAt, Trailer, dataOf, offsetAt}
 use Rattle.layout.specs.Check.{check}
-use Rattle.layout.specs.Cursor.{ascending, descending, Cursor, marked, opened, openBlock, Keyed, keyed, found, done, Step, stepIs, next}
-use Rattle.layout.specs.Seek.{doneUp, doneDown, Sought, soughtIs, seek}
-use Rattle.layout.specs.Reads.{regionRows, regionsRows, Reads, allRows, NeverFall, Accepts, keysOf, contentOf}
+use Rattle.layout.specs.Cursor.{ascending, descending, Cursor, opened, Keyed, found, done, Step, stepIs, next}
+use Rattle.layout.specs.Seek.{doneUp, doneDown}
+use Rattle.layout.specs.Reads.{regionsRows, Reads, allRows, NeverFall, keysOf, contentOf}
 use Rattle.layout.specs.Demands.Runs.{RoomFor, backwards, Walks, stands, gives, WalksAll}
 use Rattle.layout.specs.Demands.Rows.{DecodesBack, Rows, Walked, RowsNeverFall, SoughtUp, SoughtDown, FoundFirst}
 use Rattle.layout.specs.Demands.RunsProof.{walks-before, walks-after}
-use Rattle.layout.specs.Demands.Proof3.{Encoded, encode-tells, encoded-fields}
+use Rattle.layout.specs.Demands.Proof3.{Encoded, encoded-fields}
 use Rattle.layout.specs.Laws.Answer.{ok-inj, ltb-cases, bool-cases, clash}
-use Rattle.layout.specs.Laws.Key.{AtMost, at-most-refl, at-most-trans, at-most-antisym, below-false, le-below, below-le}
+use Rattle.layout.specs.Laws.Key.{AtMost, at-most-refl, at-most-trans, at-most-antisym, below-false, le-below}
 use Rattle.layout.specs.Laws.Row.{placesOf, readRow-law, placesOf-fields, placesOf-key}
-use Rattle.layout.specs.Laws.Tells.{RowEnds, readRow-ends, restart-least}
-use Rattle.layout.specs.Laws.Trailer.{regionOf-tells, trailerOf-tells, OffsetsTell, allOffsets-tell}
+use Rattle.layout.specs.Laws.Tells.{readRow-ends, restart-least}
+use Rattle.layout.specs.Laws.Trailer.{regionOf-tells, trailerOf-tells}
 use Rattle.layout.specs.Laws.Cursor.{open-good, next-marked}
-use Rattle.layout.specs.Laws.Block.{AllOk, AllFit}
 use Rattle.layout.specs.Laws.Reads.{region-at, rows-all}
-use Rattle.layout.specs.Laws.Ascend.{Before, opened-before}
-use Rattle.layout.specs.Laws.Descend.{After, opened-after}
+use Rattle.layout.specs.Laws.Ascend.{opened-before}
+use Rattle.layout.specs.Laws.Descend.{opened-after}
 use Rattle.layout.specs.Laws.Accept.{check-accepts, accepts-check}
 use Rattle.layout.specs.Laws.Sorted.{may-at-most}
 use Rattle.layout.specs.Laws.First.{first-before, first-here, above-before, above-here}
-use Rattle.layout.specs.Laws.Split.{Split, split-at}
+use Rattle.layout.specs.Laws.Split.{split-at}
 use Rattle.layout.specs.Laws.LandsUp.{LandsUp, lands, passes, SeeksUp, seeks-up}
 use Rattle.layout.specs.Laws.LandsDown.{LandsDown, lands as lands-down, passes as passes-down, SeeksDown, seeks-down}
-use Rattle.layout.specs.Laws.Laid.{LaidBlock, laid-block}
+use Rattle.layout.specs.Laws.Laid.{LaidBlock}
 
 -- ---- one row
 

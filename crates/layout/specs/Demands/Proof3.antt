@@ -1,31 +1,30 @@
 -- Demand 3, proved: a run makes the block of its accepted rows (`Made`), such a block is read back (`laid-block`), and a read has one outcome; so equal blocks have
 -- equal rows. Rows after one key: what is read of one's bytes depends on no byte past its end.
-use Prim.Native.Nat.{ℕ, zero, suc, _+_, _-_, _<_, _≤_, zero-le}
+use Prim.Native.Nat.{ℕ, _+_, _≤_}
 use mathlib.Core.Path.{_≡_, refl, ap, sym, _∙_}
-use mathlib.Core.Bool.{Bool, true, false}
+use mathlib.Core.Bool.{Bool, false}
 use mathlib.Core.List.{List, [], _∷_, _++_, append-nil, map}
 use native.Mathlib.Omega.{arith}
-use lib.Dec.{ltb, eqb}
-use lib.ListN.{length, take, drop, length-append}
+use lib.Dec.{ltb}
+use lib.ListN.{length, take, length-append}
 use borrow.Author.Tests.{le-ltb, ltb-false}
-use Rattle.layout.specs.Answer.{Res, ok, refuse, bind, guard}
+use Rattle.layout.specs.Answer.{ok}
 use Rattle.layout.specs.Limits.{maxKey, maxValue}
-use Rattle.layout.specs.Key.{Key}
-use Rattle.layout.specs.Row.{Fields, Row, valueOf, rowBytes, keyLengthTests, lengthTests, encodeRow, plain, SameRow, Typed, plainRow}
-use Rattle.layout.specs.RowRead.{RowRead, rowAt, readRow, decodeRow, keyLength, keyOf, fieldsOf}
+use Rattle.layout.specs.Row.{Fields, Row, valueOf, rowBytes, keyLengthTests, lengthTests, encodeRow, SameRow, Typed, plainRow}
+use Rattle.layout.specs.RowRead.{RowRead, rowAt, readRow, decodeRow, keyLength}
 use Rattle.layout.specs.Block.{blockBytes, offsets}
-use Rattle.layout.specs.Trailer.{Trailer, trailerOf, dataOf, Region, regionOf, allOffsets}
+use Rattle.layout.specs.Trailer.{Trailer, dataOf}
 use Rattle.layout.specs.Builder.{blockAfter}
-use Rattle.layout.specs.Cursor.{ascending, descending, Cursor, opened, openBlock, Keyed, keyed}
+use Rattle.layout.specs.Cursor.{ascending, descending, opened, openBlock, Keyed}
 use Rattle.layout.specs.Reads.{regionsRows, Reads, allRows, AllOf, contentOf}
-use Rattle.layout.specs.Demands.Runs.{Held, Call, buildOf, Ran, Finishes, RoomFor, backwards, WalksAll, KeysFit}
+use Rattle.layout.specs.Demands.Runs.{Held, Call, Ran, Finishes, RoomFor, backwards, WalksAll, KeysFit}
 use Rattle.layout.specs.Demands.RunsProof.{made-ran, made-finishes, walks-before, walks-after}
 use Rattle.layout.specs.Laws.Answer.{bind-then, guard-then, ok-inj}
 use Rattle.layout.specs.Laws.Row.{FieldsOk, KeyOk, prefix-free}
-use Rattle.layout.specs.Laws.Tells.{RowEnds, readRow-ends, keyLengthTests-tells}
+use Rattle.layout.specs.Laws.Tells.{keyLengthTests-tells}
 use Rattle.layout.specs.Laws.Local.{readRow-local}
 use Rattle.layout.specs.Laws.Carry.{keyOf-length}
-use Rattle.layout.specs.Laws.Block.{RowOk, AllOk, AllFit}
+use Rattle.layout.specs.Laws.Block.{AllOk, AllFit}
 use Rattle.layout.specs.Laws.Cursor.{open-good}
 use Rattle.layout.specs.Laws.Made.{Made}
 use Rattle.layout.specs.Laws.Reads.{rows-all}

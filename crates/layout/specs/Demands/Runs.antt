@@ -1,12 +1,10 @@
 -- What the demands speak of: a run of calls on a builder, each given the state and the buffers that the last one gave back; and a run of steps on a cursor.
-use Prim.Native.Nat.{ℕ, zero, suc, _<_, _≤_}
+use Prim.Native.Nat.{ℕ, _≤_}
 use mathlib.Core.Path.{_≡_}
-use mathlib.Core.Bool.{Bool, true, false}
 use mathlib.Core.List.{List, [], _∷_, _++_}
 use lib.ListN.{length, take}
 use Rattle.layout.specs.Answer.{Res, ok, refuse}
-use Rattle.layout.specs.Key.{Key}
-use Rattle.layout.specs.Row.{Fields, Row, Typed}
+use Rattle.layout.specs.Row.{Row, Typed}
 use Rattle.layout.specs.RowRead.{keyLength}
 use Rattle.layout.specs.Builder.{Builder, newBuilder, add, stateAfter, dataAfter, placesAfter, build, blockAfter}
 use Rattle.layout.specs.Cursor.{Cursor, marked, Keyed, keyed, Answer, found, done, Step, stepIs, next, cursorAfter}

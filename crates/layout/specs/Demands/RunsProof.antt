@@ -1,29 +1,26 @@
 -- A run keeps `Made`: whatever calls were made, state and buffers are those of the accepted rows. A walk along cursors that each stand before (or after) the rows to
 -- come gives exactly these rows; and with key buffers that are too short now and then, the first of them.
-use Prim.Native.Nat.{ℕ, zero, suc, _+_, _-_, _*_, _<_, _≤_, zero-le}
-use mathlib.Core.Path.{_≡_, refl, ap, sym, _∙_}
-use mathlib.Core.Bool.{Bool, true, false}
+use Prim.Native.Nat.{ℕ, zero, suc, _+_, _*_, _≤_}
+use mathlib.Core.Path.{_≡_, refl, ap, _∙_}
 use mathlib.Core.List.{List, [], _∷_, _++_, append-assoc, append-nil}
 use mathlib.Core.Logic.{⊎-elim}
 use native.Mathlib.Omega.{arith}
 use lib.Dec.{ltb, eqb}
 use lib.ListN.{length, take, length-append}
 use borrow.Author.Tests.{ltb-false}
-use Rattle.layout.specs.Answer.{Res, ok, refuse, bind, guard}
-use Rattle.layout.specs.Limits.{maxKey}
+use Rattle.layout.specs.Answer.{Res, ok, refuse}
 use Rattle.layout.specs.Place.{splice}
-use Rattle.layout.specs.Key.{Key}
-use Rattle.layout.specs.Row.{Fields, Row, Typed}
-use Rattle.layout.specs.RowRead.{RowRead, keyLength}
-use Rattle.layout.specs.Block.{blockRows, offsets, trailer, blockBytes}
+use Rattle.layout.specs.Row.{Row}
+use Rattle.layout.specs.RowRead.{keyLength}
+use Rattle.layout.specs.Block.{offsets, trailer, blockBytes}
 use Rattle.layout.specs.Trailer.{Trailer}
-use Rattle.layout.specs.Builder.{Builder, newBuilder, stateTests, presentSize, add, build, blockAfter}
-use Rattle.layout.specs.Cursor.{Cursor, marked, Keyed, keyed, found, done, stepIs, next}
+use Rattle.layout.specs.Builder.{Builder, stateTests, presentSize, build, blockAfter}
+use Rattle.layout.specs.Cursor.{Cursor, marked, Keyed, found, done, stepIs}
 use Rattle.layout.specs.Demands.Runs.{Held, held, Call, offer, would-fit, is-empty, finish, addTo, buildOf, after, taken, accepted, run, rowsOf, TypedCall, TypedCalls, Ran, Finishes, Walks, stands, gives, EndsDone, RoomFor, backwards, WalksAll, stepsGive, GivesFirst}
 use Rattle.layout.specs.Laws.Answer.{bind-then, guard-then, ltb-cases}
 use Rattle.layout.specs.Laws.Splice.{length-splice, take-splice}
 use Rattle.layout.specs.Laws.Trailer.{length-trailer}
-use Rattle.layout.specs.Laws.Ascend.{InRegion, Before, before-gives, before-done, marked-stays}
+use Rattle.layout.specs.Laws.Ascend.{Before, before-gives, before-done, marked-stays}
 use Rattle.layout.specs.Laws.Descend.{After, after-gives, after-done, FromEnd, empty, ending, from-end}
 use Rattle.layout.specs.Laws.Made.{Made, made-none, made-more, made-builds}
 use Rattle.layout.specs.Laws.Given.{next-again}

@@ -1,27 +1,27 @@
 -- The check accepts a block exactly when trailer and offsets are good, rows cover the data with one starting at each restart, and keys never fall; and then it
 -- answers how many rows there are. Both directions go along the check's own fold, region by region.
-use Prim.Native.Nat.{ℕ, zero, suc, _+_, _-_, _<_, _≤_, zero-le}
+use Prim.Native.Nat.{ℕ, zero, suc, _+_, _-_, _<_, _≤_}
 use mathlib.Core.Path.{_≡_, refl, ap, sym, _∙_}
-use mathlib.Core.Bool.{Bool, true, false, cond, not}
+use mathlib.Core.Bool.{true, cond, not}
 use mathlib.Core.List.{List, [], _∷_, _++_}
 use mathlib.Core.Logic.{_⊎_, ⊎-elim, inl, inr}
 use native.Mathlib.Omega.{arith}
 use native.Mathlib.Numerals.{add-one}
-use native.Mathlib.Nat.{add-zero, add-suc, suc-add, zero-add}
+use native.Mathlib.Nat.{zero-add}
 use lib.Dec.{ltb, eqb}
-use lib.ListN.{length, take, drop, length-append}
-use borrow.Author.Tests.{lt-ltb, le-ltb, eq-eqb, ne-eqb, ltb-true, ltb-false, not-false}
-use Rattle.layout.specs.Answer.{Res, ok, refuse, bind, guard}
+use lib.ListN.{length}
+use borrow.Author.Tests.{lt-ltb, le-ltb, eq-eqb, not-false}
+use Rattle.layout.specs.Answer.{ok, bind}
 use Rattle.layout.specs.Key.{Key, mayFollow}
-use Rattle.layout.specs.RowRead.{RowRead, readRow, rowAt, headAt, mayShare, keyOf}
-use Rattle.layout.specs.Trailer.{Trailer, trailerOf, dataOf, offsetAt, Region, regionOf, allOffsets}
+use Rattle.layout.specs.RowRead.{RowRead, readRow, rowAt, headAt, keyOf}
+use Rattle.layout.specs.Trailer.{Trailer, trailerOf, dataOf, Region, regionOf, allOffsets}
 use Rattle.layout.specs.Check.{Passed, passedIs, passedRow, checkRow, checkFrom, check}
 use Rattle.layout.specs.Cursor.{Keyed, keyed}
-use Rattle.layout.specs.Reads.{regionRows, regionsRows, Reads, allRows, NeverFall, Accepts}
-use Rattle.layout.specs.Laws.Answer.{bind-then, guard-then, cond-ok, ok-inj, ltb-cases, bool-cases}
-use Rattle.layout.specs.Laws.Trailer.{RegionTells, regionOf-tells, trailerOf-tells, OffsetsTell, allOffsets-tell, region-good}
-use Rattle.layout.specs.Laws.Tells.{RowEnds, readRow-ends}
-use Rattle.layout.specs.Laws.Reads.{region-at, region-cons, region-over, region-more, RegionsAre, next as next-region, regions-are, regions-none, regions-cons, allRows-none, allRows-next}
+use Rattle.layout.specs.Reads.{regionRows, regionsRows, allRows, NeverFall, Accepts}
+use Rattle.layout.specs.Laws.Answer.{bind-then, guard-then, ok-inj, ltb-cases}
+use Rattle.layout.specs.Laws.Trailer.{regionOf-tells, trailerOf-tells, OffsetsTell, allOffsets-tell, region-good}
+use Rattle.layout.specs.Laws.Tells.{readRow-ends}
+use Rattle.layout.specs.Laws.Reads.{region-at, region-cons, region-over, region-more, RegionsAre, next as next-region, regions-are, regions-cons, allRows-none, allRows-next}
 
 -- at a restart the key before is not used: neither its length nor its bytes
 restart-read : (d : List ℕ) (at end m n : ℕ) → readRow d at end m true ≡ readRow d at end n true

@@ -2,19 +2,18 @@
 -- rest; with none left it says "done", and so does every later step. The order of keys is not asked.
 use Prim.Native.Nat.{ℕ, zero, suc, _+_, _-_, _<_, _≤_, zero-le}
 use mathlib.Core.Path.{_≡_, refl, ap, sym, _∙_}
-use mathlib.Core.Bool.{Bool, true, false, cond}
+use mathlib.Core.Bool.{true, false}
 use mathlib.Core.List.{List, [], _∷_, _++_}
-use mathlib.Core.Logic.{_⊎_, ⊎-elim}
+use mathlib.Core.Logic.{⊎-elim}
 use native.Mathlib.Omega.{arith}
 use native.Mathlib.Numerals.{add-one}
 use lib.Dec.{ltb, eqb}
-use lib.ListN.{length, take, drop}
-use borrow.Author.Tests.{lt-ltb, le-ltb}
-use Rattle.layout.specs.Answer.{Res, ok, refuse, bind}
+use lib.ListN.{length}
+use Rattle.layout.specs.Answer.{Res, ok, refuse}
 use Rattle.layout.specs.Limits.{maxKey}
 use Rattle.layout.specs.Key.{Key}
 use Rattle.layout.specs.RowRead.{RowRead, readRow, keyLength, keyOf}
-use Rattle.layout.specs.Trailer.{Trailer, trailerOf, dataOf, offsetAt, Region, regionOf, allOffsets}
+use Rattle.layout.specs.Trailer.{Trailer, trailerOf, dataOf, offsetAt, Region, regionOf}
 use Rattle.layout.specs.Cursor.{ascending, Cursor, cursorIs, marked, opened, Keyed, keyed, found, done, stepIs, pastRow, stepUp, next}
 use Rattle.layout.specs.Reads.{regionRows, regionsRows, Reads, allRows}
 use Rattle.layout.specs.Laws.Answer.{ltb-cases}
@@ -22,7 +21,7 @@ use Rattle.layout.specs.Laws.Trailer.{RegionTells, regionOf-tells, trail
 use Rattle.layout.specs.Laws.Tells.{RowEnds, readRow-ends}
 use Rattle.layout.specs.Laws.Carry.{keyOf-length}
 use Rattle.layout.specs.Laws.Cursor.{next-up, next-marked, up-done, up-found, up-short}
-use Rattle.layout.specs.Laws.Reads.{region-at, region-over, region-more, RegionsAre, next as next-region, regions-are, regions-none, allRows-none, allRows-next}
+use Rattle.layout.specs.Laws.Reads.{region-at, region-over, RegionsAre, next as next-region, regions-are, regions-none, allRows-none, allRows-next}
 
 -- a cursor that stands in a region before the rows `here` of it, after which the regions `rest` come
 pub record InRegion (b : List ℕ) (t : Trailer) (c : Cursor) (here : List Keyed) (rest : List (List Keyed)) : Type 0 where

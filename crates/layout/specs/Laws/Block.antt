@@ -1,10 +1,10 @@
 -- A block as it is laid, and how it grows by one row: the rows' bytes and the offsets, one row more at the end; the count of restarts is rows divided by
 -- interval, rounded up; offsets that are allowed are at most 5,042.
-use Prim.Native.Nat.{ℕ, zero, suc, _+_, _-_, _*_, _/_, _%_, _^_, _<_, _≤_, zero-le}
-use mathlib.Core.Path.{_≡_, refl, ap, sym, _∙_}
+use Prim.Native.Nat.{ℕ, suc, _+_, _-_, _*_, _/_, _%_, _<_, _≤_, zero-le}
+use mathlib.Core.Path.{_≡_, refl, ap, _∙_}
 use mathlib.Core.Bool.{Bool, true, false, cond}
 use mathlib.Core.List.{List, [], _∷_, _++_, append-assoc, append-nil}
-use mathlib.Core.Logic.{_⊎_, ⊎-elim, inl, inr}
+use mathlib.Core.Logic.{⊎-elim}
 use native.Mathlib.Omega.{arith}
 use native.Mathlib.Nat.{add-zero, add-suc, suc-add, zero-add, add-assoc, div-add-mod', mod-lt, div-eq-of-lt, pos-of-ne-zero, zero-mod}
 use native.Mathlib.Numerals.{add-one}
@@ -12,7 +12,7 @@ use lib.Arith.{digits-div}
 use lib.ListN.{length, take, drop, length-append, length-drop, take-append-drop}
 use Rattle.layout.specs.Limits.{maxKey, maxOffset, maxRestarts}
 use Rattle.layout.specs.Key.{Key, common}
-use Rattle.layout.specs.Row.{Fields, Row, rowBytes, ifSo}
+use Rattle.layout.specs.Row.{Fields, Row, ifSo}
 use Rattle.layout.specs.RowRead.{mayShare}
 use Rattle.layout.specs.Block.{isRestart, shareOf, laidRow, rowsFrom, offsetsFrom, blockRows, offsets}
 use Rattle.layout.specs.Builder.{restartsOf}

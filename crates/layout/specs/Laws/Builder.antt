@@ -1,29 +1,19 @@
 -- The builder. One law for each exit of the code. And from a new builder on: `Made` says that state and buffers are those of the rows accepted so far; each
 -- accepted row keeps it, a refused one changes nothing; then no state is refused with 18, and what is built is the block of these rows.
-use Prim.Native.Nat.{ℕ, zero, suc, _+_, _-_, _*_, _/_, _^_, _<_, _≤_, zero-le}
-use mathlib.Core.Path.{_≡_, refl, ap, ap₂, sym, _∙_}
-use mathlib.Core.Bool.{Bool, true, false, cond, not, _&&_, _||_}
-use mathlib.Core.List.{List, [], _∷_, _++_, append-assoc, append-nil}
+use Prim.Native.Nat.{ℕ, _*_, _<_, _≤_}
+use mathlib.Core.Path.{_≡_, refl}
+use mathlib.Core.Bool.{Bool, true, false, not, _&&_}
 use mathlib.Core.Logic.{_⊎_, ⊎-elim, inl, inr}
 use native.Mathlib.Omega.{arith}
-use native.Mathlib.Nat.{div-eq-of-lt, add-zero, zero-add}
-use native.Mathlib.Numerals.{add-one}
-use lib.Dec.{ltb, leb, eqb}
-use lib.ListN.{length, take, drop, set, length-append, length-set}
-use lib.Seq.{take-suc-set, take-set-le}
-use borrow.Author.Tests.{lt-ltb, le-ltb, le-leb, lt-leb, eq-eqb, ne-eqb, ltb-true, ltb-false, leb-true, leb-false, eqb-true, eqb-false, not-true, not-false}
-use Rattle.layout.specs.Answer.{Res, ok, refuse, bind, guard}
-use Rattle.layout.specs.Limits.{maxKey, maxValue, maxBlock, maxInterval, maxOffset, maxRestarts, leastRow}
-use Rattle.layout.specs.Place.{splice}
+use lib.Dec.{ltb, eqb}
+use lib.ListN.{length}
+use borrow.Author.Tests.{lt-ltb, le-ltb, le-leb, lt-leb, eq-eqb, ne-eqb, ltb-false, eqb-true, eqb-false, not-false}
+use Rattle.layout.specs.Answer.{Res, ok, refuse, guard}
+use Rattle.layout.specs.Limits.{maxKey, maxBlock, maxInterval, maxOffset, maxRestarts, leastRow}
 use Rattle.layout.specs.Key.{Key}
-use Rattle.layout.specs.Row.{Fields, Row, valueOf, ifSo, keyLengthTests, lengthTests, TimeOk}
-use Rattle.layout.specs.Block.{isRestart, laidRow, rowsFrom, offsetsFrom, blockRows, offsets, trailer, blockBytes}
-use Rattle.layout.specs.Builder.{Builder, fresh, newBuilder, restartsOf, stateTests, atRestart, nextRow, presentSize, grownSize, fits, wouldFit, grown, add, dataAfter, placesAfter, build, blockAfter}
-use Rattle.layout.specs.Laws.Answer.{bind-then, guard-then, ok-inj, bool-cases, ltb-cases, eqb-cases}
-use Rattle.layout.specs.Laws.Row.{FieldsOk}
-use Rattle.layout.specs.Laws.Splice.{length-splice, take-splice, take-past-splice}
-use Rattle.layout.specs.Laws.Block.{RowOk, AllOk, AllFit, lastKey, onlyIf, blockRows-snoc, offsets-snoc, lastKey-snoc, offsets-count, restartsOf-step, blockRows-least, offsets-few, laidRow-least, first-restart}
-use Rattle.layout.specs.Laws.Trailer.{length-trailer}
+use Rattle.layout.specs.Row.{Fields, valueOf, lengthTests}
+use Rattle.layout.specs.Builder.{Builder, fresh, newBuilder, restartsOf, stateTests, atRestart, presentSize, grownSize, fits, wouldFit, grown, add, build}
+use Rattle.layout.specs.Laws.Answer.{guard-then, eqb-cases}
 
 -- ---- new
 

@@ -1,21 +1,20 @@
 -- A key that an array carries, with its length beside it, and a row read after it: what the array holds once the row's suffix is put over it, and how the
 -- row's key compares while it still lies in two parts, the carried bytes that it shares and its suffix in the data.
-use Prim.Native.Nat.{ℕ, zero, suc, _+_, _-_, _<_, _≤_, min}
+use Prim.Native.Nat.{ℕ, _+_, _≤_}
 use mathlib.Core.Path.{_≡_, refl, ap, sym, _∙_}
-use mathlib.Core.Bool.{Bool, true, false, cond, not}
+use mathlib.Core.Bool.{Bool, true, false, not}
 use mathlib.Core.List.{List, [], _∷_, _++_}
 use mathlib.Core.Logic.{_⊎_, ⊎-elim, inl, inr}
 use native.Mathlib.Omega.{arith}
-use lib.Dec.{ltb}
-use lib.ListN.{length, take, drop, length-append, length-take, length-drop, take-append-drop}
+use lib.ListN.{length, take, drop, length-append, length-drop, take-append-drop}
 use lib.Seq.{take-take, length-take-le}
-use borrow.Author.Tests.{lt-ltb, le-ltb}
-use Rattle.layout.specs.Answer.{Res, ok, refuse}
+use borrow.Author.Tests.{le-ltb}
+use Rattle.layout.specs.Answer.{Res, ok}
 use Rattle.layout.specs.Limits.{maxKey}
 use Rattle.layout.specs.Place.{splice}
 use Rattle.layout.specs.Key.{Key, below, mayFollow}
 use Rattle.layout.specs.RowRead.{RowRead, readRow, keyLength, keyOf}
-use Rattle.layout.specs.Laws.Answer.{ltb-cases, bool-cases}
+use Rattle.layout.specs.Laws.Answer.{ltb-cases}
 use Rattle.layout.specs.Laws.Splice.{length-splice, take-past-splice}
 use Rattle.layout.specs.Laws.Tells.{RowEnds, readRow-ends, row-shares}
 

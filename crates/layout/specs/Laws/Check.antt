@@ -1,24 +1,23 @@
 -- The check's loop: `Checking` says that the rest of the check, from here on, answers what the whole does. One law for each thing that the loop does. The array
 -- carries the key of the row before.
-use Prim.Native.Nat.{ℕ, zero, suc, _+_, _-_, _<_, _≤_}
+use Prim.Native.Nat.{ℕ, zero, suc, _+_, _<_, _≤_}
 use mathlib.Core.Path.{_≡_, refl, ap, sym, _∙_}
-use mathlib.Core.Bool.{Bool, true, false, cond, not}
-use mathlib.Core.List.{List, [], _∷_, _++_}
+use mathlib.Core.Bool.{true, false, cond, not}
+use mathlib.Core.List.{List, []}
 use native.Mathlib.Omega.{arith}
 use lib.Dec.{ltb, eqb}
-use lib.ListN.{length, take, drop, length-take}
-use lib.Seq.{length-take-le}
+use lib.ListN.{length, take, drop}
 use borrow.Author.Tests.{lt-ltb, le-ltb}
-use Rattle.layout.specs.Answer.{Res, ok, refuse, bind, guard}
+use Rattle.layout.specs.Answer.{Res, ok, refuse, bind}
 use Rattle.layout.specs.Limits.{maxKey}
 use Rattle.layout.specs.Place.{splice}
-use Rattle.layout.specs.Key.{Key, below, mayFollow}
+use Rattle.layout.specs.Key.{below, mayFollow}
 use Rattle.layout.specs.RowRead.{RowRead, readRow, keyLength, keyOf}
 use Rattle.layout.specs.Trailer.{Trailer, trailerOf, dataOf, Region, regionOf, allOffsets}
-use Rattle.layout.specs.Check.{Passed, passedIs, passedRow, checkRow, checkFrom, check}
+use Rattle.layout.specs.Check.{Passed, passedIs, checkRow, checkFrom, check}
 use Rattle.layout.specs.Laws.Answer.{spend}
-use Rattle.layout.specs.Laws.Carry.{Carries, read-carried, suffixOf, key-new, key-parts, carries-on, follows-suffix}
-use Rattle.layout.specs.Laws.Tells.{RowEnds, readRow-ends, row-shares}
+use Rattle.layout.specs.Laws.Carry.{Carries, read-carried, suffixOf, key-new, key-parts, follows-suffix}
+use Rattle.layout.specs.Laws.Tells.{readRow-ends, row-shares}
 
 -- ---- before the rows
 

@@ -3,23 +3,23 @@
 use Prim.Native.Nat.{ℕ, zero, suc, _+_, _-_, _<_, _≤_}
 use mathlib.Core.Path.{_≡_, refl, ap, sym, _∙_, subst}
 use mathlib.Core.Bool.{Bool, true, false, cond}
-use mathlib.Core.List.{List, [], _∷_, _++_}
-use mathlib.Core.Logic.{_⊎_, ⊎-elim}
+use mathlib.Core.List.{List, []}
+use mathlib.Core.Logic.{⊎-elim}
 use native.Mathlib.Nat.{le-antisymm}
 use native.Mathlib.Omega.{arith}
 use lib.Dec.{ltb, leb, eqb}
-use lib.ListN.{length, take, drop}
+use lib.ListN.{length, take}
 use borrow.Author.Tests.{lt-ltb, le-ltb, le-leb, lt-leb, eq-eqb, ne-eqb, ltb-false}
-use Rattle.layout.specs.Answer.{Res, ok, refuse, bind, guard}
+use Rattle.layout.specs.Answer.{Res, ok, refuse}
 use Rattle.layout.specs.Limits.{maxKey}
 use Rattle.layout.specs.Place.{splice}
 use Rattle.layout.specs.Key.{Key}
 use Rattle.layout.specs.RowRead.{RowRead, readRow, keyLength, keyOf}
 use Rattle.layout.specs.Trailer.{Trailer, trailerOf, dataOf, Region, regionOf, allOffsets}
-use Rattle.layout.specs.Cursor.{Direction, ascending, descending, Cursor, cursorIs, marked, opened, openBlock, Answer, found, done, Step, stepIs, give, pastRow, stepUp, Keyed, keyed, rowEndingAt, backPast, stepBackIn, stepDown, stepAlong, next, exhausted, isEmpty}
+use Rattle.layout.specs.Cursor.{Direction, ascending, descending, Cursor, cursorIs, marked, opened, openBlock, Answer, found, done, Step, stepIs, pastRow, stepUp, Keyed, keyed, rowEndingAt, backPast, stepBackIn, stepDown, stepAlong, next, exhausted, isEmpty}
 use Rattle.layout.specs.Laws.Answer.{bind-then, guard-then, cond-ok, ok-inj, spend}
 use Rattle.layout.specs.Laws.Carry.{Carries, read-carried, keyOf-length, suffixOf, key-new, carries-on}
-use Rattle.layout.specs.Laws.Tells.{RowEnds, readRow-ends}
+use Rattle.layout.specs.Laws.Tells.{readRow-ends}
 
 -- ---- opening
 

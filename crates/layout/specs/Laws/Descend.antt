@@ -2,27 +2,24 @@
 -- none left it says "done". The order of keys is not asked.
 use Prim.Native.Nat.{ℕ, zero, suc, _+_, _-_, _<_, _≤_, zero-le}
 use mathlib.Core.Path.{_≡_, refl, ap, sym, _∙_}
-use mathlib.Core.Bool.{Bool, true, false, cond}
+use mathlib.Core.Bool.{false}
 use mathlib.Core.List.{List, [], _∷_, _++_, append-assoc, append-nil}
-use mathlib.Core.Logic.{_⊎_, ⊎-elim, inl, inr}
 use native.Mathlib.Nat.{zero-add}
 use native.Mathlib.Omega.{arith}
-use native.Mathlib.Numerals.{add-one}
-use lib.Dec.{ltb, eqb}
-use lib.ListN.{length, take, drop, getD, length-append}
+use lib.Dec.{eqb}
+use lib.ListN.{length, length-append}
 use borrow.Author.Tests.{lt-ltb, le-ltb}
-use Rattle.layout.specs.Answer.{Res, ok, refuse, bind}
+use Rattle.layout.specs.Answer.{ok, refuse}
 use Rattle.layout.specs.Limits.{maxKey}
 use Rattle.layout.specs.Key.{Key}
 use Rattle.layout.specs.RowRead.{RowRead, readRow, keyLength, keyOf}
-use Rattle.layout.specs.Trailer.{Trailer, trailerOf, dataOf, offsetAt, Region, regionOf, allOffsets}
-use Rattle.layout.specs.Cursor.{descending, Cursor, cursorIs, marked, opened, Keyed, keyed, found, done, stepIs, rowEndingAt, backPast, stepBackIn, stepDown, next}
+use Rattle.layout.specs.Trailer.{Trailer, trailerOf, dataOf, offsetAt, Region, regionOf}
+use Rattle.layout.specs.Cursor.{descending, Cursor, marked, opened, Keyed, keyed, found, done, stepIs, rowEndingAt, backPast, stepBackIn, stepDown, next}
 use Rattle.layout.specs.Reads.{regionRows, regionsRows, Reads, allRows}
-use Rattle.layout.specs.Laws.Answer.{ltb-cases, eqb-cases}
-use Rattle.layout.specs.Laws.Trailer.{RegionTells, regionOf-tells, trailerOf-tells, OffsetsTell, allOffsets-tell}
-use Rattle.layout.specs.Laws.Tells.{RowEnds, readRow-ends}
-use Rattle.layout.specs.Laws.Cursor.{next-down, down-done, down-before-in, down-in, back-found, back-short, Ended, ended}
-use Rattle.layout.specs.Laws.Reads.{region-at, endsAt, endsAt-snoc, RegionsAre, next as next-region, regions-are, regions-none, allRows-none, allRows-next}
+use Rattle.layout.specs.Laws.Trailer.{regionOf-tells, trailerOf-tells}
+use Rattle.layout.specs.Laws.Tells.{readRow-ends}
+use Rattle.layout.specs.Laws.Cursor.{next-down, down-done, down-before-in, down-in, back-found, back-short, ended}
+use Rattle.layout.specs.Laws.Reads.{region-at, endsAt, endsAt-snoc, RegionsAre, next as next-region, regions-are, regions-none, allRows-none}
 
 -- ---- the step back finds the row that ends at its place
 

@@ -1,13 +1,11 @@
 -- Fixed numbers: bytes written read back, whatever follows them; a signed number's bits read back as the number.
-use Prim.Native.Nat.{ℕ, zero, suc, _+_, _-_, _*_, _/_, _%_, _^_, _<_, _≤_}
+use Prim.Native.Nat.{ℕ, zero, suc, _-_, _%_, _^_, _<_, _≤_}
 use mathlib.Core.Path.{_≡_, refl, ap, sym, _∙_}
-use mathlib.Core.Bool.{Bool, true, false, cond}
-use mathlib.Core.List.{List, [], _∷_, _++_}
-use mathlib.Core.Logic.{_⊎_, ⊎-elim}
+use mathlib.Core.List.{List, _++_}
+use mathlib.Core.Logic.{⊎-elim}
 use native.Mathlib.Omega.{arith}
-use native.Mathlib.Nat.{pow-succ', one-le-pow, mod-one, mod-eq-of-lt}
+use native.Mathlib.Nat.{pow-succ', one-le-pow, mod-eq-of-lt}
 use lib.Arith.{mod-mul}
-use lib.Dec.{ltb}
 use lib.IntN.{ℤ, pos, negsuc}
 use lib.ListN.{length, take, drop}
 use lib.Seq.{take-at, drop-at}

@@ -1,8 +1,7 @@
 -- A key that a step gives is no longer than the lent buffer: 19 was tested against the length that the row says, and the key that is put together is as long as that, since the cursor carries
 -- as many bytes as it says. And with another buffer the step is the same, but for 19: no test before it looks at the buffer.
 use Prim.Native.Nat.{ℕ, _-_, _≤_}
-use mathlib.Core.Path.{_≡_, refl, _∙_}
-use mathlib.Core.Bool.{true, false}
+use mathlib.Core.Path.{_≡_, _∙_}
 use mathlib.Core.List.{List, []}
 use mathlib.Core.Logic.{⊎-elim}
 use native.Mathlib.Omega.{arith}

@@ -1,31 +1,30 @@
 -- A block that was laid from rows is read: trailer and offsets are good, and its rows are the rows laid, in order, with a tombstone's value empty. By one row after
 -- another: each is read where it was laid, inside its region, and the next stands where it ends.
-use Prim.Native.Nat.{ℕ, zero, suc, _+_, _-_, _*_, _<_, _≤_, zero-le}
+use Prim.Native.Nat.{ℕ, zero, suc, _+_, _-_, _<_, _≤_}
 use mathlib.Core.Path.{_≡_, refl, ap, sym, _∙_}
 use mathlib.Core.Bool.{Bool, true, false, cond}
-use mathlib.Core.List.{List, [], _∷_, _++_, append-assoc, append-nil, map}
-use mathlib.Core.Logic.{_⊎_, ⊎-elim, inl, inr}
+use mathlib.Core.List.{List, [], _∷_, _++_, map}
+use mathlib.Core.Logic.{⊎-elim, inr}
 use native.Mathlib.Omega.{arith}
-use native.Mathlib.Nat.{zero-add, add-zero, not-suc-le-zero}
+use native.Mathlib.Nat.{not-suc-le-zero}
 use native.Mathlib.Numerals.{add-one}
-use lib.Dec.{ltb, leb, eqb}
+use lib.Dec.{ltb, eqb}
 use lib.ListN.{length, take, drop, getD, length-append, length-drop}
-use lib.Seq.{drop-at, drop-drop}
-use borrow.Author.Tests.{lt-ltb, le-ltb, lt-leb, eq-eqb, ne-eqb, ltb-true}
-use Rattle.layout.specs.Answer.{Res, ok, refuse, bind, guard}
-use Rattle.layout.specs.Limits.{maxKey, maxOffset, maxRestarts}
+use lib.Seq.{drop-drop}
+use borrow.Author.Tests.{eq-eqb, ne-eqb}
+use Rattle.layout.specs.Answer.{ok}
 use Rattle.layout.specs.Key.{Key}
-use Rattle.layout.specs.Row.{Fields, Row, rowBytes, plain, plainRow}
-use Rattle.layout.specs.RowRead.{RowRead, mayShare, readRow, keyOf, fieldsOf}
+use Rattle.layout.specs.Row.{Fields, Row, rowBytes, plainRow}
+use Rattle.layout.specs.RowRead.{RowRead, mayShare, readRow, keyOf}
 use Rattle.layout.specs.Block.{isRestart, shareOf, laidRow, rowsFrom, offsetsFrom, blockRows, offsets, trailer, blockBytes}
-use Rattle.layout.specs.Trailer.{Trailer, trailerIs, trailerOf, dataOf, offsetAt, Region, regionOf, risingFrom, allOffsets}
+use Rattle.layout.specs.Trailer.{Trailer, trailerIs, dataOf, offsetAt, Region, regionOf}
 use Rattle.layout.specs.Cursor.{Keyed, keyed}
 use Rattle.layout.specs.Reads.{regionRows, regionsRows, Reads, allRows, contentOf}
-use Rattle.layout.specs.Laws.Answer.{ltb-cases, bool-cases, clash}
+use Rattle.layout.specs.Laws.Answer.{ltb-cases, clash}
 use Rattle.layout.specs.Laws.Place.{past, within}
-use Rattle.layout.specs.Laws.Row.{FieldsOk, KeyOk, placesOf, readRow-law, placesOf-fields, placesOf-key}
-use Rattle.layout.specs.Laws.Block.{RowOk, AllOk, AllFit, Shares, shares-is, shares-ok, laidRow-least, first-restart, offsets-few}
-use Rattle.layout.specs.Laws.Trailer.{RegionTells, regionOf-tells, OffsetsTell, TrailerLaid, trailer-laid, offsets-good, region-good}
+use Rattle.layout.specs.Laws.Row.{placesOf, readRow-law, placesOf-fields, placesOf-key}
+use Rattle.layout.specs.Laws.Block.{RowOk, AllOk, AllFit, shares-is, shares-ok, laidRow-least, first-restart, offsets-few}
+use Rattle.layout.specs.Laws.Trailer.{regionOf-tells, OffsetsTell, TrailerLaid, trailer-laid, offsets-good, region-good}
 use Rattle.layout.specs.Laws.Reads.{region-over, regions-cons, allRows-none, allRows-next}
 use Rattle.layout.specs.Laws.Accept.{Stands, Next, stay, enter, end, past-row, first-here, no-more, one-more}
 

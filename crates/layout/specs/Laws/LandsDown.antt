@@ -3,32 +3,30 @@
 use Prim.Native.Nat.{ℕ, zero, suc, _+_, _-_, _<_, _≤_, zero-le}
 use mathlib.Core.Path.{_≡_, refl, ap, sym, _∙_}
 use mathlib.Core.Bool.{Bool, true, false, cond, not}
-use mathlib.Core.List.{List, [], _∷_, _++_, append-assoc, append-nil, map}
+use mathlib.Core.List.{List, [], _∷_, _++_}
 use mathlib.Core.Logic.{_⊎_, ⊎-elim, inl, inr}
 use native.Mathlib.Omega.{arith}
-use native.Mathlib.Nat.{zero-add, add-zero}
 use native.Mathlib.Numerals.{add-one}
-use lib.Dec.{ltb, eqb}
-use lib.ListN.{length, take, drop, length-append, length-take, take-append-drop}
+use lib.Dec.{eqb}
+use lib.ListN.{length, take, drop, take-append-drop}
 use lib.Seq.{take-add, take-at, drop-at, take-append-le, take-nil}
-use borrow.Author.Tests.{lt-ltb, le-ltb, not-false}
-use Rattle.layout.specs.Answer.{Res, ok, refuse, bind}
-use Rattle.layout.specs.Limits.{maxKey}
+use borrow.Author.Tests.{lt-ltb, le-ltb}
+use Rattle.layout.specs.Answer.{Res, ok}
 use Rattle.layout.specs.Key.{Key, below, same, leading, notAbove}
 use Rattle.layout.specs.RowRead.{RowRead, readRow, keyOf}
 use Rattle.layout.specs.Trailer.{Trailer, trailerOf, dataOf, Region, regionOf}
 use Rattle.layout.specs.Cursor.{descending, Cursor, cursorIs, Keyed, keyed}
-use Rattle.layout.specs.Seek.{Found, restartKey, restartBelow, lastEqual, startDown, lastAtOrBelow, doneDown, walkDown, seekDown, Sought, soughtIs, seek}
+use Rattle.layout.specs.Seek.{Found, restartKey, restartBelow, lastEqual, startDown, lastAtOrBelow, doneDown, walkDown, soughtIs, seek}
 use Rattle.layout.specs.Reads.{regionRows, regionsRows, Reads, allRows, NeverFall, keysOf}
 use Rattle.layout.specs.Laws.Answer.{bool-cases, ltb-cases, ok-inj, clash}
-use Rattle.layout.specs.Laws.Key.{AtMost, at-most-refl, at-most-trans, below-false, le-below, below-le, same-is}
+use Rattle.layout.specs.Laws.Key.{AtMost, at-most-refl, below-false, le-below, below-le, same-is}
 use Rattle.layout.specs.Laws.Trailer.{RegionTells, regionOf-tells, trailerOf-tells}
-use Rattle.layout.specs.Laws.Tells.{RowEnds, readRow-ends}
+use Rattle.layout.specs.Laws.Tells.{readRow-ends}
 use Rattle.layout.specs.Laws.Search.{Closed}
 use Rattle.layout.specs.Laws.Seek.{below-is, start-past, start-earlier, start-run, down-from, seek-is, falling-start, falling-found, falling-done}
 use Rattle.layout.specs.Laws.Reads.{region-at, region-over, endsAt, RegionsAre, next as next-region, regions-are, regions-none, allRows-none, allRows-next}
-use Rattle.layout.specs.Laws.Descend.{Front, none, then, After, region-some, reaches-end}
-use Rattle.layout.specs.Laws.Split.{Split, split-at, Searched, searched}
+use Rattle.layout.specs.Laws.Descend.{Front, none, then, After}
+use Rattle.layout.specs.Laws.Split.{Split, split-at, searched}
 use Rattle.layout.specs.Laws.Sorted.{AllPass, leading-all, leading-most, leading-step, leading-stop, leading-within, leading-whole, rises, none-above, above-on, falls-on, falls-first}
 
 -- ---- the read of a whole region

@@ -3,33 +3,31 @@
 -- count of leading rows, region by region.
 use Prim.Native.Nat.{ℕ, zero, suc, _+_, _-_, _<_, _≤_, zero-le}
 use mathlib.Core.Path.{_≡_, refl, ap, sym, _∙_}
-use mathlib.Core.Bool.{Bool, true, false, cond, not}
-use mathlib.Core.List.{List, [], _∷_, _++_, append-assoc, append-nil, map}
-use mathlib.Core.Logic.{_⊎_, ⊎-elim, inl, inr}
+use mathlib.Core.Bool.{Bool, true, false}
+use mathlib.Core.List.{List, [], _∷_, _++_}
+use mathlib.Core.Logic.{⊎-elim}
 use native.Mathlib.Omega.{arith}
-use native.Mathlib.Nat.{zero-add, add-zero}
-use native.Mathlib.Numerals.{add-one}
-use lib.Dec.{ltb, eqb}
-use lib.ListN.{length, take, drop, length-append, length-drop, drop-of-length-le}
+use lib.Dec.{eqb}
+use lib.ListN.{length, drop, length-append, length-drop, drop-of-length-le}
 use lib.Seq.{drop-at, drop-drop, drop-append-le}
-use borrow.Author.Tests.{lt-ltb, le-ltb, eq-eqb}
-use Rattle.layout.specs.Answer.{Res, ok, refuse, bind}
+use borrow.Author.Tests.{lt-ltb, le-ltb}
+use Rattle.layout.specs.Answer.{Res, ok}
 use Rattle.layout.specs.Limits.{maxKey}
-use Rattle.layout.specs.Key.{Key, below, leading, isBelow, firstAtOrAbove}
-use Rattle.layout.specs.RowRead.{RowRead, KeyRead, readRow, readKey, keyLength, keyOf, joined}
-use Rattle.layout.specs.Trailer.{Trailer, trailerOf, dataOf, offsetAt, Region, regionOf, allOffsets}
+use Rattle.layout.specs.Key.{Key, below, leading, isBelow}
+use Rattle.layout.specs.RowRead.{RowRead, readRow, keyOf}
+use Rattle.layout.specs.Trailer.{Trailer, trailerOf, dataOf, Region, regionOf}
 use Rattle.layout.specs.Cursor.{ascending, Cursor, cursorIs, Keyed, keyed}
-use Rattle.layout.specs.Seek.{Found, restartKey, restartBelow, search, searchIn, searchRestarts, Stop, stopIs, walkRegion, doneUp, walkUp, seekUp, Sought, soughtIs, seek}
+use Rattle.layout.specs.Seek.{restartBelow, Stop, stopIs, walkRegion, doneUp, walkUp, soughtIs, seek}
 use Rattle.layout.specs.Reads.{regionRows, regionsRows, Reads, allRows, NeverFall, keysOf}
-use Rattle.layout.specs.Laws.Answer.{bool-cases, ltb-cases, ok-inj}
-use Rattle.layout.specs.Laws.Trailer.{RegionTells, regionOf-tells, trailerOf-tells}
-use Rattle.layout.specs.Laws.Tells.{RowEnds, readRow-ends, keyPart, readKey-of-readRow}
+use Rattle.layout.specs.Laws.Answer.{ltb-cases, ok-inj}
+use Rattle.layout.specs.Laws.Trailer.{regionOf-tells}
+use Rattle.layout.specs.Laws.Tells.{readRow-ends}
 use Rattle.layout.specs.Laws.Carry.{keyOf-length}
-use Rattle.layout.specs.Laws.Split.{Split, split-at, Searched, searched}
-use Rattle.layout.specs.Laws.Seek.{restart-is, below-is, up-from, seek-is}
+use Rattle.layout.specs.Laws.Split.{split-at, searched}
+use Rattle.layout.specs.Laws.Seek.{below-is, up-from, seek-is}
 use Rattle.layout.specs.Laws.Reads.{region-at, region-over, RegionsAre, next as next-region, regions-are, regions-none, regions-cons, allRows-none, allRows-next}
-use Rattle.layout.specs.Laws.Ascend.{InRegion, Before}
-use Rattle.layout.specs.Laws.Descend.{Front, none, then, front-more, allRows-end, region-some}
+use Rattle.layout.specs.Laws.Ascend.{Before}
+use Rattle.layout.specs.Laws.Descend.{none}
 use Rattle.layout.specs.Laws.Sorted.{AllPass, leading-all, leading-most, leading-step, leading-stop, leading-within, leading-whole, all-below}
 
 -- ---- the walk of one region

@@ -1,26 +1,24 @@
 -- A builder from `new` on: `Made` says that state and buffers are those of the rows accepted so far. An accepted row keeps it, with that row at the end; so
 -- no later call answers 18, there are at most 5,042 restarts, and what is built is the block of these rows.
-use Prim.Native.Nat.{ℕ, zero, suc, _+_, _-_, _*_, _/_, _^_, _<_, _≤_, zero-le}
+use Prim.Native.Nat.{ℕ, _+_, _*_, _<_, _≤_, zero-le}
 use mathlib.Core.Path.{_≡_, refl, ap, ap₂, sym, _∙_}
-use mathlib.Core.Bool.{Bool, true, false, cond, not, _&&_, _||_}
-use mathlib.Core.List.{List, [], _∷_, _++_, append-assoc, append-nil}
-use mathlib.Core.Logic.{_⊎_, ⊎-elim, inl, inr}
+use mathlib.Core.Bool.{Bool, true, false, cond, _&&_}
+use mathlib.Core.List.{List, [], _∷_, _++_, append-nil}
 use native.Mathlib.Omega.{arith}
-use native.Mathlib.Nat.{div-eq-of-lt, add-zero, zero-add}
+use native.Mathlib.Nat.{add-zero}
 use native.Mathlib.Numerals.{add-one}
 use lib.Dec.{ltb, leb, eqb}
-use lib.ListN.{length, take, drop, set, length-append, length-set, length-take}
-use lib.Seq.{take-suc-set, take-set-le, take-add}
-use borrow.Author.Tests.{ltb-false, leb-false, eqb-false, le-ltb, lt-ltb}
-use Rattle.layout.specs.Answer.{Res, ok, refuse, bind, guard}
-use Rattle.layout.specs.Limits.{maxKey, maxValue, maxBlock, maxInterval, maxOffset, maxRestarts, leastRow}
+use lib.ListN.{length, take, set, length-append, length-set}
+use lib.Seq.{take-suc-set}
+use borrow.Author.Tests.{ltb-false, leb-false, eqb-false}
+use Rattle.layout.specs.Answer.{ok}
+use Rattle.layout.specs.Limits.{maxKey, maxValue, maxBlock, maxInterval, maxOffset}
 use Rattle.layout.specs.Place.{splice}
 use Rattle.layout.specs.Key.{Key}
 use Rattle.layout.specs.Row.{Fields, Row, valueOf, ifSo, keyLengthTests, lengthTests, Typed}
 use Rattle.layout.specs.Block.{isRestart, laidRow, rowsFrom, offsetsFrom, blockRows, offsets, trailer, blockBytes}
-use Rattle.layout.specs.Builder.{Builder, fresh, newBuilder, restartsOf, stateTests, atRestart, nextRow, presentSize, grownSize, fits, wouldFit, grown, add, dataAfter, placesAfter, build, blockAfter}
-use Rattle.layout.specs.Laws.Answer.{bind-then, guard-then, ok-inj, bool-cases, eqb-cases}
-use Rattle.layout.specs.Laws.Row.{FieldsOk}
+use Rattle.layout.specs.Builder.{Builder, fresh, newBuilder, restartsOf, stateTests, atRestart, nextRow, presentSize, grownSize, wouldFit, grown, add, dataAfter, placesAfter, build, blockAfter}
+use Rattle.layout.specs.Laws.Answer.{bind-then, guard-then, ok-inj}
 use Rattle.layout.specs.Laws.Tells.{keyLengthTests-tells}
 use Rattle.layout.specs.Laws.Splice.{length-splice, take-past-splice}
 use Rattle.layout.specs.Laws.Block.{RowOk, AllOk, AllFit, lastKey, onlyIf, blockRows-snoc, offsets-snoc, lastKey-snoc, offsets-count, blockRows-least, offsets-few}

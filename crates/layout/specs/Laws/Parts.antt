@@ -3,7 +3,7 @@ use Prim.Native.Nat.{ℕ, _<_, _≤_, min}
 use mathlib.Core.Path.{_≡_, refl, ap, sym, _∙_}
 use mathlib.Core.Bool.{Bool, true, false, cond}
 use mathlib.Core.List.{_++_}
-use mathlib.Core.Logic.{_⊎_, ⊎-elim, inl, inr}
+use mathlib.Core.Logic.{⊎-elim, inl, inr}
 use native.Mathlib.Omega.{arith}
 use lib.ListN.{length, take, drop, length-take, take-append-drop, drop-of-length-le}
 use Rattle.layout.specs.Key.{Key, below, Ordering, less, equal, greater, compare}

@@ -1,20 +1,19 @@
 -- Numbers at a place: bytes that were laid there are read; what is read lies inside the data; what code that reads byte by byte uses.
-use Prim.Native.Nat.{ℕ, zero, suc, _+_, _-_, _*_, _^_, _<_, _≤_}
+use Prim.Native.Nat.{ℕ, suc, _+_, _*_, _^_, _<_, _≤_}
 use mathlib.Core.Path.{_≡_, refl, ap, sym, _∙_}
-use mathlib.Core.Bool.{Bool, true, false, cond}
-use mathlib.Core.List.{List, [], _∷_, _++_}
+use mathlib.Core.List.{List, _∷_, _++_}
 use native.Mathlib.Omega.{arith}
 use lib.Dec.{ltb}
 use lib.ListN.{length, take, drop, getD, length-append, length-drop, drop-of-length-le}
 use lib.Seq.{drop-at, drop-drop, drop-cons, getD-drop}
 use borrow.Author.Tests.{lt-ltb, le-ltb, ltb-false}
-use Rattle.layout.specs.Answer.{Res, ok, refuse, bind, guard}
-use Rattle.layout.specs.Varint.{readVarint, readVarintIn, varint, Num, num}
+use Rattle.layout.specs.Answer.{ok, refuse}
+use Rattle.layout.specs.Varint.{readVarint, readVarintIn, varint, num}
 use Rattle.layout.specs.Fixed.{big, unbig}
 use Rattle.layout.specs.Place.{NumAt, numAt, varintAt, fixedAt, SignedAt, signedAt}
 use Rattle.layout.specs.Laws.Answer.{bind-then, guard-then, ok-inj}
 use Rattle.layout.specs.Laws.Varint.{readVarint-varint, readVarint-len}
-use Rattle.layout.specs.Laws.Fixed.{length-big, unbig-take-big, drop-big}
+use Rattle.layout.specs.Laws.Fixed.{length-big, unbig-take-big}
 
 -- ---- laws: bytes that were laid
 

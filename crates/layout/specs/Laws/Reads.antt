@@ -1,24 +1,23 @@
 -- The rows of a region and of a block, taken apart: what the first row of a list of them tells, that rows stand one after another, and that more steps
 -- change nothing.
-use Prim.Native.Nat.{ℕ, zero, suc, _+_, _-_, _<_, _≤_, zero-le}
+use Prim.Native.Nat.{ℕ, zero, suc, _+_, _<_, _≤_}
 use mathlib.Core.Path.{_≡_, refl, ap, sym, _∙_}
-use mathlib.Core.Bool.{Bool, true, false, cond}
+use mathlib.Core.Bool.{Bool}
 use mathlib.Core.List.{List, [], _∷_, _++_}
-use mathlib.Core.Logic.{_⊎_, ⊎-elim}
+use mathlib.Core.Logic.{⊎-elim}
 use native.Mathlib.Omega.{arith}
-use lib.Dec.{ltb, eqb}
-use lib.ListN.{length, take, drop, getD}
+use lib.Dec.{eqb}
+use lib.ListN.{length}
 use borrow.Author.Tests.{lt-ltb, le-ltb}
-use Rattle.layout.specs.Answer.{Res, ok, refuse, bind}
-use Rattle.layout.specs.Limits.{maxKey}
+use Rattle.layout.specs.Answer.{Res, ok, refuse}
 use Rattle.layout.specs.Key.{Key}
-use Rattle.layout.specs.RowRead.{RowRead, readRow, keyLength, keyOf}
+use Rattle.layout.specs.RowRead.{RowRead, readRow, keyOf}
 use Rattle.layout.specs.Trailer.{Trailer, dataOf, Region, regionOf}
 use Rattle.layout.specs.Cursor.{Keyed, keyed}
 use Rattle.layout.specs.Reads.{regionRows, regionsRows, allRows, AllOf}
 use Rattle.layout.specs.Laws.Answer.{bind-then, ok-inj, ltb-cases}
-use Rattle.layout.specs.Laws.Trailer.{RegionTells, regionOf-tells}
-use Rattle.layout.specs.Laws.Tells.{RowEnds, readRow-ends}
+use Rattle.layout.specs.Laws.Trailer.{regionOf-tells}
+use Rattle.layout.specs.Laws.Tells.{readRow-ends}
 
 -- ---- a region
 

@@ -1,23 +1,20 @@
 -- Laid rows: their bytes are as many as their size says, at least 12, at a restart 13; where they stand they are read, with their places, and at
 -- these places stands what was laid; no row's bytes begin a different row's.
-use Prim.Native.Nat.{ℕ, zero, suc, _+_, _-_, _*_, _^_, _<_, _≤_}
+use Prim.Native.Nat.{ℕ, _+_, _^_, _<_, _≤_}
 use mathlib.Core.Path.{_≡_, refl, ap, sym, _∙_}
-use mathlib.Core.Bool.{Bool, true, false, cond}
+use mathlib.Core.Bool.{Bool, true, false}
 use mathlib.Core.List.{List, [], _∷_, _++_, append-assoc}
 use native.Mathlib.Omega.{arith}
-use lib.Dec.{ltb, eqb}
-use lib.ListN.{length, take, drop, getD, length-append}
+use lib.ListN.{length, take, drop, length-append}
 use lib.Seq.{take-at, drop-at, take-nil}
-use lib.Signed.{mag}
 use borrow.Author.Tests.{le-ltb, ne-eqb}
-use Rattle.layout.specs.Answer.{Res, ok, refuse, bind, guard}
+use Rattle.layout.specs.Answer.{ok}
 use Rattle.layout.specs.Limits.{maxKey, maxValue}
-use Rattle.layout.specs.Varint.{varint, varintLength}
+use Rattle.layout.specs.Varint.{varint}
 use Rattle.layout.specs.Fixed.{big, bits}
-use Rattle.layout.specs.Place.{varintAt, fixedAt}
 use Rattle.layout.specs.Key.{Key}
-use Rattle.layout.specs.Row.{Kind, value, tombstone, merge, Time, Absent, At, Fields, Row, kept, keptLength, valueOf, ifSo, present, flagsOf, timeBytes, rowBytes, rowSize, keyLengthTests, TimeOk, plain, SameRow}
-use Rattle.layout.specs.RowRead.{Lengths, lengthsIs, lengthsAt, valueAt, seqAt, mayShare, headAt, Flags, flagsIs, flagsAt, heldAs, Body, bodyIs, bodyAt, TimeAt, timeIs, timeAt, Times, timesIs, timesAt, RowRead, rowIs, rowAt, readRow, keyOf, kindOf, heldBytes, fieldsOf, rowOf}
+use Rattle.layout.specs.Row.{Kind, value, tombstone, merge, Time, Absent, At, Fields, kept, keptLength, valueOf, ifSo, present, flagsOf, timeBytes, rowBytes, rowSize, keyLengthTests, TimeOk, plain, SameRow}
+use Rattle.layout.specs.RowRead.{Lengths, lengthsIs, lengthsAt, valueAt, seqAt, mayShare, headAt, Flags, flagsIs, flagsAt, heldAs, Body, bodyIs, bodyAt, timeIs, timeAt, timesIs, timesAt, RowRead, rowIs, rowAt, readRow, keyOf, kindOf, heldBytes, fieldsOf}
 use Rattle.layout.specs.Laws.Answer.{ok-inj}
 use Rattle.layout.specs.Laws.Varint.{length-varint, varint-few}
 use Rattle.layout.specs.Laws.Fixed.{length-big, bits-fit, unbits-bits}

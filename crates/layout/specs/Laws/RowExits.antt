@@ -1,19 +1,18 @@
 -- Each way through a row's read and through its encoding, by what was met on it: one law for each exit of the code. Answer on the left, as a
 -- contract asks it.
-use Prim.Native.Nat.{ℕ, zero, suc, _+_, _<_, _≤_}
+use Prim.Native.Nat.{ℕ, _+_, _<_, _≤_}
 use mathlib.Core.Path.{_≡_, refl}
 use mathlib.Core.Bool.{Bool, true, false}
 use mathlib.Core.List.{List, _++_}
 use native.Mathlib.Omega.{arith}
-use lib.Dec.{ltb, eqb}
 use lib.ListN.{length, take, getD}
 use borrow.Author.Tests.{lt-ltb, le-ltb, eq-eqb, ne-eqb}
-use Rattle.layout.specs.Answer.{Res, ok, refuse, bind, guard}
+use Rattle.layout.specs.Answer.{ok, refuse}
 use Rattle.layout.specs.Limits.{maxKey, maxValue}
 use Rattle.layout.specs.Place.{NumAt, varintAt, fixedAt, SignedAt, signedAt}
 use Rattle.layout.specs.Key.{Key}
-use Rattle.layout.specs.Row.{Kind, Time, Absent, At, Fields, keptLength, valueOf, rowBytes, rowSize, keyLengthTests, lengthTests, sizeAlone, encodeRow, restoreKey}
-use Rattle.layout.specs.RowRead.{Lengths, lengthsIs, valueAt, seqAt, lengthsAt, mayShare, headAt, Flags, flagsAt, heldAs, Body, bodyIs, bodyAt, TimeAt, timeIs, timeAt, Times, timesIs, timesAt, RowRead, rowIs, rowAt, readRow, KeyRead, keyIs, readKey}
+use Rattle.layout.specs.Row.{Kind, Absent, At, Fields, keptLength, valueOf, rowBytes, rowSize, keyLengthTests, lengthTests, sizeAlone, encodeRow, restoreKey}
+use Rattle.layout.specs.RowRead.{Lengths, lengthsIs, valueAt, seqAt, lengthsAt, mayShare, headAt, Flags, flagsAt, heldAs, Body, bodyIs, bodyAt, TimeAt, timeIs, timeAt, Times, timesIs, timesAt, rowIs, rowAt, readRow, keyIs, readKey}
 
 module _ (d : List ℕ) (at : ℕ) where
   pub lengths-one : {n : ℕ} → varintAt d at ≡ refuse n → refuse n ≡ lengthsAt d at

@@ -1,15 +1,14 @@
 -- Each way through a seek, by what was met on it: the search as a recursive function meets it, the run of equal restarts, the walk of a region up to a target,
 -- its read for the last row at or below one, and both from region to region. A loop's record says that what is left to do, from here, answers what the
 -- whole does.
-use Prim.Native.Nat.{ℕ, zero, suc, _+_, _-_, _/_, _<_, _≤_}
+use Prim.Native.Nat.{ℕ, zero, suc, _+_, _-_, _<_, _≤_}
 use mathlib.Core.Path.{_≡_, refl, ap, sym, _∙_}
 use mathlib.Core.Bool.{Bool, true, false, cond}
-use mathlib.Core.List.{List, [], _∷_, _++_}
-use mathlib.Core.Logic.{_⊎_, ⊎-elim}
+use mathlib.Core.List.{List, [], _++_}
 use native.Mathlib.Omega.{arith}
 use native.Mathlib.Numerals.{add-one}
-use lib.Dec.{ltb, eqb}
-use lib.ListN.{length, take, drop}
+use lib.Dec.{eqb}
+use lib.ListN.{length, take}
 use borrow.Author.Tests.{lt-ltb, le-ltb}
 use Rattle.layout.specs.Answer.{Res, ok, refuse, bind}
 use Rattle.layout.specs.Limits.{maxKey}
@@ -18,10 +17,10 @@ use Rattle.layout.specs.Key.{Key, below, same}
 use Rattle.layout.specs.RowRead.{RowRead, KeyRead, readRow, readKey, keyLength, keyOf, joined}
 use Rattle.layout.specs.Trailer.{Trailer, trailerOf, dataOf, Region, regionOf}
 use Rattle.layout.specs.Cursor.{Direction, ascending, descending, Cursor, cursorIs}
-use Rattle.layout.specs.Seek.{Found, foundIs, tick, middle, search, restartKey, restartBelow, searchRestarts, Stop, stopIs, walkRegion, doneUp, walkUp, seekUp, lastEqual, startDown, lastAtOrBelow, doneDown, walkDown, seekDown, Sought, soughtIs, seekAlong, seek}
+use Rattle.layout.specs.Seek.{Found, foundIs, tick, middle, search, restartKey, restartBelow, searchRestarts, Stop, stopIs, walkRegion, doneUp, walkUp, seekUp, lastEqual, startDown, lastAtOrBelow, doneDown, walkDown, seekDown, soughtIs, seekAlong, seek}
 use Rattle.layout.specs.Laws.Answer.{spend}
 use Rattle.layout.specs.Laws.Carry.{Carries, read-carried, suffixOf, key-parts, key-new, carries-on}
-use Rattle.layout.specs.Laws.Tells.{RowEnds, readRow-ends}
+use Rattle.layout.specs.Laws.Tells.{readRow-ends}
 use Rattle.layout.specs.Laws.Search.{search-empty, search-split, search-refuse}
 
 -- ---- a restart's key

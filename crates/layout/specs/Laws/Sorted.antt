@@ -1,18 +1,18 @@
 -- Rows whose keys never fall, and how many of them, from the first on, pass a test: the rows before one that is below a target are below it, and so on.
-use Prim.Native.Nat.{ℕ, zero, suc, _+_, _-_, _<_, _≤_, zero-le, suc-le-suc}
-use mathlib.Core.Path.{_≡_, refl, ap, sym, _∙_}
-use mathlib.Core.Bool.{Bool, true, false, cond, not}
-use mathlib.Core.List.{List, [], _∷_, _++_, map}
-use mathlib.Core.Logic.{_⊎_, ⊎-elim}
+use Prim.Native.Nat.{suc, _+_, _<_, _≤_, zero-le, suc-le-suc}
+use mathlib.Core.Path.{_≡_, refl, ap, sym}
+use mathlib.Core.Bool.{Bool, true, false, not}
+use mathlib.Core.List.{List, [], _∷_, _++_}
+use mathlib.Core.Logic.{⊎-elim}
 use native.Mathlib.Omega.{arith}
 use native.Mathlib.Nat.{le-of-suc-le-suc, not-suc-le-zero, suc-add, zero-add}
-use lib.ListN.{length, take, drop, length-append}
+use lib.ListN.{length}
 use borrow.Author.Tests.{not-true}
 use Rattle.layout.specs.Key.{Key, below, mayFollow, leading, isBelow, notAbove}
 use Rattle.layout.specs.Cursor.{Keyed}
 use Rattle.layout.specs.Reads.{NeverFall, AllOf, keysOf}
 use Rattle.layout.specs.Laws.Answer.{bool-cases, clash}
-use Rattle.layout.specs.Laws.Key.{AtMost, at-most-refl, at-most-trans, below-false, le-below, below-le, below-trans}
+use Rattle.layout.specs.Laws.Key.{AtMost, at-most-trans, below-false, le-below, below-trans}
 
 -- ---- rows that all pass a test
 

@@ -1,10 +1,9 @@
 -- Writes: what they leave, said of the whole list. `Wrote` says that bytes were put at a place and gives the place after them; writes that follow
 -- one another are one write of all their bytes.
 use mathlib.Core.Path.{_≡_, refl, sym, ap, _∙_, subst}
-use mathlib.Core.Bool.{Bool, true, false, cond}
+use mathlib.Core.Bool.{Bool, true, false}
 use mathlib.Core.List.{List, [], _∷_, _++_, append-assoc}
-use mathlib.Core.Logic.{_⊎_, ⊎-elim}
-use Prim.Native.Nat.{ℕ, zero, suc, _+_, _-_, _≤_, _<_}
+use Prim.Native.Nat.{ℕ, _+_, _-_, _≤_, _<_}
 use native.Mathlib.Nat.{add-assoc, add-zero, zero-add}
 use native.Mathlib.Omega.{arith}
 use lib.Dec.{ltb}
@@ -12,9 +11,9 @@ use lib.ListN.{length, take, drop, set, length-append, length-take, length-drop,
 use lib.Seq.{take-add, take-take, drop-drop, drop-append-le, take-at, drop-at, length-take-le, sets, sets-eq}
 use borrow.Author.Tests.{lt-ltb, le-ltb, ltb-true, ltb-false}
 use borrow.Rule.Slice.PartMut.{midOf, putMid}
-use Rattle.layout.specs.Answer.{Res, ok, refuse, guard}
+use Rattle.layout.specs.Answer.{ok, refuse, guard}
 use Rattle.layout.specs.Place.{splice, putAt, afterPut}
-use Rattle.layout.specs.Laws.Answer.{guard-then, ok-inj, ltb-cases}
+use Rattle.layout.specs.Laws.Answer.{guard-then, ok-inj}
 
 -- ys is xs with w written at `at`, which it had room for, and n is the place after it
 pub record Wrote (xs : List ℕ) (at : ℕ) (w ys : List ℕ) (n : ℕ) : Type 0 where

@@ -1,20 +1,18 @@
 -- A block whose rows are read, cut at a region: the regions before it, its rows, which begin with its restart's, and the regions after it. A restart's key, read
 -- alone, is its row's; so the search over restart keys answers.
-use Prim.Native.Nat.{ℕ, zero, suc, _+_, _-_, _<_, _≤_, zero-le}
+use Prim.Native.Nat.{ℕ, zero, suc, _+_, _-_, _<_, zero-le}
 use mathlib.Core.Path.{_≡_, refl, ap, sym, _∙_}
-use mathlib.Core.Bool.{Bool, true, false, cond}
+use mathlib.Core.Bool.{Bool, true, false}
 use mathlib.Core.List.{List, [], _∷_, _++_, append-assoc}
 use native.Mathlib.Omega.{arith}
 use native.Mathlib.Nat.{zero-add}
-use lib.Dec.{ltb, eqb}
-use lib.ListN.{length}
 use borrow.Author.Tests.{eq-eqb}
-use Rattle.layout.specs.Answer.{Res, ok, refuse, bind}
-use Rattle.layout.specs.Key.{Key, below}
-use Rattle.layout.specs.RowRead.{RowRead, readRow, readKey, keyOf}
+use Rattle.layout.specs.Answer.{Res, ok, refuse}
+use Rattle.layout.specs.Key.{Key}
+use Rattle.layout.specs.RowRead.{readRow, keyOf}
 use Rattle.layout.specs.Trailer.{Trailer, dataOf, Region, regionOf}
 use Rattle.layout.specs.Cursor.{Keyed, keyed}
-use Rattle.layout.specs.Seek.{Found, restartKey, restartBelow, searchRestarts, search, searchIn}
+use Rattle.layout.specs.Seek.{Found, restartKey, restartBelow, searchRestarts, search}
 use Rattle.layout.specs.Reads.{regionRows, regionsRows, Reads, allRows}
 use Rattle.layout.specs.Laws.Trailer.{regionOf-tells}
 use Rattle.layout.specs.Laws.Tells.{keyPart, readKey-of-readRow}

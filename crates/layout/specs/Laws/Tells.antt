@@ -1,21 +1,21 @@
 -- What an answer tells of any bytes, by taking the reader's answer apart: a row that is read takes at least 12 bytes, at a restart 13, and ends
 -- inside its region and the data; its key is allowed and stands inside the data; where it is read whole, its key alone is read too.
-use Prim.Native.Nat.{ℕ, zero, suc, _+_, _-_, _*_, _<_, _≤_, zero-le}
-use mathlib.Core.Path.{_≡_, refl, ap, sym, _∙_}
-use mathlib.Core.Bool.{Bool, true, false, cond}
-use mathlib.Core.List.{List, [], _∷_, _++_}
+use Prim.Native.Nat.{ℕ, _+_, _≤_, zero-le}
+use mathlib.Core.Path.{_≡_, refl, ap, _∙_}
+use mathlib.Core.Bool.{Bool, true, false}
+use mathlib.Core.List.{List}
 use native.Mathlib.Nat.{le-trans}
 use native.Mathlib.Omega.{arith}
-use lib.Dec.{ltb, leb, eqb}
-use lib.ListN.{length, take, drop, getD}
-use borrow.Author.Tests.{lt-ltb, le-ltb, ltb-true, ltb-false, eqb-false}
-use Rattle.layout.specs.Answer.{Res, ok, refuse, bind, guard}
+use lib.Dec.{ltb, eqb}
+use lib.ListN.{length, getD}
+use borrow.Author.Tests.{le-ltb, ltb-false, eqb-false}
+use Rattle.layout.specs.Answer.{ok}
 use Rattle.layout.specs.Limits.{maxKey, maxValue}
-use Rattle.layout.specs.Place.{NumAt, varintAt, fixedAt, signedAt}
+use Rattle.layout.specs.Place.{varintAt, fixedAt, signedAt}
 use Rattle.layout.specs.Row.{keyLengthTests}
-use Rattle.layout.specs.RowRead.{Lengths, valueAt, seqAt, lengthsAt, mayShare, headAt, Flags, flagsAt, Body, bodyAt, TimeAt, timeAt, Times, timesAt, RowRead, rowIs, rowAt, readRow, keyLength, KeyRead, keyIs, readKey}
+use Rattle.layout.specs.RowRead.{Lengths, valueAt, seqAt, lengthsAt, mayShare, headAt, Flags, flagsAt, Body, bodyAt, TimeAt, timeAt, Times, timesAt, RowRead, rowIs, rowAt, readRow, keyLength, KeyRead, readKey}
 use Rattle.layout.specs.Laws.Answer.{bind-then, guard-then, ok-inj}
-use Rattle.layout.specs.Laws.Place.{varintAt-ends, fixedAt-ends, signedAt-ends}
+use Rattle.layout.specs.Laws.Place.{varintAt-ends, signedAt-ends}
 
 pub lengthsAt-ends : (d : List ℕ) (at : ℕ) (l : Lengths) → lengthsAt d at ≡ ok l → (at + 3 ≤ l .body) × (l .body ≤ length d)
 unfolding lengthsAt

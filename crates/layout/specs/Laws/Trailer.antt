@@ -1,18 +1,17 @@
 -- The trailer and the regions, by what was met: one law for each exit of the code; and what an answer tells.
-use Prim.Native.Nat.{ℕ, zero, suc, _+_, _-_, _*_, _^_, _<_, _≤_}
+use Prim.Native.Nat.{ℕ, zero, suc, _+_, _-_, _*_, _<_, _≤_}
 use mathlib.Core.Path.{_≡_, refl, ap, sym, _∙_}
-use mathlib.Core.Bool.{Bool, true, false, cond}
 use mathlib.Core.List.{List, [], _∷_, _++_, append-assoc, append-nil}
-use mathlib.Core.Logic.{_⊎_, ⊎-elim}
+use mathlib.Core.Logic.{⊎-elim}
 use native.Mathlib.Omega.{arith}
 use native.Mathlib.Numerals.{add-one}
 use lib.Dec.{ltb, leb, eqb}
-use lib.ListN.{length, take, drop, getD, length-append}
+use lib.ListN.{length, drop, getD, length-append}
 use lib.Seq.{take-at, drop-at}
 use borrow.Author.Tests.{lt-ltb, le-ltb, le-leb, lt-leb, eq-eqb, ne-eqb, ltb-true, ltb-false, leb-false, eqb-false}
-use Rattle.layout.specs.Answer.{Res, ok, refuse, bind, guard}
-use Rattle.layout.specs.Fixed.{big, unbig}
-use Rattle.layout.specs.Place.{NumAt, numAt, fixedAt}
+use Rattle.layout.specs.Answer.{Res, ok, refuse}
+use Rattle.layout.specs.Fixed.{big}
+use Rattle.layout.specs.Place.{NumAt, fixedAt}
 use Rattle.layout.specs.Block.{offsetBytes, trailer}
 use Rattle.layout.specs.Trailer.{shortAt, countOf, Trailer, trailerIs, trailerOf, dataOf, offsetAt, risingFrom, allOffsets, Region, regionIs, firstOf, regionOf}
 use Rattle.layout.specs.Laws.Answer.{guard-then, cond-ok, ok-inj, ltb-cases, eqb-cases, spend}

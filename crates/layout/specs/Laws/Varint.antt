@@ -2,20 +2,19 @@
 -- as a loop meets it: one record, `Reading`, with a law for each thing that the loop does.
 use Prim.Native.Nat.{ℕ, zero, suc, _+_, _-_, _*_, _/_, _%_, _^_, _<_, _≤_}
 use mathlib.Core.Path.{_≡_, refl, ap, ap₂, sym, _∙_}
-use mathlib.Core.Bool.{Bool, true, false, cond}
 use mathlib.Core.List.{List, [], _∷_, _++_}
-use mathlib.Core.Logic.{_⊎_, ⊎-elim}
+use mathlib.Core.Logic.{⊎-elim}
 use native.Mathlib.Omega.{arith}
 use native.Mathlib.Nat.{pow-suc, pow-le-pow-right, mul-le-mul, mul-le-mul-left, le-of-lt, add-zero, sub-eq-zero-of-le}
 use native.Mathlib.Numerals.{add-one}
 use lib.Count.{leadingZeros, leading-length}
-use lib.Dec.{ltb, leb, eqb}
+use lib.Dec.{ltb}
 use lib.ListN.{length, getD, drop, drop-of-length-le}
 use lib.Pow.{pow-add, pow-mono}
 use lib.Seq.{drop-cons}
-use borrow.Author.Tests.{lt-ltb, le-ltb, ne-eqb}
+use borrow.Author.Tests.{lt-ltb, le-ltb}
 use Rattle.layout.specs.Answer.{Res, ok, refuse, bind}
-use Rattle.layout.specs.Varint.{varintIn, varint, significantBits, varintLength, Num, num, above, readVarintIn, readVarint}
+use Rattle.layout.specs.Varint.{varintIn, varint, varintLength, Num, num, above, readVarintIn, readVarint}
 use Rattle.layout.specs.Laws.Answer.{ltb-cases, eqb-cases, bind-then, cond-ok, ok-inj}
 
 -- ---- what is written reads back
