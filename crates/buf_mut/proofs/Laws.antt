@@ -1,7 +1,7 @@
 -- A writer's promise from what it did, for the writers; and what it did from its promise, for those who call them.
 -- The promise settles the answer: 6 with nothing written where there is too little room, else the bytes written. So a caller who has tested the room meets no refusal (`puts-fits`).
 use Prim.Native.Nat.{ℕ, _+_, _-_, _≤_, _<_}
-use mathlib.Core.Path.{_≡_, refl, ap, sym, _∙_, subst}
+use mathlib.Core.Path.{_≡_, refl, sym, _∙_, subst}
 use mathlib.Core.List.{List}
 use native.Mathlib.Omega.{arith}
 use lib.ListN.{length, take, drop, length-drop}

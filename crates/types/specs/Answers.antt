@@ -1,6 +1,6 @@
 -- Answers that say a value or a refusal's number, whatever their type: what a callee's answer tells its caller, and that none says two things.
 use Prim.Native.Nat.{ℕ}
-use mathlib.Core.Path.{_≡_, refl, ap, sym, _∙_}
+use mathlib.Core.Path.{_≡_, ap, sym, _∙_}
 use native.Mathlib.Omega.{arith}
 use Rattle.layout.specs.Answer.{Res, ok, refuse}
 use Rattle.types.specs.declared.Refusal.{Refusal}

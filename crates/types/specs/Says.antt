@@ -1,5 +1,4 @@
 -- What each case of the types stands for in the definitions. No two cases stand for the same.
-use Prim.Native.Nat.{ℕ}
 use mathlib.Core.Path.{_≡_, refl, ap, sym, _∙_}
 use Rattle.layout.specs.Row.{Kind as KindL, value, tombstone, merge, Time as TimeL, Absent as absent, At as at-time}
 use Rattle.layout.specs.RowRead.{Held, holds, gone, merges}
