@@ -4,7 +4,7 @@ use Prim.Native.Nat.{ℕ}
 use mathlib.Core.Path.{_≡_}
 use mathlib.Core.List.{List}
 use lib.ListN.{length, replicate}
-use Rattle.layout.specs.Answer.{Res, ok, refuse, bind}
+use Rattle.layout.specs.Answer.{Res, ok, refuse, bind, whether}
 use Rattle.layout.specs.Limits.{maxKey}
 use Rattle.layout.specs.Cursor.{cursorOr, openBlock, Step, next, cursorAfter, keyAfter, isEmpty}
 use Rattle.layout.specs.Seek.{Sought as SoughtL, seek, soughtAfter}
@@ -21,7 +21,7 @@ use Rattle.block_iterator_v2.specs.Says.{placeOf, viewOf, saysOpen, says
 
 -- a cursor, and beside a refusal one in region 0 at 0; its key's bytes are zeros
 pub record Opens (b : List ℕ) (order : IterationOrder) (r : Opened) : Type 0 where
-  pub answer : saysOpen (r .answer) ≡ bind (openBlock b (saysOrder order)) λ _. ok tt
+  pub answer : saysOpen (r .answer) ≡ whether (openBlock b (saysOrder order))
   pub view : viewOf (r .iterator) ≡ cursorOr (saysOrder order) (openBlock b (saysOrder order))
   pub bytes : r .iterator .key ≡ replicate maxKey 0
 

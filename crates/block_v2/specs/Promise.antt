@@ -4,7 +4,7 @@ use mathlib.Core.Path.{_≡_}
 use mathlib.Core.Bool.{Bool}
 use mathlib.Core.List.{List}
 use lib.ListN.{length}
-use Rattle.layout.specs.Answer.{Res, ok, refuse, bind}
+use Rattle.layout.specs.Answer.{Res, ok, refuse, whether}
 use Rattle.layout.specs.Builder.{Builder, newBuilder, built, isEmpty, wouldFit, add, stateAfter, dataAfter, placesAfter, build, blockAfter}
 use Rattle.layout.specs.Key.{Key}
 use Rattle.layout.specs.Place.{splice}
@@ -20,13 +20,9 @@ use Rattle.block_v2.specs.declared.Added.{Added}
 use Rattle.block_v2.specs.declared.Built.{Built}
 use Rattle.block_v2.specs.Says.{stateOf, viewOf, builderFrom, noKey, saysMade, saysAdd}
 
--- that it is answered, or refused
-abbrev pub said : {A : Type 0} → Res A → Res (Unit {0})
-said want = bind want λ _. ok tt
-
 -- the builder that is wanted, or beside a refusal the zero one, with no byte set in its last key
 pub record MakesAs (want : Res Builder) (r : New) : Type 0 where
-  pub answer : saysMade (r .answer) ≡ said want
+  pub answer : saysMade (r .answer) ≡ whether want
   pub view : viewOf (r .builder) ≡ built want
   pub key-bytes : r .builder .«last_key» ≡ noKey
 
@@ -42,7 +38,7 @@ builderAfter (ok v) key self = builderFrom (stateFrom v) (splice (self .«last_k
 builderAfter (refuse n) key self = self
 
 pub record AddsAs (want : Res Builder) (self : BlockBuilderV2) (bytes places : List ℕ) (key : Key) (f : Fields) (r : Added) (bytes′ places′ : List ℕ) : Type 0 where
-  pub answer : saysAdd (r .answer) ≡ said want
+  pub answer : saysAdd (r .answer) ≡ whether want
   pub view : viewOf (r .builder) ≡ stateAfter want (viewOf self)
   pub whole : r .builder ≡ builderAfter want key self
   pub bytes-after : bytes′ ≡ dataAfter want (viewOf self) key f bytes

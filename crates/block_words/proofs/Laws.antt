@@ -1,15 +1,14 @@
 -- Words that are loaded and stored, over plain variables: what the exits of the functions here, and of the exports above, use.
--- What is loaded is the definition's once each of its tests is known. A copy over all bytes leaves nothing of the old ones. An answer that says only whether, with the value beside it,
--- is the whole answer.
+-- What is loaded is the definition's once each of its tests is known. A copy over all bytes leaves nothing of the old ones.
 use Prim.Native.Nat.{ℕ, _+_}
 use mathlib.Core.Bool.{Bool, true, false, not}
-use mathlib.Core.Path.{_≡_, refl, ap, sym, _∙_}
+use mathlib.Core.Path.{_≡_, refl, sym, _∙_}
 use mathlib.Core.List.{List, append-nil}
 use lib.Dec.{eqb}
 use lib.ListN.{length, drop-of-length-le, replicate}
 use native.Mathlib.Omega.{arith}
 use borrow.Author.Tests.{eq-eqb, ne-eqb, eqb-true, not-false, le-ltb}
-use Rattle.layout.specs.Answer.{Res, ok, refuse, bind}
+use Rattle.layout.specs.Answer.{ok, refuse}
 use Rattle.layout.specs.Cursor.{Direction, Cursor}
 use Rattle.layout.specs.Limits.{maxKey}
 use Rattle.layout.specs.Laws.Answer.{guard-then, ok-inj}
@@ -25,7 +24,7 @@ use Rattle.block_grow_v2.specs.declared.State.{State}
 use Rattle.block_iterator_v2.specs.Says.{viewOf}
 use Rattle.block_iterator_v2.specs.declared.BlockIteratorV2.{BlockIteratorV2}
 use Rattle.block_step_v2.specs.declared.Place.{Place}
-use Rattle.row_words.specs.Words.{badWords, codeOf, truthIn, orderIn, wordAt, cursorFrom, cursorIn, cursorWords}
+use Rattle.row_words.specs.Words.{badWords, truthIn, orderIn, wordAt, cursorFrom, cursorIn, cursorWords}
 use Rattle.block_words.specs.Says.{saysCursor, saysState, stateIn}
 use Rattle.block_words.specs.declared.CursorRead.the-variants.{Is as IsCursor}
 use Rattle.block_words.specs.declared.StateRead.{StateRead}
@@ -110,16 +109,3 @@ module _ (c : BlockIteratorV2) (ws key : List ℕ) where
 
     pub put-bytes : {r : Bool} {ws′ key′ : List ℕ} → PutsIterator c ws key r ws′ key′ → key′ ≡ c .key
     put-bytes p = rw enough at (p .bytes)
-
--- ---- a record's promise, taken apart: an answer that says only whether, with the value beside it
-
-abbrev pub only : {A : Type 0} → Res A → Res (Unit {0})
-only want = bind want λ _. ok tt
-
-pub went : {A : Type 0} (want : Res A) (v : A) → only want ≡ ok tt → ((a : A) → want ≡ ok a → v ≡ a) → want ≡ ok v
-went (ok a) v s is = ap ok (sym (is a refl))
-went (refuse n) v s is = absurd (apart (sym s))
-
-pub stayed : {A : Type 0} (want : Res A) (k : ℕ) → only want ≡ refuse k → want ≡ refuse k
-stayed (ok a) k s = absurd (apart s)
-stayed (refuse n) k s = ap refuse (ap codeOf s)

@@ -174,5 +174,3 @@ pub fn builder_over(s: State, last_key: &[u8]) -> BlockBuilderV2
         last_key_len: s.last_key_len,
     }
 }
-
-// ---- a row

@@ -11,6 +11,10 @@ abbrev pub bind : {A B : Type 0} → Res A → (A → Res B) → Res B
 bind (ok a) f = f a
 bind (refuse n) f = refuse n
 
+-- an answer without its value: whether it is good, or the refusal
+abbrev pub whether : {A : Type 0} → Res A → Res (Unit {0})
+whether x = bind x λ _. ok tt
+
 -- refuse with n when the test holds
 abbrev pub guard : {A : Type 0} → Bool → ℕ → Res A → Res A
 guard true n k = refuse n

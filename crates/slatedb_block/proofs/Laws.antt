@@ -16,7 +16,7 @@ use Rattle.layout.specs.Builder.{newBuilder, built, isEmpty as isEmptyBuilder, 
 use Rattle.layout.specs.Cursor.{Direction, ascending, descending, Cursor, cursorOr, openBlock, isEmpty}
 use Rattle.layout.specs.Seek.{Sought, seek, soughtAfter}
 use Rattle.layout.specs.Limits.{maxKey}
-use Rattle.layout.specs.Laws.Answer.{ok-inj}
+use Rattle.layout.specs.Laws.Answer.{ok-inj, whether-good, whether-refused}
 use Rattle.types.specs.Answers.{apart, yes}
 use Rattle.types.specs.Number.{number}
 use Rattle.types.specs.declared.Refusal.{Refusal}
@@ -44,7 +44,6 @@ use Rattle.block_step_v2.specs.declared.Place.{Place}
 use Rattle.block_step_v2.specs.Says.{viewIn}
 use Rattle.row_words.specs.Words.{badWords, doneCode, codeOf, truthWord, orderIn, cursorIn, cursorWords, builderFrom, builderWords}
 use Rattle.block_words.specs.Says.{iteratorFrom, builderAlone, stateIn}
-use Rattle.block_words.proofs.Laws.{went, stayed}
 use Rattle.row_words.proofs.Laws.{counted-not, counted-so}
 use Rattle.slatedb_block.specs.Says.{TellsSought}
 use Rattle.slatedb_block.specs.Promise.{Tells, Sets, MakesFlat, EmptiesFlat, BuildsFlat, OpensFlat, TellsFlat, SeeksAs, SeeksFlat}
@@ -71,11 +70,11 @@ makes-short ws size interval h = sets-refused (counted-not ws 6 (newBuilder size
 module _ (ws : List ℕ) (size interval : ℕ) (r : New) (h : length ws ≡ 6) (m : Makes size interval r) where
   pub makes-good : {ws′ : List ℕ} → r .answer ≡ GoodMade → ws′ ≡ builderWords (viewOfBuilder (r .builder)) → MakesFlat ws size interval 0 ws′
   makes-good e q =
-      let w = went (newBuilder size interval) (viewOfBuilder (r .builder)) (yes saysMade (m .answer) e) (λ a z. m .view ∙ ap built z) in
+      let w = whether-good (newBuilder size interval) (viewOfBuilder (r .builder)) (yes saysMade (m .answer) e) (λ a z. m .view ∙ ap built z) in
       sets-good (viewOfBuilder (r .builder)) (counted-so ws 6 (newBuilder size interval) h ∙ w) q
 
   pub makes-refused : {x : Refusal} {code : ℕ} → r .answer ≡ MadeRefused x → code ≡ number x → MakesFlat ws size interval code ws
-  makes-refused {x} e q = sets-refused (counted-so ws 6 (newBuilder size interval) h ∙ stayed (newBuilder size interval) (number x) (yes saysMade (m .answer) e)) q
+  makes-refused {x} e q = sets-refused (counted-so ws 6 (newBuilder size interval) h ∙ whether-refused (newBuilder size interval) (number x) (yes saysMade (m .answer) e)) q
 
 pub empties-short : (ws : List ℕ) (n : ℕ) → (length ws ≡ 6 → ⊥) → EmptiesFlat ws n badWords n
 empties-short ws n h = tells-refused (rw (ne-eqb (length ws) 6 h) refl) refl
@@ -118,11 +117,11 @@ opens-no-order b order ws h o = sets-refused (counted-so ws 5 _ h ∙ rw o refl)
 module _ (b : List ℕ) (order : ℕ) (ws : List ℕ) (r : Opened) (o : IterationOrder) (h : length ws ≡ 5) (is : orderIn order ≡ ok (saysOrder o)) (opens : Opens b o r) where
   pub opens-good : {ws′ : List ℕ} → r .answer ≡ GoodOpen → ws′ ≡ cursorWords (viewOf (r .iterator)) → OpensFlat b order ws 0 ws′
   opens-good e q =
-      let w = went (openBlock b (saysOrder o)) (viewOf (r .iterator)) (yes saysOpen (opens .answer) e) (λ a z. opens .view ∙ ap (cursorOr (saysOrder o)) z) in
+      let w = whether-good (openBlock b (saysOrder o)) (viewOf (r .iterator)) (yes saysOpen (opens .answer) e) (λ a z. opens .view ∙ ap (cursorOr (saysOrder o)) z) in
       sets-good (viewOf (r .iterator)) (counted-so ws 5 _ h ∙ rw is w) q
 
   pub opens-refused : {x : Refusal} {code : ℕ} → r .answer ≡ OpenRefused x → code ≡ number x → OpensFlat b order ws code ws
-  opens-refused {x} e q = sets-refused (counted-so ws 5 _ h ∙ rw is (stayed (openBlock b (saysOrder o)) (number x) (yes saysOpen (opens .answer) e))) q
+  opens-refused {x} e q = sets-refused (counted-so ws 5 _ h ∙ rw is (whether-refused (openBlock b (saysOrder o)) (number x) (yes saysOpen (opens .answer) e))) q
 
 -- ---- asking whether a row is left: the key's bytes tell nothing
 

@@ -4,10 +4,11 @@ use Prim.Native.Nat.{ℕ}
 use mathlib.Core.Path.{_≡_, refl, ap, sym, _∙_}
 use mathlib.Core.List.{List}
 use lib.ListN.{length, take}
-use Rattle.layout.specs.Answer.{Res, ok, refuse}
+use Rattle.layout.specs.Answer.{Res, ok, refuse, whether}
 use Rattle.layout.specs.Builder.{Builder}
 use Rattle.layout.specs.Cursor.{next}
 use Rattle.layout.specs.Limits.{maxKey}
+use Rattle.layout.specs.Laws.Answer.{whether-refused}
 use Rattle.types.specs.Answers.{apart, yes}
 use Rattle.types.specs.Number.{number}
 use Rattle.types.specs.declared.Refusal.{Refusal}
@@ -29,13 +30,12 @@ use Rattle.block_iterator_v2.specs.declared.NextAnswer.the-variants.{Found as N
 use Rattle.row_words.specs.Words.{doneCode, builderFrom, builderWords, cursorIn, cursorWords, fieldsIn, rowWords}
 use Rattle.block_words.specs.Says.{iteratorOver, stateIn}
 use Rattle.block_words.specs.Exports.{AddsFlat, StepsFlat}
-use Rattle.block_words.proofs.Laws.{only, stayed}
 use Rattle.block_words.proofs.Adds.{added, unadded, addWanted, adds-asked}
 use Rattle.block_words.proofs.Steps.{stepped, ended, refused, told-refused, steps-asked}
 
 -- ---- adding a row
 
-some : {A : Type 0} (want : Res A) → only want ≡ ok tt → {C : Type 0} → ((w : A) → want ≡ ok w → C) → C
+some : {A : Type 0} (want : Res A) → whether want ≡ ok tt → {C : Type 0} → ((w : A) → want ≡ ok w → C) → C
 some (ok w) e k = k w refl
 some (refuse n) e k = absurd (apart (sym e))
 
@@ -56,7 +56,7 @@ module _ (ws last bytes places key value fs : List ℕ) (f : RowFields) (h : len
 
     pub adds-turned-down : {x : Refusal} {code : ℕ} → r .answer ≡ AddRefused x → code ≡ number x → AddsFlat ws last bytes places key value fs code ws last bytes′ places′
     adds-turned-down {x} e c =
-        let z = stayed wanted (number x) (yes saysAdd (p .answer) e) in
+        let z = whether-refused wanted (number x) (yes saysAdd (p .answer) e) in
         adds-asked ws last bytes places key value fs f h k is
         (unadded wanted (builderFrom ws last) key (fieldsFrom f value) ws last bytes places bytes′ places′ (p .bytes-after) (p .places-after) (number x) z c refl)
 

@@ -13,8 +13,8 @@ use Rattle.layout.specs.Limits.{maxKey}
 use Rattle.layout.specs.Key.{Key}
 use Rattle.layout.specs.RowRead.{RowRead}
 use Rattle.layout.specs.Cursor.{Cursor, cursorOr, openBlock, found, done, stepIs, next}
-use Rattle.layout.specs.Laws.Answer.{spend}
-use Rattle.types.specs.Answers.{apart, yes}
+use Rattle.layout.specs.Laws.Answer.{spend, whether-good, whether-refused}
+use Rattle.types.specs.Answers.{yes}
 use Rattle.types.specs.Number.{number}
 use Rattle.types.specs.Says.{saysOrder}
 use Rattle.types.specs.declared.Refusal.{Refusal}
@@ -106,10 +106,6 @@ told-refused sums e q = rw e (record { answer = q; words = refl })
 
 -- ---- the exits of an export
 
--- whether there is an answer, without its value
-abbrev only : {A : Type 0} → Res A → Res (Unit {0})
-only want = bind want λ _. ok tt
-
 module _ (b : List ℕ) (order limit : ℕ) (sums : List ℕ) where
   pub walks-short : (length sums ≡ 2 → ⊥) → WalksFlat b order limit sums badWords sums
   walks-short h = rw (ne-eqb (length sums) 2 h) (record { answer = refl; words = refl })
@@ -119,11 +115,7 @@ module _ (b : List ℕ) (order limit : ℕ) (sums : List ℕ) where
 
   module _ (r : Opened) (o : IterationOrder) (h : length sums ≡ 2) (is : orderIn order ≡ ok (saysOrder o)) (opens : Opens b o r) where
     opened-so : r .answer ≡ GoodOpen → openBlock b (saysOrder o) ≡ ok (viewOf (r .iterator))
-    opened-so e = go (openBlock b (saysOrder o)) (yes saysOpen (opens .answer) e) (opens .view)
-      where
-        go : (x : Res Cursor) → only x ≡ ok tt → viewOf (r .iterator) ≡ cursorOr (saysOrder o) x → x ≡ ok (viewOf (r .iterator))
-        go (ok c) s v = ap ok (sym v)
-        go (refuse n) s v = absurd (apart (sym s))
+    opened-so e = whether-good (openBlock b (saysOrder o)) (viewOf (r .iterator)) (yes saysOpen (opens .answer) e) (λ a z. opens .view ∙ ap (cursorOr (saysOrder o)) z)
 
     -- what the walk from the opened cursor answers is what is told
     pub walks-told : {want : Res Walk} {code : ℕ} {sums′ : List ℕ} → r .answer ≡ GoodOpen → want ≡ bind (walk limit (viewOf (r .iterator)) b) wrapped → Tells want sums code sums′
@@ -138,8 +130,4 @@ module _ (b : List ℕ) (order limit : ℕ) (sums : List ℕ) where
         walks-told e (w ∙ ap (λ (c : Cursor). bind (walk limit c b) wrapped) same) t
 
     pub walks-not-opened : {x : Refusal} {code : ℕ} → r .answer ≡ OpenRefused x → code ≡ number x → WalksFlat b order limit sums code sums
-    walks-not-opened {x} e q = rw (eq-eqb (length sums) 2 h, is, stayed (openBlock b (saysOrder o)) (yes saysOpen (opens .answer) e), q) (record { answer = refl; words = refl })
-      where
-        stayed : (y : Res Cursor) → only y ≡ refuse (number x) → y ≡ refuse (number x)
-        stayed (ok c) s = absurd (apart s)
-        stayed (refuse n) s = let same : n ≡ number x = cc in ap refuse same
+    walks-not-opened {x} e q = rw (eq-eqb (length sums) 2 h, is, whether-refused (openBlock b (saysOrder o)) (number x) (yes saysOpen (opens .answer) e), q) (record { answer = refl; words = refl })

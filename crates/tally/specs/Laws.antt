@@ -8,7 +8,7 @@ use native.Mathlib.Omega.{arith}
 use native.Mathlib.Numerals.{add-one}
 use lib.Dec.{ltb, eqb}
 use lib.ListN.{length, getD}
-use Rattle.layout.specs.Answer.{Res, ok, refuse, bind}
+use Rattle.layout.specs.Answer.{Res, ok, refuse, whether}
 use Rattle.layout.specs.Limits.{maxValue}
 use Rattle.layout.specs.Key.{Key}
 use Rattle.layout.specs.Place.{fixedAt}
@@ -34,15 +34,11 @@ pub rows-tally : (t : Tally) (b : List ℕ) (n : ℕ) (tr : Trailer) (rows : Lis
 unfolding tallyBlock
 rows-tally t b n tr rows q h = rw (h, q .reads .trailer-good, q .reads .offsets-good, q .reads .rows-read, q .are)
 
--- what an answer says beside its value
-abbrev pub only : {A : Type 0} → Res A → Res (Unit {0})
-only want = bind want λ _. ok tt
-
 -- a tally comes of exactly the blocks that the check accepts, and every other block has the check's refusal
-pub verdict : (t : Tally) (b : List ℕ) → only (tallyBlock t b) ≡ only (check b)
+pub verdict : (t : Tally) (b : List ℕ) → whether (tallyBlock t b) ≡ whether (check b)
 verdict t b = go (check b) refl
   where
-    go : (x : Res ℕ) → check b ≡ x → only (tallyBlock t b) ≡ only x
+    go : (x : Res ℕ) → check b ≡ x → whether (tallyBlock t b) ≡ whether x
     go (ok n) e = let a = has-rows b n e in rw (rows-tally t b n (a .0) (a .1) (a .2) e)
     go (refuse n) e = unfold tallyBlock in rw e
 

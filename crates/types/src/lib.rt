@@ -1,7 +1,6 @@
 // What every crate's answers and settings are made of: refusals, kinds of value, times, orders, and the numbers with an edge.
 // Follows slatedb 0.16.0, src/error.rs, src/types.rs and src/iter.rs (Apache License 2.0), and is changed: an answer names the
 // place of a value's bytes and holds none, an absent time is a case of its own, and each refusal has a number.
-ghost use mathlib.Core.Path.{_≡_};
 ghost use Rattle.types.specs.Promise.{Numbered};
 
 pub enum Refusal {

@@ -1,12 +1,12 @@
 -- Answers taken apart: what a test tells, and what an answer that came through tells of each part that it came through.
 use Prim.Native.Nat.{ℕ, zero, suc, _<_, _≤_}
-use mathlib.Core.Path.{_≡_, refl}
+use mathlib.Core.Path.{_≡_, refl, ap, sym}
 use mathlib.Core.Bool.{Bool, true, false, cond}
 use mathlib.Core.Logic.{_⊎_, inl, inr}
 use native.Mathlib.Omega.{arith}
 use lib.Dec.{ltb, eqb}
 use borrow.Author.Tests.{ltb-true, ltb-false, eqb-true, eqb-false}
-use Rattle.layout.specs.Answer.{Res, ok, refuse, bind, guard}
+use Rattle.layout.specs.Answer.{Res, ok, refuse, bind, whether, guard}
 
 -- what a test tells, both ways
 pub ltb-cases : (a b : ℕ) → ((ltb a b ≡ true) × (a < b)) ⊎ ((ltb a b ≡ false) × (b ≤ a))
@@ -56,6 +56,15 @@ guard-then false n x a e k = k refl e
 -- an answer handed on
 pub handed : {A B : Type 0} {x : Res A} {n : ℕ} (f : A → Res B) → x ≡ refuse n → refuse n ≡ bind x f
 handed f e = rw e
+
+-- an answer that is told only whether it is good, with its value beside it; or that is told to be refused
+pub whether-good : {A : Type 0} (want : Res A) (v : A) → whether want ≡ ok tt → ((a : A) → want ≡ ok a → v ≡ a) → want ≡ ok v
+whether-good (ok a) v s is = ap ok (sym (is a refl))
+whether-good (refuse n) v s is = absurd (let z : _≡_ {A = ℕ} 0 1 = cc in omega arith)
+
+pub whether-refused : {A : Type 0} (want : Res A) (n : ℕ) → whether want ≡ refuse n → want ≡ refuse n
+whether-refused (ok a) n s = absurd (let z : _≡_ {A = ℕ} 0 1 = cc in omega arith)
+whether-refused (refuse k) n s = let same : k ≡ n = cc in ap refuse same
 
 -- a test has one value
 pub clash : {b : Bool} → b ≡ true → b ≡ false → ⊥

@@ -2,7 +2,6 @@
 use Prim.Native.Nat.{ℕ, zero, suc, _-_, _%_, _^_, _<_, _≤_}
 use mathlib.Core.Path.{_≡_, refl, ap, sym, _∙_}
 use mathlib.Core.List.{List, _++_}
-use mathlib.Core.Logic.{⊎-elim}
 use native.Mathlib.Omega.{arith}
 use native.Mathlib.Nat.{pow-succ', one-le-pow, mod-eq-of-lt}
 use lib.Arith.{mod-mul}
@@ -12,7 +11,6 @@ use lib.Seq.{take-at, drop-at}
 use lib.Signed.{mag}
 use borrow.Author.Tests.{lt-ltb, le-ltb}
 use Rattle.layout.specs.Fixed.{big, unbig, bits, unbits}
-use Rattle.layout.specs.Laws.Answer.{ltb-cases}
 
 pub length-big : (n v : ℕ) → length (big n v) ≡ n
 unfolding big
@@ -45,10 +43,6 @@ pub unbits-bits : (z : ℤ) → mag z < 2 ^ 63 → unbits (bits z) ≡ z
 unfolding bits unbits
 unbits-bits (pos n) h = rw (lt-ltb n (2 ^ 63) h)
 unbits-bits (negsuc n) h = rw (le-ltb (2 ^ 64 - suc n) (2 ^ 63) (omega arith)) (ap negsuc (omega arith))
-
-pub bits-unbits : (b : ℕ) → b < 2 ^ 64 → bits (unbits b) ≡ b
-unfolding bits unbits
-bits-unbits b h = ⊎-elim (λ t. rw (t .0)) (λ t. rw (t .0) (omega (arith, t .1))) (ltb-cases b (2 ^ 63))
 
 -- the two cases of the pattern
 pub unbits-low : (b : ℕ) → b < 2 ^ 63 → unbits b ≡ pos b

@@ -73,9 +73,6 @@ below-le (x ∷ xs) (y ∷ ys) e =
     (ltb-cases y x))
     (ltb-cases x y)
 
-pub at-most-total : (a b : Key) → AtMost a b ⊎ AtMost b a
-at-most-total a b = ⊎-elim (λ t. inl (below-le a b t)) (λ t. inr (below-false a b t)) (bool-cases (below a b))
-
 -- below a key, so below what is above it
 pub below-trans : (a b c : Key) → AtMost a b → below b c ≡ true → below a c ≡ true
 below-trans a b c h e =
@@ -192,9 +189,6 @@ same-is a b e =
     was-not : (b : Bool) → not b ≡ true → b ≡ false
     was-not true e = let z : _≡_ {A = ℕ} 0 1 = cc in absurd (omega arith)
     was-not false e = refl
-
-pub same-refl : (a : Key) → same a a ≡ true
-same-refl a = rw (le-below a a (at-most-refl a))
 
 -- a comparison's answer `equal` is the test
 pub compare-same : (a b : Key) → compare a b ≡ equal → same a b ≡ true
