@@ -1,4 +1,4 @@
--- A trailer that a caller hands in, with any numbers: 14 unless they are the block's and there is such a region. Then the rules' own tests.
+-- A trailer and a region's number that a caller hands in: 14 unless the trailer's numbers are the block's, 18 where there is no such region. Then the rules' own tests.
 use Prim.Native.Nat.{ℕ, _+_, _*_}
 use mathlib.Core.Bool.{Bool, not}
 use mathlib.Core.List.{List}
@@ -14,7 +14,7 @@ belongs len t = eqb (t .size + (2 + 2 * t .count)) len
 unfoldable pub regionAt : List ℕ → Trailer → ℕ → Res Region
 regionAt b t r =
     guard (not (belongs (length b) t)) 14
-    (guard (leb (t .count) r) 14
+    (guard (leb (t .count) r) 18
     (regionOf b t r))
 
 unfoldable pub offsetsAt : List ℕ → Trailer → Res (Unit {0})

@@ -80,11 +80,11 @@ pub fn belongs_to(t: Trailer, len: usize) -> bool
     if len < 2 {
         return false;
     }
-    let taken = len - 2;
-    if taken / 2 < t.count {
+    let rest = len - 2;
+    if rest / 2 < t.count {
         return false;
     }
-    t.size == taken - 2 * t.count
+    t.size == rest - 2 * t.count
 }
 
 // What must be 0: the offset of region 0.
@@ -127,7 +127,7 @@ fn region_in(block: &[u8], t: Trailer, r: usize) -> RegionRead
     })
 }
 
-// Region `r`, with its offset and the next tested: 15. No other offset is looked at.
+// Region `r`, with its offset and the next tested: 15. No other offset is looked at. (`restart_region_end` in the Rust.)
 pub fn region_of(block: &[u8], t: Trailer, r: usize) -> RegionRead
     ensures { λ a. ⌜ ReadsRegion (now (block .entry)) t r a ⌝ }
 {
@@ -135,7 +135,7 @@ pub fn region_of(block: &[u8], t: Trailer, r: usize) -> RegionRead
         return RegionRead::Refused(Refusal::BadTrailer);
     }
     if t.count <= r {
-        return RegionRead::Refused(Refusal::BadTrailer);
+        return RegionRead::Refused(Refusal::BadState);
     }
     region_in(block, t, r)
 }

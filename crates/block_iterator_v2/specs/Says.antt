@@ -10,9 +10,9 @@ use Rattle.layout.specs.Seek.{Sought as SoughtL}
 use Rattle.layout.specs.Laws.Answer.{ok-inj}
 use Rattle.types.specs.Answers.{apart, refused-one}
 use Rattle.types.specs.Number.{number}
-use Rattle.row_decode_v2.specs.Says.{rowFrom}
+use Rattle.row_decode_v2.specs.Says.{rowFrom, rowFrom-one}
 use Rattle.block_step_v2.specs.declared.Place.{Place}
-use Rattle.block_step_v2.specs.Says.{viewIn, Told, row, none, viewIn-one, row-one, told-row, told-apart}
+use Rattle.block_step_v2.specs.Says.{viewIn, Told, row, none, viewIn-one, told-row, told-apart}
 use Rattle.block_iterator_v2.specs.declared.BlockIteratorV2.{BlockIteratorV2}
 use Rattle.block_iterator_v2.specs.declared.OpenAnswer.{OpenAnswer}
 use Rattle.block_iterator_v2.specs.declared.OpenAnswer.the-variants.{Good, Refused as OpenRefused}
@@ -74,7 +74,7 @@ saysOpen-one (OpenRefused r) Good e = absurd (apart (sym e))
 saysOpen-one (OpenRefused r) (OpenRefused q) e = ap OpenRefused (refused-one e)
 
 pub saysNext-one : (a b : NextAnswer) → saysNext a ≡ saysNext b → a ≡ b
-saysNext-one (Found r) (Found q) e = ap Found (row-one r q (told-row (ok-inj e)))
+saysNext-one (Found r) (Found q) e = ap Found (rowFrom-one r q (told-row (ok-inj e)))
 saysNext-one (Found r) NextDone e = absurd (told-apart (ok-inj e))
 saysNext-one (Found r) (NextRefused q) e = absurd (apart e)
 saysNext-one NextDone (Found q) e = absurd (told-apart (sym (ok-inj e)))

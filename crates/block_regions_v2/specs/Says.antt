@@ -10,10 +10,7 @@ use Rattle.layout.specs.Laws.Answer.{ok-inj}
 use Rattle.types.specs.Answers.{apart, refused-one}
 use Rattle.types.specs.Number.{number}
 use Rattle.types.specs.declared.Refusal.{Refusal}
-use Rattle.row_decode_v2.specs.Says.{rowFrom, saysRow-one}
-use Rattle.row_decode_v2.specs.declared.Row.{Row}
-use Rattle.row_decode_v2.specs.declared.RowRead.{RowRead}
-use Rattle.row_decode_v2.specs.declared.RowRead.the-variants.{Read as ReadRow}
+use Rattle.row_decode_v2.specs.Says.{rowFrom, rowFrom-one}
 use Rattle.block_regions_v2.specs.declared.Ended.{Ended}
 use Rattle.block_regions_v2.specs.declared.Ended.the-variants.{Row as EndedRow, Refused as EndedRefused}
 use Rattle.block_regions_v2.specs.declared.WalkAnswer.{WalkAnswer}
@@ -47,11 +44,8 @@ saysLast (LastRefused r) = refuse (number r)
 
 -- ---- one to one
 
-row-one : {r q : Row} → _≡_ {A = RowRead} (ReadRow r) (ReadRow q) → r ≡ q
-row-one e = cc
-
 pub saysEnded-one : (a b : Ended) → saysEnded a ≡ saysEnded b → a ≡ b
-saysEnded-one (EndedRow r) (EndedRow q) e = ap EndedRow (row-one (saysRow-one (ReadRow r) (ReadRow q) e))
+saysEnded-one (EndedRow r) (EndedRow q) e = ap EndedRow (rowFrom-one r q (ok-inj e))
 saysEnded-one (EndedRow r) (EndedRefused q) e = absurd (apart e)
 saysEnded-one (EndedRefused r) (EndedRow q) e = absurd (apart (sym e))
 saysEnded-one (EndedRefused r) (EndedRefused q) e = ap EndedRefused (refused-one e)

@@ -72,6 +72,7 @@ fn give(row: Row, stop: usize, key: &[u8], out: &mut [u8]) -> Ended
 }
 
 // The row of a region that ends at `stop`, read from the region's start: rows up to there are tested as they are read, and no row after it is.
+// (`load_restart_region` in the Rust, which keeps all rows.)
 pub fn row_ending_at(data: &[u8], region: Region, stop: usize, out: &mut [u8]) -> Ended
     ensures { λ r. ⌜ EndsAt (now («data» .entry)) region stop (now (out .entry)) r (now (out .exit)) ⌝ }
 {
@@ -119,7 +120,7 @@ fn no_walk(refusal: Refusal) -> Walked
     }
 }
 
-// Whole rows from a region's start to the first whose key is at or above the target, or to the region's end.
+// Whole rows from a region's start to the first whose key is at or above the target, or to the region's end. (The walk in the Rust's `seek` ascending.)
 pub fn walk_region(data: &[u8], region: Region, target: &[u8]) -> Walked
     ensures { λ w. ⌜ Walks (now («data» .entry)) region (now (target .entry)) w ⌝ }
 {
@@ -167,7 +168,8 @@ fn later(order: Ordering, best: usize, next: usize) -> usize
     }
 }
 
-// Reads a whole region: where its last row at or below the target ends, or the region's start if there is none.
+// Reads a whole region: where its last row at or below the target ends, or the region's start if there is none. (`load_restart_region` and the search for the
+// first greater row in the Rust's `seek` descending.)
 pub fn last_at_or_below(data: &[u8], region: Region, target: &[u8]) -> LastRead
     ensures { λ r. ⌜ EndsLast (now («data» .entry)) region (now (target .entry)) r ⌝ }
 {

@@ -10,10 +10,7 @@ use Rattle.layout.specs.Laws.Answer.{ok-inj}
 use Rattle.types.specs.Answers.{apart, refused-one}
 use Rattle.types.specs.Number.{number}
 use Rattle.types.specs.Says.{saysOrder, saysOrder-one}
-use Rattle.row_decode_v2.specs.Says.{rowFrom, saysRow-one}
-use Rattle.row_decode_v2.specs.declared.Row.{Row}
-use Rattle.row_decode_v2.specs.declared.RowRead.{RowRead}
-use Rattle.row_decode_v2.specs.declared.RowRead.the-variants.{Read as ReadRow}
+use Rattle.row_decode_v2.specs.Says.{rowFrom, rowFrom-one}
 use Rattle.block_step_v2.specs.declared.Place.{Place}
 use Rattle.block_step_v2.specs.declared.Moved.{Moved}
 use Rattle.block_step_v2.specs.declared.Moved.the-variants.{Found, Done, Refused}
@@ -53,9 +50,6 @@ viewIn-one p q k l e =
     let o = saysOrder-one (p .order) (q .order) (ap (λ (x : Cursor). x .direction) e) in
     ap (λ (x : Cursor). record { order = p .order; region = x .region; at = x .at; «key_len» = x .keyLen; done = x .mark }) e ∙ rw o
 
-pub row-one : (r q : Row) → rowFrom r ≡ rowFrom q → r ≡ q
-row-one r q e = let w : _≡_ {A = RowRead} (ReadRow r) (ReadRow q) = saysRow-one (ReadRow r) (ReadRow q) (ap (λ (x : RowReadL). ok x) e) in cc
-
 pub told-row : {r q : RowReadL} → _≡_ {A = Told} (row r) (row q) → r ≡ q
 told-row e = cc
 
@@ -64,7 +58,7 @@ told-apart e = let z : _≡_ {A = ℕ} 0 1 = cc in omega arith
 
 -- two answers that say the same, with places that are known as one
 pub saysMoved-one : (a b : Moved) (came : Place) (k l : List ℕ) → saysMoved a ≡ saysMoved b → viewIn (placeAfter a came) k ≡ viewIn (placeAfter b came) l → a ≡ b
-saysMoved-one (Found p r) (Found q s) came k l e v = ap₂ Found (viewIn-one p q k l v) (row-one r s (told-row (ok-inj e)))
+saysMoved-one (Found p r) (Found q s) came k l e v = ap₂ Found (viewIn-one p q k l v) (rowFrom-one r s (told-row (ok-inj e)))
 saysMoved-one (Found p r) (Done q) came k l e v = absurd (told-apart (ok-inj e))
 saysMoved-one (Found p r) (Refused s) came k l e v = absurd (apart e)
 saysMoved-one (Done p) (Found q s) came k l e v = absurd (told-apart (sym (ok-inj e)))

@@ -100,6 +100,7 @@ fn finished(p: Place) -> Moved
 // ---- ascending
 
 // All that an ascending step tests once the mark is tested, with nothing written: 15 for the region, 18 for the position, the row, 19.
+// (`decode_entry_at_current_offset` in the Rust.)
 fn look_ahead(p: Place, block: &[u8], t: Trailer, room: usize) -> Ahead
     requires { ⌜ Stands ascending p (now block) (trailerFrom t) ⌝ }
     ensures { λ r. ⌜ LooksAhead p (now (block .entry)) (trailerFrom t) room r ⌝ }
@@ -130,7 +131,7 @@ fn look_ahead(p: Place, block: &[u8], t: Trailer, room: usize) -> Ahead
     Ahead::At { row, region }
 }
 
-// Moves past a row and gives its key. A finished region hands over to the next at once, then with no key.
+// Moves past a row and gives its key. A finished region hands over to the next at once, then with no key. (`advance_past_current_entry` in the Rust.)
 fn pass(
     key: &mut [u8],
     p: Place,
@@ -176,7 +177,7 @@ fn next_ascending(key: &mut [u8], p: Place, block: &[u8], t: Trailer, out: &mut 
 // ---- descending: the key is neither used nor changed, whatever its bytes are
 
 // The region that a descending step reads once the mark is tested: 15 for the cursor's region, 18 for the position unless a row can end there; at the
-// region's start the region before, and 15 for it.
+// region's start the region before, and 15 for it. (`move_to_previous_region` in the Rust.)
 fn look_behind(p: Place, block: &[u8], t: Trailer) -> Behind
     requires { ⌜ Stands descending p (now block) (trailerFrom t) ⌝ }
     ensures { λ r. ⌜ LooksBehind p (now (block .entry)) (trailerFrom t) r ⌝ }

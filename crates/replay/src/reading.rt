@@ -31,7 +31,7 @@ fn say(answer: NextAnswer, key: &[u8], block: &[u8]) {
 }
 
 fn step(cursor: BlockIteratorV2, block: &[u8]) -> BlockIteratorV2 {
-    let mut key = [0u8; 1024];
+    let mut key = [0u8; types::MAX_KEY];
     let next = cursor.next(block, &mut key);
     let answer = next.answer;
     say(answer, &key, block);
@@ -66,7 +66,7 @@ fn empty(cursor: BlockIteratorV2, block: &[u8]) {
 
 // A step of which nothing is said.
 fn pass(cursor: BlockIteratorV2, block: &[u8]) -> BlockIteratorV2 {
-    let mut key = [0u8; 1024];
+    let mut key = [0u8; types::MAX_KEY];
     cursor.next(block, &mut key).iterator
 }
 

@@ -64,7 +64,7 @@ rowSaid x held expire create =
       create = create;
     }
 
-rowFrom-one : (a b : Row) → rowFrom a ≡ rowFrom b → a ≡ b
+pub rowFrom-one : (a b : Row) → rowFrom a ≡ rowFrom b → a ≡ b
 rowFrom-one a b e =
     let h = saysHeld-one (a .held) (b .held) (ap (λ (x : RowReadL). x .held) e) in
     let t = saysTime-one (a .expire) (b .expire) (ap (λ (x : RowReadL). x .expire) e) in
