@@ -26,7 +26,7 @@ module _ (b : List ℕ) (t : Trailer) where
     unfolding regionAt
     region-strange e = rw e
 
-    pub region-beyond : not (belongs (length b) t) ≡ false → t .count ≤ r → refuse 14 ≡ regionAt b t r
+    pub region-beyond : not (belongs (length b) t) ≡ false → t .count ≤ r → refuse 18 ≡ regionAt b t r
     unfolding regionAt
     region-beyond e h = rw (e, le-leb (t .count) r h)
 

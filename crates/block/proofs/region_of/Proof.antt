@@ -1,4 +1,4 @@
--- `region_of` keeps its promise for any numbers: 14 where they are not this block's, else `region_in`'s answer.
+-- `region_of` keeps its promise for any numbers: 14 where they are not this block's, 18 where there is no such region, else `region_in`'s answer.
 -- The two tests are the definition's; what they tell is what `region_in` requires.
 use mathlib.Core.Path.{sym, _∙_}
 use borrow.Author.Needs.{needs}
