@@ -25,7 +25,7 @@ use Rattle.block_iterator_v2.specs.declared.BlockIteratorV2.{BlockIterat
 use Rattle.block_iterator_v2.specs.declared.SeekAnswer.{SeekAnswer}
 use Rattle.block_iterator_v2.specs.declared.SeekAnswer.the-variants.{Landed, Done as SeekDone, Refused as SeekRefused}
 use Rattle.block_iterator_v2.specs.declared.Sought.{Sought}
-use Rattle.block_iterator_v2.specs.Parts.{refusalOfWalk, placed, landed, sought}
+use Rattle.block_iterator_v2.specs.Parts.{placed, landed, sought}
 use Rattle.block_iterator_v2.specs.Promise.{Seeks}
 
 abbrev pub withAnswer : BlockIteratorV2 → SeekAnswer → Sought
@@ -70,8 +70,5 @@ module _ (b : List ℕ) (t : Trailer) (i : ℕ) (g : RegionC) (target : Key) (re
   pub walk-stops : w .answer ≡ Stopped → walkRegion (t .size) (dataOf b t) (regionFrom g) target (g .start) [] ≡ ok (stopFrom w)
   walk-stops e = sym (walk-used b t i (regionFrom g) target read is) ∙ walk-stopped (dataOf b t) g target w p e .0
 
-  pub walk-refuses : {x y : Refusal} → w .answer ≡ WalkRefused y → x ≡ refusalOfWalk (w .answer) → walkRegion (t .size) (dataOf b t) (regionFrom g) target (g .start) [] ≡ refuse (number x)
-  walk-refuses e q =
-      sym (walk-used b t i (regionFrom g) target read is)
-      ∙ walk-refused (dataOf b t) g target w p e
-      ∙ ap (λ (r : Refusal). refuse (number r)) (sym (q ∙ ap refusalOfWalk e))
+  pub walk-refuses : {x : Refusal} → w .answer ≡ WalkRefused x → walkRegion (t .size) (dataOf b t) (regionFrom g) target (g .start) [] ≡ refuse (number x)
+  walk-refuses e = sym (walk-used b t i (regionFrom g) target read is) ∙ walk-refused (dataOf b t) g target w p e

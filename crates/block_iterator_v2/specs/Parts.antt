@@ -11,11 +11,7 @@ use Rattle.layout.specs.Cursor.{Direction, Cursor}
 use Rattle.layout.specs.Seek.{Sought, soughtIs}
 use Rattle.types.specs.declared.IterationOrder.{IterationOrder}
 use Rattle.types.specs.declared.Refusal.{Refusal}
-use Rattle.types.specs.declared.Refusal.the-variants.{BadTrailer, BadOffset, BadState}
-use Rattle.block.specs.declared.Tested.{Tested}
-use Rattle.block.specs.declared.Tested.the-variants.{Good as GoodOffsets, Refused as OffsetsRefused}
-use Rattle.block_regions_v2.specs.declared.WalkAnswer.{WalkAnswer}
-use Rattle.block_regions_v2.specs.declared.WalkAnswer.the-variants.{Stopped, Refused as WalkRefused}
+use Rattle.types.specs.declared.Refusal.the-variants.{BadTrailer, BadState}
 use Rattle.block_regions_v2.specs.declared.Walked.{Walked}
 use Rattle.block_regions_v2.specs.declared.LastRead.{LastRead}
 use Rattle.block_regions_v2.specs.declared.LastRead.the-variants.{Ends, Refused as LastRefused}
@@ -30,14 +26,6 @@ use Rattle.block_iterator_v2.specs.declared.SeekAnswer.the-variants.{Lan
 use Rattle.block_iterator_v2.specs.declared.Sought.{Sought as SoughtC}
 
 -- ---- the refusal that an answer hands on: where an answer is none, it does not matter which
-
-abbrev pub refusalOfOffsets : Tested → Refusal
-refusalOfOffsets GoodOffsets = BadOffset
-refusalOfOffsets (OffsetsRefused r) = r
-
-abbrev pub refusalOfWalk : WalkAnswer → Refusal
-refusalOfWalk Stopped = BadState
-refusalOfWalk (WalkRefused r) = r
 
 abbrev pub refusalOfLast : LastRead → Refusal
 refusalOfLast (Ends n) = BadState

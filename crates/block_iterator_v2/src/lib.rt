@@ -15,7 +15,7 @@ ghost use Rattle.block.specs.Says.{trailerFrom};
 ghost use Rattle.block_step_v2.specs.Promise.{Moves};
 ghost use Rattle.block_step_v2.specs.Says.{viewIn, placeAfter};
 ghost use Rattle.block_iterator_v2.specs.Says.{viewOf};
-ghost use Rattle.block_iterator_v2.specs.Parts.{refusalOfOffsets, refusalOfWalk, refusalOfLast, refusalOfStart, placed, answerOf, SetsOut, sought, landed};
+ghost use Rattle.block_iterator_v2.specs.Parts.{refusalOfLast, refusalOfStart, placed, answerOf, SetsOut, sought, landed};
 ghost use Rattle.block_iterator_v2.specs.Promise.{PlacesCursor, Opens, StepsNext, Seeks, SeeksTarget, TellsEmpty};
 use block::RegionRead;
 use block::Tested;
@@ -83,24 +83,6 @@ pub enum EmptyRead {
 }
 
 // ---- the refusal of an answer that is one
-
-fn offsets_refusal(a: Tested) -> Refusal
-    ensures { λ r. ⌜ r ≡ refusalOfOffsets a ⌝ }
-{
-    match a {
-        Tested::Refused(refusal) => refusal,
-        Tested::Good => Refusal::BadOffset,
-    }
-}
-
-fn walk_refusal(a: WalkAnswer) -> Refusal
-    ensures { λ r. ⌜ r ≡ refusalOfWalk a ⌝ }
-{
-    match a {
-        WalkAnswer::Refused(refusal) => refusal,
-        WalkAnswer::Stopped => Refusal::BadState,
-    }
-}
 
 fn last_refusal(a: LastRead) -> Refusal
     ensures { λ r. ⌜ r ≡ refusalOfLast a ⌝ }
@@ -193,12 +175,12 @@ impl BlockIteratorV2 {
             };
         };
         let offsets = block::all_offsets(block, t);
-        let Tested::Good = offsets else {
+        if let Tested::Refused(refusal) = offsets {
             return Opened {
                 iterator: start,
-                answer: OpenAnswer::Refused(offsets_refusal(offsets)),
+                answer: OpenAnswer::Refused(refusal),
             };
-        };
+        }
         match order {
             IterationOrder::Ascending => Opened {
                 iterator: start,
@@ -291,12 +273,12 @@ impl BlockIteratorV2 {
             };
             let walked = block_regions_v2::walk_region(&block[..size], region, target);
             let stop = walked.answer;
-            let WalkAnswer::Stopped = stop else {
+            if let WalkAnswer::Refused(refusal) = stop {
                 return Sought {
                     iterator: self,
-                    answer: SeekAnswer::Refused(walk_refusal(stop)),
+                    answer: SeekAnswer::Refused(refusal),
                 };
-            };
+            }
             if walked.at < region.end {
                 return self.landed(number, walked, start.reads);
             }

@@ -9,7 +9,6 @@ use Rattle.layout.specs.Laws.Cursor.{open-trailer, open-offsets, open-good}
 use Rattle.types.specs.Answers.{yes, no}
 use Rattle.block.specs.Says.{trailerFrom, saysTrailer, saysTested, refusalOfTrailer}
 use Rattle.block.specs.Laws.{offsets-used}
-use Rattle.block_iterator_v2.specs.Parts.{refusalOfOffsets}
 use Rattle.block_iterator_v2.proofs.Laws.{opens-not, opens-up, opens-down}
 use borrow.Author.Needs.{needs}
 use Rattle.block_iterator_v2.proofs.BlockIteratorV2.new.Statement.{statement}
@@ -44,26 +43,23 @@ returns c = opens-not _ _ _ (open-trailer _ _ (no saysTrailer refusalOfTrailer (
 all-offsets-requires : tie.Need-all-offsets-requires
 all-offsets-requires c κs = search needs
 
+enum-known-offsets : tie.Need-enum-known-offsets
+enum-known-offsets c = search needs
+
+returns-2 : tie.Need-returns-2
+returns-2 c =
+    let k = c .before .before .before .before in
+    let offsets = sym (offsets-used _ _ (trailer-read k)) ∙ yes saysTested (c .before .before .before .all-offsets .ensures) (c .before .offsets .given .1) in
+    opens-not _ _ _ (open-offsets _ _ _ (trailer-read k) offsets) (k .before .before .before .before .placed .ensures)
+
 enum-told-2 : tie.Need-enum-told-2
 enum-told-2 c = search needs
 
 enum-told-3 : tie.Need-enum-told-3
 enum-told-3 c = search needs
 
-offsets-refusal-requires : tie.Need-offsets-refusal-requires
-offsets-refusal-requires c κs = search needs
-
-returns-2 : tie.Need-returns-2
-returns-2 c =
-    let k = c .before .before .before .before in
-    let offsets = sym (offsets-used _ _ (trailer-read k)) ∙ no saysTested refusalOfOffsets (c .before .before .before .all-offsets .ensures) (c .before .enum-told3 .given .1) refl (c .offsets-refusal .ensures) in
-    opens-not _ _ _ (open-offsets _ _ _ (trailer-read k) offsets) (k .before .before .before .before .placed .ensures)
-
 enum-told-4 : tie.Need-enum-told-4
 enum-told-4 c = search needs
-
-enum-told-5 : tie.Need-enum-told-5
-enum-told-5 c = search needs
 
 sub-placed : tie.Need-sub-placed
 sub-placed c = omega (arith, trailerOf-tells _ _ (trailer-read (c .before .before .before .before .before .before)) .1)
@@ -74,12 +70,12 @@ placed-requires-2 c κs = search needs
 returns-3 : tie.Need-returns-3
 returns-3 c =
     let k = c .before .before in
-    opens-up _ _ _ _ (open-good _ _ _ (trailer-read (k .before .before .before)) (offsets-good k)) (c .enum-told4 .given .1) (k .before .before .before .before .before .before .before .placed .ensures)
+    opens-up _ _ _ _ (open-good _ _ _ (trailer-read (k .before .before .before)) (offsets-good k)) (c .enum-told3 .given .1) (k .before .before .before .before .before .before .before .placed .ensures)
 
 returns-4 : tie.Need-returns-4
 returns-4 c =
     let k = c .before .before .before .before in
-    opens-down _ _ _ _ (open-good _ _ _ (trailer-read (k .before .before .before)) (offsets-good k)) (c .before .before .enum-told5 .given .1) (c .placed2 .ensures)
+    opens-down _ _ _ _ (open-good _ _ _ (trailer-read (k .before .before .before)) (offsets-good k)) (c .before .before .enum-told4 .given .1) (c .placed2 .ensures)
 
 pub new-spec : {M : Type 1} → statement M
 new-spec =
@@ -92,12 +88,11 @@ new-spec =
     trailer-refusal-requires
     returns
     all-offsets-requires
+    enum-known-offsets
+    returns-2
     enum-told-2
     enum-told-3
-    offsets-refusal-requires
-    returns-2
     enum-told-4
-    enum-told-5
     sub-placed
     placed-requires-2
     returns-3

@@ -65,14 +65,8 @@ slice-aggregate-walk-region c =
 walk-region-requires : tie.Need-walk-region-requires Inv-loop μ-loop
 walk-region-requires c κs = search needs
 
-enum-told-2 : tie.Need-enum-told-2 Inv-loop μ-loop
-enum-told-2 c = search needs
-
-enum-told-3 : tie.Need-enum-told-3 Inv-loop μ-loop
-enum-told-3 c = search needs
-
-walk-refusal-requires : tie.Need-walk-refusal-requires Inv-loop μ-loop
-walk-refusal-requires c κs = search needs
+enum-known-stop : tie.Need-enum-known-stop Inv-loop μ-loop
+enum-known-stop c = search needs
 
 returns-2 : tie.Need-returns-2 Inv-loop μ-loop
 returns-2 c =
@@ -80,7 +74,10 @@ returns-2 c =
     let s = k .before .before .before .before .before .before .before .before .before in
     walked-not _ _ _
     (climbing-no _ _ _ _ _ (k .before .before .before .before .before .before .loop .inv) (omega (arith, s .pre .inside)) (k .before .before .before .before .if1 .taken) _ (region-read k)
-    (walk-refuses _ _ _ _ _ (s .pre .read) (region-read k) _ (c .before .before .before .walk-region .ensures) (c .before .enum-told3 .given .1) (c .walk-refusal .ensures)))
+    (walk-refuses _ _ _ _ _ (s .pre .read) (region-read k) _ (c .before .before .before .walk-region .ensures) (c .before .stop .given .1)))
+
+enum-told-2 : tie.Need-enum-told-2 Inv-loop μ-loop
+enum-told-2 c = search needs
 
 landed-requires : tie.Need-landed-requires Inv-loop μ-loop
 landed-requires c κs = search needs
@@ -130,10 +127,9 @@ walk-up-spec =
     returns
     slice-aggregate-walk-region
     walk-region-requires
-    enum-told-2
-    enum-told-3
-    walk-refusal-requires
+    enum-known-stop
     returns-2
+    enum-told-2
     landed-requires
     returns-3
     add-number
