@@ -196,7 +196,8 @@ impl BlockIteratorV2 {
         }
     }
 
-    // Whether no row is left. Only the trailer is tested; descending, only the mark tells.
+    // Whether the cursor is known to have no row left: ascending by its position or its mark; descending by its mark alone, so not before a step or a seek has
+    // said "done". Only the trailer is tested.
     pub fn is_empty(self, block: &[u8]) -> EmptyRead
         ensures { λ r. ⌜ TellsEmpty self (now (block .entry)) r ⌝ }
     {

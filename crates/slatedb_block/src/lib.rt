@@ -295,7 +295,7 @@ fn iterator_of(p: Place) -> BlockIteratorV2
     }
 }
 
-// Whether no row is left: 254, 14.
+// Whether the cursor is known to have no row left, ascending by its position or its mark, descending by its mark alone: 254, 14.
 #[no_mangle]
 pub extern "C" fn slatedb_is_empty(block: &[u8], cursor: &[u64], empty: &mut u64) -> u8
     ensures { λ r. ⌜ TellsFlat (now (block .entry)) (now (cursor .entry)) (now (empty .entry)) r (now (empty .exit)) ⌝ }
