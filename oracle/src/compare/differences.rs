@@ -102,6 +102,13 @@ fn row_end(place: &Place) -> Option<usize> {
     Some(head.end + head.suffix + head.value + 9 + 8 * (flags & 2 != 0) as usize + 8 * (flags & 4 != 0) as usize)
 }
 
+/// A number, and the length of the buffer that is lent for its varint. The Rust's own bytes say how many are needed.
+pub static VARINT_WRITTEN: [Difference<(u32, usize)>; 1] = [
+    entry("a lent buffer too short for a varint: the Rust's grows, 01 refuses 6", 6, Rust::Varies, |(number, output_len)| {
+        slate_oracle::direct::varint(*number).0.len() > *output_len
+    }),
+];
+
 pub static VARINT: [Difference<Vec<u8>>; 2] = [
     entry("a varint that the input ends in: the Rust panics, 01 refuses 9", 9, Rust::Panics, |input| spelled(input, 0) == Spelled::Ends),
     entry("a varint's fifth byte above 15: the Rust cuts it or reads on, 01 refuses 10", 10, Rust::Varies, |input| {
