@@ -52,7 +52,9 @@ pub fn read_varint(run: &mut Run, input: &[u8]) {
     let input = input.to_vec();
     match (varint::read(&input, 0), differences::first(&differences::VARINT, &input)) {
         (Ok(here), None) if rust == Ok(here) => run.tally.same(kind),
-        (Err(here), Some(known)) if known.here == here && known.rust.may(&rust) => run.tally.listed(known.name, input.len(), || short_hex(&input)),
+        (Err(here), Some(known)) if known.here == here && rust.clone().ok() == differences::read_by_the_rust(&input, 0) => {
+            run.tally.listed(known.name, input.len(), || short_hex(&input))
+        }
         (here, _) => run.tally.differs(kind, input.len(), || format!("{}: Rust {rust:?}, model {here:?}", short_hex(&input))),
     }
 }
