@@ -1,7 +1,9 @@
 /* How deep a stack each function of the libraries uses: it is run on a stack of its own that is painted before, over blocks with short keys and with
- * the longest, both ways, and the lowest byte that lost its paint is looked for. The most of all runs is printed, and must be at most 16 KiB. */
+ * the longest, with the most restarts and with the deepest search among them, both ways, and the lowest byte that lost its paint is looked for. The
+ * most of all runs is printed, and must be at most 16 KiB. */
 #define _GNU_SOURCE
 #include "slatedb_by_value.h"
+#include "slatedb_parts.h"
 #include "slatedb_walks.h"
 
 #include <stdio.h>
@@ -10,16 +12,24 @@
 
 enum { STACK = 256 * 1024, LIMIT = 16 * 1024, DATA = 65536, PLACES = 64, PAINT = 0xA5 };
 
+/* The least row of a restart, its bytes up to its key, and how many such restarts a block can have whose rows are whole. */
+enum { ROW = 13, KEY_END = 4, MOST_RESTARTS = 5042 };
+
+/* Regions of one byte, but for the 16 that the search for a key below all reads: as many as offsets up to 65,535 allow. */
+enum { DEEPEST = 16, DEEP_RESTARTS = 65536 - (ROW - 1) - (DEEPEST - 1) * (KEY_END - 1), LARGEST = 65536 + 2 * DEEP_RESTARTS + 2 };
+
 static _Alignas(64) uint8_t stack[STACK];
 static ucontext_t desk, painted;
 static void (*job)(void);
 
-static uint8_t data[DATA], key[SLATEDB_KEY_BYTES], last[SLATEDB_KEY_BYTES], carried[SLATEDB_KEY_BYTES], out[SLATEDB_KEY_BYTES], encoded[2048];
+static uint8_t data[LARGEST], key[SLATEDB_KEY_BYTES], last[SLATEDB_KEY_BYTES], carried[SLATEDB_KEY_BYTES], out[SLATEDB_KEY_BYTES], encoded[2048];
 static uint16_t restarts[PLACES];
 static slatedb_builder builder;
 static slatedb_cursor cursor;
 static slatedb_fields fields = {.kind = SLATEDB_MERGE, .seq = 1, .has_expire = 1, .expire = 2, .has_create = 1, .create = 3};
 static slatedb_row row;
+static slatedb_varint varint;
+static slatedb_key key_read;
 static uint64_t count;
 static size_t key_len, block_len;
 static uint8_t answer;
@@ -117,6 +127,18 @@ static void call_walk_in_place(void) {
     answer = slatedb_walk_in_place(data, block_len, order, UINT64_MAX, SLATEDB_WORDS(&sums));
 }
 
+static void call_varint_put(void) {
+    answer = slatedb_varint_put(encoded, sizeof encoded, UINT32_MAX, &count);
+}
+
+static void call_varint_get(void) {
+    answer = slatedb_varint_get(encoded, sizeof encoded, 0, SLATEDB_WORDS(&varint));
+}
+
+static void call_decode_key(void) {
+    answer = slatedb_decode_key(encoded, sizeof encoded, 0, sizeof encoded, 0, 1, SLATEDB_WORDS(&key_read));
+}
+
 static struct {
     const char *name;
     void (*call)(void);
@@ -139,6 +161,9 @@ static struct {
     {"slatedb_next_by_value", call_next_by_value, 0, 0},
     {"slatedb_walk_by_value", call_walk_by_value, 0, 0},
     {"slatedb_walk_in_place", call_walk_in_place, 0, 0},
+    {"slatedb_varint_put", call_varint_put, 0, 0},
+    {"slatedb_varint_get", call_varint_get, 0, 0},
+    {"slatedb_decode_key", call_decode_key, 0, 0},
 };
 
 enum { FUNCTIONS = sizeof functions / sizeof *functions };
@@ -161,11 +186,19 @@ static void set_key(unsigned i, size_t len) {
     key_len = len;
 }
 
+/* A row, and its parts by themselves. */
+static void one_row(void) {
+    measure(call_encode);
+    measure(call_decode);
+    measure(call_decode_key);
+    measure(call_varint_put);
+    measure(call_varint_get);
+}
+
 /* Builds a block of rows with keys of this length, and reads it both ways. */
 static void over_keys_of(size_t len, unsigned rows) {
     set_key(0, len);
-    measure(call_encode);
-    measure(call_decode);
+    one_row();
     measure(call_builder_new);
     for (unsigned i = 0; i < rows; i++) {
         set_key(i, len);
@@ -193,17 +226,94 @@ static void over_keys_of(size_t len, unsigned rows) {
     }
 }
 
+/* ---- blocks of many restarts, made by hand */
+
+static size_t put_row(size_t at, unsigned letter) {
+    const uint8_t least[ROW] = {0, 1, 0, (uint8_t)letter, [ROW - 2] = 1};
+    memcpy(data + at, least, ROW);
+    return at + ROW;
+}
+
+static size_t put_half(size_t at, size_t number) {
+    data[at] = (uint8_t)(number / 256);
+    data[at + 1] = (uint8_t)(number % 256);
+    return at + 2;
+}
+
+/* Every row a restart, twenty with one key after another. */
+static void make_most_restarts(void) {
+    size_t at = 0;
+    for (unsigned i = 0; i < MOST_RESTARTS; i++) {
+        at = put_row(at, i / 20);
+    }
+    for (size_t i = 0; i < MOST_RESTARTS; i++) {
+        at = put_half(at, i * ROW);
+    }
+    block_len = put_half(at, MOST_RESTARTS);
+}
+
+/* A search for a key below all goes to the lower half each time. */
+static int is_read(size_t restart) {
+    size_t high = DEEP_RESTARTS;
+    while (restart < high / 2) {
+        high /= 2;
+    }
+    return restart == high / 2;
+}
+
+/* Only the restarts that this search reads have a key, and only the first one, where it ends, a whole row. */
+static void make_deepest_search(void) {
+    static uint16_t offsets[DEEP_RESTARTS];
+    size_t at = 0;
+    for (size_t i = 0; i < DEEP_RESTARTS; i++) {
+        offsets[i] = (uint16_t)at;
+        if (is_read(i)) {
+            put_row(at, 'z');
+            at += i == 0 ? ROW : KEY_END;
+        } else {
+            data[at++] = 0;
+        }
+    }
+    for (size_t i = 0; i < DEEP_RESTARTS; i++) {
+        at = put_half(at, offsets[i]);
+    }
+    block_len = put_half(at, DEEP_RESTARTS);
+}
+
+/* Seeks to a key of one letter, both ways; the most restart keys that a search has read. */
+static uint64_t seek_letter(unsigned letter, uint64_t reads) {
+    for (order = SLATEDB_ASCENDING; order <= SLATEDB_DESCENDING; order++) {
+        set_key(letter, 1);
+        measure(call_open);
+        measure(call_seek);
+        reads = reads < count ? count : reads;
+        measure(call_next);
+    }
+    return reads;
+}
+
+static uint64_t over_many_restarts(void) {
+    make_most_restarts();
+    measure(call_check);
+    uint64_t reads = seek_letter(0, 0);
+    reads = seek_letter(100, reads);
+    reads = seek_letter(255, reads);
+    make_deepest_search();
+    return seek_letter('a', reads);
+}
+
 int main(void) {
     size_t base = depth(nothing), most = 0;
-    int failed = 0;
     over_keys_of(16, 200);
     over_keys_of(SLATEDB_KEY_BYTES, 50);
+    uint64_t reads = over_many_restarts();
+    int failed = reads != DEEPEST;
     for (size_t i = 0; i < FUNCTIONS; i++) {
         size_t deep = functions[i].most - base;
         printf("%-28s %6zu bytes of stack\n", functions[i].name, deep);
         most = most < deep ? deep : most;
         failed |= LIMIT < deep || functions[i].good == 0;
     }
-    printf("the deepest: %zu of %d bytes\n", most, LIMIT);
+    printf("the deepest: %zu of %d bytes; the longest search read %llu restart keys\n", most, LIMIT, (unsigned long long)reads);
     return failed;
 }

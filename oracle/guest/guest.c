@@ -1,5 +1,5 @@
 /* The proved libraries as a process of their own, so that they can be compared on any processor: it serves slatedb_block.h,
- * slatedb_by_value.h and slatedb_walks.h over standard input and output. All numbers are low byte first.
+ * slatedb_by_value.h, slatedb_walks.h and slatedb_parts.h over standard input and output. All numbers are low byte first.
  *
  * A batch is its length (4 bytes) and its requests; the answer to it likewise. A request is the function's number, how many
  * arguments follow, and these: a tag, then for a number (0) its 8 bytes, for an array that is read (1) or written (2) its
@@ -7,6 +7,7 @@
  * all bytes of the arrays of tag 2.
  */
 #include "slatedb_by_value.h"
+#include "slatedb_parts.h"
 #include "slatedb_walks.h"
 #include <stdio.h>
 #include <stdlib.h>
@@ -109,6 +110,9 @@ static uint8_t call(uint8_t function, const struct argument *a) {
     case 13: return slatedb_is_empty(BYTES(0), WORDS(1), WORD(2));
     case 14: return slatedb_walk_by_value(BYTES(0), NUM(1), NUM(2), WORDS(3));
     case 15: return slatedb_walk_in_place(BYTES(0), NUM(1), NUM(2), WORDS(3));
+    case 16: return slatedb_varint_put(BYTES(0), NUM(1), WORD(2));
+    case 17: return slatedb_varint_get(BYTES(0), NUM(1), WORDS(2));
+    case 18: return slatedb_decode_key(BYTES(0), NUM(1), NUM(2), NUM(3), NUM(4), WORDS(5));
     default: fail("unknown function"); return 0;
     }
 }

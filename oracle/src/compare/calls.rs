@@ -1,8 +1,8 @@
 //! Calls of the C interface, and what the model says that each must answer: the code, and all lent memory after it.
 use model::builder::Builder;
 use model::cursor::{Cursor, Order};
-use model::row::{self, Fields, Kind, Row};
-use model::{check::check, Key, Refusal, KEY_LIMIT};
+use model::row::{self, Fields, Kind, Place, Row};
+use model::{check::check, refusal, varint, Key, Refusal, KEY_LIMIT};
 
 pub const GOOD: u8 = 0;
 pub const BAD_WORDS: u8 = 254;
@@ -13,6 +13,8 @@ const BUILDER_WORDS: usize = 6;
 const FIELDS_WORDS: usize = 6;
 const ROW_WORDS: usize = 13;
 const SUMS_WORDS: usize = 2;
+const VARINT_WORDS: usize = 2;
+const KEY_WORDS: usize = 3;
 
 /// As in guest/guest.c.
 #[derive(Clone, Copy, Debug, PartialEq, Eq, PartialOrd, Ord)]
@@ -34,6 +36,9 @@ pub enum Function {
     IsEmpty,
     WalkByValue,
     WalkInPlace,
+    VarintPut,
+    VarintGet,
+    DecodeKey,
 }
 
 #[derive(Clone, Debug)]
@@ -170,6 +175,9 @@ impl Call {
             Function::Seek => seek(self, &mut memory),
             Function::IsEmpty => is_empty(self, &mut memory),
             Function::WalkByValue | Function::WalkInPlace => walk(self, &mut memory),
+            Function::VarintPut => varint_put(self, &mut memory),
+            Function::VarintGet => varint_get(self, &mut memory),
+            Function::DecodeKey => decode_key(self, &mut memory),
         };
         match answer {
             Ok((code, key)) => Expected { code, memory, key },
@@ -304,4 +312,29 @@ fn walk(call: &Call, memory: &mut [Vec<u8>]) -> Answer {
     }
     memory[0] = bytes_of(&[rows, sum]);
     Ok((code, None))
+}
+
+/// 6: a varint needs as much room as a row's bytes do.
+fn varint_put(call: &Call, memory: &mut [Vec<u8>]) -> Answer {
+    let number = u32::try_from(call.number(1)).expect("32 bits");
+    let count = varint::len(number);
+    memory[0].get_mut(..count).ok_or(refusal::BUFFER_SHORT)?.copy_from_slice(&varint::write(number));
+    memory[1] = bytes_of(&[count as u64]);
+    PLAIN
+}
+
+fn varint_get(call: &Call, memory: &mut [Vec<u8>]) -> Answer {
+    exactly(&call.words(2), VARINT_WORDS)?;
+    let (number, end) = varint::read(call.bytes(0), call.number(1) as usize)?;
+    memory[0] = bytes_of(&[number as u64, end as u64]);
+    PLAIN
+}
+
+fn decode_key(call: &Call, memory: &mut [Vec<u8>]) -> Answer {
+    exactly(&call.words(5), KEY_WORDS)?;
+    let restart = flag_of(call.number(4)).ok_or(BAD_WORDS)?;
+    let [at, region_end, previous_len] = [1, 2, 3].map(|i| call.number(i) as usize);
+    let key = row::read_key(&Place { data: call.bytes(0), at, previous_len, restart, region_end })?;
+    memory[0] = bytes_of(&[key.shared, key.suffix_at, key.suffix_len].map(|number| number as u64));
+    PLAIN
 }

@@ -1,6 +1,8 @@
 //! Where the answers part from the Rust's. Each kind of difference is a predicate on the input alone, with the number that 01
 //! gives and what the Rust does. The predicates look at the bytes in their own way, not through the model. Any difference that
 //! is not in these tables fails the run.
+use crate::regions::{self, before_first_greater, Asked, Told};
+use model::cursor::Order;
 use model::row::Place;
 use model::{Refusal, BLOCK_SIZE_LIMIT, INTERVAL_LIMIT, KEY_LIMIT, RESTART_LIMIT, VALUE_LIMIT};
 use slate_oracle::direct::{Row, Stop};
@@ -24,7 +26,7 @@ impl Rust {
     }
 }
 
-#[derive(Clone, Copy, Debug)]
+#[derive(Clone, Copy, Debug, PartialEq)]
 pub struct Known {
     pub name: &'static str,
     pub here: Refusal,
@@ -102,12 +104,27 @@ fn row_end(place: &Place) -> Option<usize> {
     Some(head.end + head.suffix + head.value + 9 + 8 * (flags & 2 != 0) as usize + 8 * (flags & 4 != 0) as usize)
 }
 
+/// A number, and the length of the buffer that is lent for its varint. The Rust's own bytes say how many are needed.
+pub static VARINT_WRITTEN: [Difference<(u32, usize)>; 1] = [
+    entry("a lent buffer too short for a varint: the Rust's grows, 01 refuses 6", 6, Rust::Varies, |(number, output_len)| {
+        slate_oracle::direct::varint(*number).0.len() > *output_len
+    }),
+];
+
 pub static VARINT: [Difference<Vec<u8>>; 2] = [
     entry("a varint that the input ends in: the Rust panics, 01 refuses 9", 9, Rust::Panics, |input| spelled(input, 0) == Spelled::Ends),
     entry("a varint's fifth byte above 15: the Rust cuts it or reads on, 01 refuses 10", 10, Rust::Varies, |input| {
         spelled(input, 0) == Spelled::FifthAbove15
     }),
 ];
+
+/// A varint as a release build of the Rust reads it, and where it ends: up to a byte below 128, seven bits each, past 32 bits from
+/// the lowest on again. None: the input ends before, and it panics.
+pub fn read_by_the_rust(data: &[u8], at: usize) -> Option<(u32, usize)> {
+    let len = 1 + data[at..].iter().position(|byte| *byte < 128)?;
+    let bits = data[at..at + len].iter().enumerate().map(|(i, byte)| ((byte & 127) as u32).wrapping_shl(7 * i as u32));
+    Some((bits.fold(0, |number, bits| number | bits), at + len))
+}
 
 /// What both reads of a row begin with, as 01 orders the tests.
 fn head_table<'a>() -> [Difference<Place<'a>>; 6] {
@@ -159,10 +176,27 @@ pub fn key_fault(place: &Place) -> Option<Known> {
     first(&head_table(), place).or_else(|| first(&key_table(), place))
 }
 
-/// The key and the end of a row without fault.
-pub fn key_and_end(place: &Place, previous: &[u8]) -> (Vec<u8>, usize) {
-    let (Ok(head), Some(end)) = (head(place), row_end(place)) else { panic!("a row without fault") };
-    ([&previous[..head.shared], &place.data[head.end..head.end + head.suffix]].concat(), end)
+/// The key of a row whose key is without fault.
+pub fn key(place: &Place, previous: &[u8]) -> Vec<u8> {
+    let Ok(head) = head(place) else { panic!("a key without fault") };
+    [&previous[..head.shared], &place.data[head.end..head.end + head.suffix]].concat()
+}
+
+/// A row without fault, and its end.
+pub fn row_and_end(place: &Place, previous: &[u8]) -> (Row, usize) {
+    let (Ok(head), Some(flags), Some(end)) = (head(place), flags(place), row_end(place)) else { panic!("a row without fault") };
+    let value_at = head.end + head.suffix;
+    let seq_at = value_at + head.value;
+    let eight = |at: usize| u64::from_be_bytes(place.data[at..at + 8].try_into().expect("eight"));
+    let kind = match flags & 9 {
+        1 => 1,
+        8 => 2,
+        _ => 0,
+    };
+    let value = if kind == 1 { Vec::new() } else { place.data[value_at..seq_at].to_vec() };
+    let expire = (flags & 2 != 0).then(|| eight(seq_at + 9) as i64);
+    let create = (flags & 4 != 0).then(|| eight(end - 8) as i64);
+    (Row { key: key(place, previous), kind, value, seq: eight(seq_at), expire, create }, end)
 }
 
 // ---- writing
@@ -262,7 +296,70 @@ pub static TRAILER: [Difference<Vec<u8>>; 6] = [
     }),
 ];
 
-/// Not in a table, since what 01 gives here is no number: see `reading`.
-pub const OPENING: &str = "a first restart whose key can't be read: opening it the Rust panics, 01 opens it";
-pub const FALLS: &str = "a descending seek where keys fall: the Rust takes the row before the first greater one, 01 the last at or below";
-pub const LANDING: &str = "a seek that lands on a row with bad flags: the Rust shows them at the step after it, 01 refuses the seek";
+// ---- scans and seeks of a block that is opened
+
+/// What the Rust must do: whether it opens the block, whether the seek is good, the rows that it gives, and how it ends then; None
+/// is "done".
+pub struct Does {
+    pub opened: bool,
+    pub sought: bool,
+    pub rows: Vec<Row>,
+    pub end: Option<Rust>,
+}
+
+impl Does {
+    pub fn panics_at_opening() -> Does {
+        Does { opened: false, sought: false, rows: Vec::new(), end: Some(Rust::Panics) }
+    }
+}
+
+impl From<Told> for Does {
+    /// What 01 says, and at the fault the Rust's way with it.
+    fn from(told: Told) -> Does {
+        Does { opened: true, sought: told.sought, rows: told.rows, end: told.end.map(|known| known.rust) }
+    }
+}
+
+/// Where the Rust goes another way than 01 does, `regions::told`, that is not its way with a fault.
+pub struct Parting {
+    pub name: &'static str,
+    holds: fn(&Asked) -> bool,
+    pub rust: fn(&Asked) -> Does,
+}
+
+pub static PARTINGS: [Parting; 3] = [
+    Parting {
+        name: "a first restart whose key the Rust can't read: opening it the Rust panics, 01 opens it",
+        holds: |asked| !opens(asked.data),
+        rust: |_| Does::panics_at_opening(),
+    },
+    Parting {
+        name: "an ascending seek that lands on a row with bad flags: the Rust shows them at the step after it, 01 refuses the seek",
+        holds: lands_on_bad_flags,
+        rust: |_| Does { opened: true, sought: true, rows: Vec::new(), end: Some(Rust::Errors) },
+    },
+    Parting {
+        name: "a descending seek where keys fall: the Rust takes the row before the first greater one, 01 the last at or below",
+        holds: |asked| regions::told(asked) != regions::told_by(asked, before_first_greater),
+        rust: |asked| regions::told_by(asked, before_first_greater).into(),
+    },
+];
+
+pub fn parting(asked: &Asked) -> Option<&'static Parting> {
+    PARTINGS.iter().find(|parting| (parting.holds)(asked))
+}
+
+/// Opening a block the Rust reads the key of its first restart, tests that it shares nothing, and panics where bytes are missing.
+fn opens(data: &[u8]) -> bool {
+    let Some((shared, at)) = read_by_the_rust(data, 0) else { return false };
+    let Some((suffix, at)) = read_by_the_rust(data, at) else { return false };
+    let Some((_, at)) = read_by_the_rust(data, at) else { return false };
+    shared == 0 && at + suffix as usize <= data.len()
+}
+
+/// The walk meets the fault in a row that is the first at or above the target: the Rust reads that row's key only, and stops there.
+fn lands_on_bad_flags(asked: &Asked) -> bool {
+    let (Some(target), Order::Ascending) = (asked.target, asked.order) else { return false };
+    let Err(fault) = regions::first_not_below(asked.regions, target) else { return false };
+    fault.key.is_some_and(|key| key.as_slice() >= target)
+}

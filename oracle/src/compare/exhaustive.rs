@@ -1,8 +1,9 @@
-//! All small inputs: varints at every edge, all blocks of up to four rows over few keys, a few small blocks with every cursor and
-//! with each byte damaged.
+//! All small inputs: varints at every edge, all blocks of up to four rows over few keys, a few small blocks with every cursor, with
+//! keys read at every place and with each byte damaged.
 use crate::calls::bytes_of;
 use crate::reading::{self, Arrays, Op};
 use crate::{building, refused, rows, Run};
+use model::row::Place;
 use model::KEY_LIMIT;
 use slate_oracle::direct::{self, Row};
 
@@ -14,7 +15,9 @@ const INTERVALS: [usize; 3] = [1, 2, 3];
 
 pub fn all(run: &mut Run) {
     varints(run);
+    wrong_words(run);
     for block in small_blocks() {
+        every_key(run, &block);
         every_cursor(run, &block);
         every_damage(run, &block);
     }
@@ -82,6 +85,32 @@ fn built(interval: usize, rows: &[Row]) -> Vec<u8> {
         assert_eq!(builder.add(row), Ok(true));
     }
     builder.build().expect("a block")
+}
+
+/// The key alone of a row at every place, with region ends and lengths of the key before around what the bytes there ask for.
+fn every_key(run: &mut Run, block: &[u8]) {
+    for at in (0..block.len() + 2).chain([usize::MAX]) {
+        let after = |bytes| at.saturating_add(bytes);
+        for region_end in [0, at, after(3), after(4), after(5), block.len(), usize::MAX] {
+            for (previous_len, restart) in [(0, 0), (1, 0), (2, 0), (usize::MAX, 0), (0, 1), (1, 1), (usize::MAX, 1)] {
+                let place = Place { data: block, at, previous_len, restart: restart == 1, region_end };
+                rows::read_key_at(run, &place, restart, 3);
+            }
+        }
+    }
+}
+
+/// Words of parts that are not as many as they must be, or stand for no case: 254 before all else.
+fn wrong_words(run: &mut Run) {
+    for input in [&ROW[..], &[]] {
+        for words in 0..5 {
+            rows::read_varint_at(run, input, 0, words);
+            for restart in [0, 1, 2, 256, 1 << 32, u64::MAX] {
+                let place = Place { data: input, at: 0, previous_len: 0, restart: restart == 1, region_end: input.len() };
+                rows::read_key_at(run, &place, restart, words);
+            }
+        }
+    }
 }
 
 /// Every direction, region, position, mark and some keys.
@@ -171,7 +200,7 @@ fn varints(run: &mut Run) {
         let edge = 1u64 << width;
         for number in edge.saturating_sub(2)..edge + 2 {
             if let Ok(number) = u32::try_from(number) {
-                rows::write_varint(run, number);
+                (0..=6).for_each(|output_len| rows::write_varint(run, number, output_len));
             }
         }
     }
@@ -182,9 +211,19 @@ fn varints(run: &mut Run) {
     for _ in 0..6 {
         for input in starts.iter().flat_map(|start: &Vec<u8>| LAST.map(|last| [&start[..], &[last]].concat())) {
             rows::read_varint(run, &input);
+            varint_at_a_place(run, &input);
             varint_in_a_row(run, &input);
         }
         starts = starts.iter().flat_map(|start| GOING_ON.map(|byte| [&start[..], &[byte]].concat())).collect();
+    }
+}
+
+/// With other bytes before it, one place late, at the input's end, past it, and where a place can't be.
+fn varint_at_a_place(run: &mut Run, spelled: &[u8]) {
+    let input = [&[128, 1], spelled].concat();
+    let end = input.len() as u64;
+    for at in [2, 3, end, end + 1, 1 << 32, u64::MAX] {
+        rows::read_varint_at(run, &input, at, 2);
     }
 }
 

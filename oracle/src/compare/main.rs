@@ -10,6 +10,7 @@ mod forged;
 mod guest;
 mod inputs;
 mod reading;
+mod regions;
 mod refused;
 mod rounds;
 mod rows;

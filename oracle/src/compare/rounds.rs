@@ -188,9 +188,15 @@ pub fn edges(run: &mut Run) {
     most_restarts(run);
     most_offsets(run);
     long_block(run);
-    // the block's bytes of the cases 1 to 4
-    for (size, interval) in [(31, 16), (30, 16), (34, 1), (33, 1)] {
-        building::fill(run, size, interval, &[plain(b"a", 0), Row { seq: 2, ..plain(b"ab", 0) }], ROOM, 4);
+    cases_1_to_4(run);
+}
+
+/// The rows of 01's cases 1 to 4, in block sizes that are just enough for both, and in one byte less, which takes the first alone.
+fn cases_1_to_4(run: &mut Run) {
+    let rows = [plain(b"a", 0), Row { seq: 2, value: b"x".to_vec(), ..plain(b"ab", 0) }];
+    for (size, interval, taken) in [(31, 16, 31), (30, 16, 17), (34, 1, 34), (33, 1, 17)] {
+        let block = building::fill(run, size, interval, &rows, ROOM, 4).expect("a block");
+        assert_eq!(block.len(), taken, "01's size");
     }
 }
 

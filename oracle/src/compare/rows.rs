@@ -1,5 +1,5 @@
-//! Varints and single rows, written and read.
-use crate::calls::{bytes_of, fields_words, Arg, Function, GOOD};
+//! Varints, single rows and keys of rows, written and read.
+use crate::calls::{bytes_of, fields_words, words_of, Arg, Expected, Function, GOOD};
 use crate::differences::{self, Encode, Rust};
 use crate::guest::short_hex;
 use crate::Run;
@@ -18,22 +18,43 @@ pub fn row_at(input: &[u8], read: &row::Row, key: &[u8]) -> Row {
     Row { key: key.to_vec(), kind: read.fields.kind as u8, value, seq: read.fields.seq, expire: read.fields.expire, create: read.fields.create }
 }
 
-pub fn write_varint(run: &mut Run, number: u32) {
-    let (bytes, len) = direct::varint(number);
-    if varint::write(number) == bytes && varint::len(number) == len {
-        run.tally.same("varint written (Rust)");
-    } else {
-        run.tally.differs("varint written (Rust)", 4, || number.to_string());
+/// What was written to the start of the first lent array, and how many bytes the second says that it is.
+fn laid(here: &Expected) -> (Vec<u8>, usize) {
+    let count = words_of(&here.memory[1])[0] as usize;
+    (here.memory[0][..count].to_vec(), count)
+}
+
+/// A number, into a lent buffer.
+pub fn write_varint(run: &mut Run, number: u32, output_len: usize) {
+    let args = vec![Arg::Written(run.pattern(output_len)), Arg::Number(number as u64), Arg::Written(bytes_of(&[77]))];
+    let here = run.call("varint written", Function::VarintPut, args);
+    let kind = "varint written (Rust)";
+    let rust = direct::varint(number);
+    let shown = || format!("{number} into {output_len}");
+    match (here.code, differences::first(&differences::VARINT_WRITTEN, &(number, output_len))) {
+        (GOOD, None) if rust == laid(&here) => run.tally.same(kind),
+        (code, Some(known)) if known.here == code => run.tally.listed(known.name, output_len, shown),
+        (code, _) => run.tally.differs(kind, output_len, || format!("{}: model {code}, Rust {rust:?}", shown())),
     }
 }
 
+/// A varint at a place of the input: the library and the model only.
+pub fn read_varint_at(run: &mut Run, input: &[u8], at: u64, words: usize) {
+    let words = run.pattern(words * 8);
+    run.call("varint read", Function::VarintGet, vec![Arg::Read(input.to_vec()), Arg::Number(at), Arg::Written(words)]);
+}
+
+/// The varint that starts the input.
 pub fn read_varint(run: &mut Run, input: &[u8]) {
+    read_varint_at(run, input, 0, 2);
     let kind = "varint read (Rust)";
     let rust = direct::unvarint(input);
     let input = input.to_vec();
     match (varint::read(&input, 0), differences::first(&differences::VARINT, &input)) {
         (Ok(here), None) if rust == Ok(here) => run.tally.same(kind),
-        (Err(here), Some(known)) if known.here == here && known.rust.may(&rust) => run.tally.listed(known.name, input.len(), || short_hex(&input)),
+        (Err(here), Some(known)) if known.here == here && rust.clone().ok() == differences::read_by_the_rust(&input, 0) => {
+            run.tally.listed(known.name, input.len(), || short_hex(&input))
+        }
         (here, _) => run.tally.differs(kind, input.len(), || format!("{}: Rust {rust:?}, model {here:?}", short_hex(&input))),
     }
 }
@@ -58,10 +79,7 @@ pub fn write_row(run: &mut Run, previous_len: usize, shared: usize, row: &Row, o
     let size = row.key.len() + row.value.len();
     let shown = || format!("share {shared} of {previous_len}, suffix {}, {} value bytes, into {output_len}", short_hex(&row.key), row.value.len());
     match (here.code, differences::first(&differences::ENCODE, &input)) {
-        (GOOD, None) => {
-            let count = u64::from_le_bytes(here.memory[1][..].try_into().expect("a word")) as usize;
-            if rust == Ok((here.memory[0][..count].to_vec(), count)) { run.tally.same(kind) } else { run.tally.differs(kind, size, shown) }
-        }
+        (GOOD, None) if rust == Ok(laid(&here)) => run.tally.same(kind),
         (code, Some(known)) if known.here == code => run.tally.listed(known.name, size, shown),
         (code, _) => run.tally.differs(kind, size, || format!("{}: model {code}, Rust {rust:?}", shown())),
     }
@@ -91,7 +109,16 @@ pub fn read_row(run: &mut Run, input: &[u8], previous_len: usize) {
     read_key(run, input, place);
 }
 
+/// The key alone of the row at a place of the input, in a region, at a restart or not: the library and the model only.
+pub fn read_key_at(run: &mut Run, place: &Place, restart: u64, words: usize) {
+    let words = run.pattern(words * 8);
+    let [at, region_end, previous_len] = [place.at, place.region_end, place.previous_len].map(|number| Arg::Number(number as u64));
+    let args = vec![Arg::Read(place.data.to_vec()), at, region_end, previous_len, Arg::Number(restart), Arg::Written(words)];
+    run.call("key read", Function::DecodeKey, args);
+}
+
 fn read_key(run: &mut Run, input: &[u8], place: Place) {
+    read_key_at(run, &place, 0, 3);
     let kind = "key read (Rust)";
     let rust = direct::decode_key_only(input);
     let here = row::read_key(&place);

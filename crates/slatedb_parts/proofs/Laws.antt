@@ -1,0 +1,97 @@
+-- What each exit of an export leaves, over plain variables, from what the function below promised.
+use Prim.Native.Nat.{ℕ}
+use mathlib.Core.Path.{_≡_, refl, _∙_}
+use mathlib.Core.Bool.{Bool}
+use mathlib.Core.List.{List, [], _∷_}
+use native.Mathlib.Omega.{arith}
+use lib.ListN.{length, set}
+use Rattle.layout.specs.Answer.{Res, ok, refuse, bind}
+use Rattle.layout.specs.Place.{varintAt, numAt}
+use Rattle.layout.specs.RowRead.{KeyRead as KeyReadL, readKey}
+use Rattle.layout.specs.Varint.{varint}
+use Rattle.types.specs.Answers.{yes}
+use Rattle.types.specs.Number.{number}
+use Rattle.types.specs.declared.Refusal.{Refusal}
+use Rattle.buf_mut.specs.Promise.{Puts}
+use Rattle.buf_mut.specs.Says.{saysPut}
+use Rattle.buf_mut.specs.declared.Put.{Put}
+use Rattle.buf_mut.specs.declared.Put.the-variants.{At, Refused as PutRefused}
+use Rattle.utils.specs.Promise.{ReadsVarint}
+use Rattle.utils.specs.Says.{saysVarint}
+use Rattle.utils.specs.declared.VarintRead.{VarintRead}
+use Rattle.utils.specs.declared.VarintRead.the-variants.{Number as VarintNumber, Refused as VarintRefused}
+use Rattle.row_decode_v2.specs.Promise.{DecodesKey}
+use Rattle.row_decode_v2.specs.Says.{keyFrom, saysKey}
+use Rattle.row_decode_v2.specs.declared.KeyPlace.{KeyPlace}
+use Rattle.row_decode_v2.specs.declared.KeyRead.{KeyRead}
+use Rattle.row_decode_v2.specs.declared.KeyRead.the-variants.{Read as ReadKey, Refused as KeyRefused}
+use Rattle.row_words.specs.Words.{badWords, counted, truthIn}
+use Rattle.row_words.proofs.Laws.{counted-not, counted-so}
+use Rattle.slatedb_parts.specs.Promise.{Sets, WritesVarintFlat, ReadsVarintFlat, ReadsKeyFlat}
+
+-- ---- a varint written
+
+module _ (v : ℕ) (out : List ℕ) (n : ℕ) (r : Put) (out′ : List ℕ) (p : Puts (varint v) out 0 r out′) where
+  pub writes-good : {k : ℕ} → r ≡ At k → WritesVarintFlat v out n 0 out′ k
+  writes-good e = let is = yes saysPut (p .answer) e in record { answer = rw is refl; number = rw is refl; bytes = p .bytes }
+
+  pub writes-refused : {x : Refusal} {code : ℕ} → r ≡ PutRefused x → code ≡ number x → WritesVarintFlat v out n code out′ n
+  writes-refused e q = let is = yes saysPut (p .answer) e in record { answer = rw is q; number = rw is refl; bytes = p .bytes }
+
+-- ---- words
+
+sets-good : {A : Type 0} {want : Res A} {words : A → List ℕ} {ws ws′ : List ℕ} (a : A) → want ≡ ok a → ws′ ≡ words a → Sets want words ws 0 ws′
+sets-good a e q = rw (e, q) (record { answer = refl; state = refl })
+
+sets-refused : {A : Type 0} {want : Res A} {words : A → List ℕ} {ws : List ℕ} {k code : ℕ} → want ≡ refuse k → code ≡ k → Sets want words ws code ws
+sets-refused e q = rw (e, q) (record { answer = refl; state = refl })
+
+-- words stored one by one
+two : (ws : List ℕ) (a b : ℕ) → length ws ≡ 2 → set (set ws 0 a) 1 b ≡ a ∷ b ∷ []
+two (_ ∷ _ ∷ []) a b h = refl
+two [] a b h = absurd (omega arith)
+two (_ ∷ []) a b h = absurd (omega arith)
+two (_ ∷ _ ∷ _ ∷ ws) a b h = absurd (omega arith)
+
+three : (ws : List ℕ) (a b c : ℕ) → length ws ≡ 3 → set (set (set ws 0 a) 1 b) 2 c ≡ a ∷ b ∷ c ∷ []
+three (_ ∷ _ ∷ _ ∷ []) a b c h = refl
+three [] a b c h = absurd (omega arith)
+three (_ ∷ []) a b c h = absurd (omega arith)
+three (_ ∷ _ ∷ []) a b c h = absurd (omega arith)
+three (_ ∷ _ ∷ _ ∷ _ ∷ ws) a b c h = absurd (omega arith)
+
+-- ---- a varint read
+
+module _ (s : List ℕ) (at : ℕ) (ws : List ℕ) where
+  pub reads-short : (length ws ≡ 2 → ⊥) → ReadsVarintFlat s at ws badWords ws
+  reads-short h = sets-refused (counted-not ws 2 (varintAt s at) h) refl
+
+  module _ (r : VarintRead) (h : length ws ≡ 2) (p : ReadsVarint s at r) where
+    pub reads-good : {v n : ℕ} → r ≡ VarintNumber v n → ReadsVarintFlat s at ws 0 (set (set ws 0 v) 1 n)
+    reads-good {v} {n} e = sets-good (numAt v n) (counted-so ws 2 (varintAt s at) h ∙ yes saysVarint p e) (two ws v n h)
+
+    pub reads-refused : {x : Refusal} {code : ℕ} → r ≡ VarintRefused x → code ≡ number x → ReadsVarintFlat s at ws code ws
+    reads-refused e q = sets-refused (counted-so ws 2 (varintAt s at) h ∙ yes saysVarint p e) q
+
+-- ---- a key read
+
+module _ (s : List ℕ) (at end prevLen restart : ℕ) (ws : List ℕ) where
+  abbrev wanted : Bool → Res KeyReadL
+  wanted b = readKey s at end prevLen b
+
+  pub key-short : (length ws ≡ 3 → ⊥) → ReadsKeyFlat s at end prevLen restart ws badWords ws
+  key-short h = sets-refused (counted-not ws 3 (bind (truthIn restart) wanted) h) refl
+
+  pub key-no-truth : length ws ≡ 3 → truthIn restart ≡ refuse badWords → ReadsKeyFlat s at end prevLen restart ws badWords ws
+  key-no-truth h e = sets-refused (counted-so ws 3 (bind (truthIn restart) wanted) h ∙ rw e refl) refl
+
+  module _ (b : Bool) (r : KeyRead) (h : length ws ≡ 3) (is : truthIn restart ≡ ok b) (p : DecodesKey s at end prevLen b r) where
+    asked : counted ws 3 (bind (truthIn restart) wanted) ≡ wanted b
+    asked = counted-so ws 3 (bind (truthIn restart) wanted) h ∙ rw is refl
+
+    pub key-good : {k : KeyPlace} → r ≡ ReadKey k
+        → ReadsKeyFlat s at end prevLen restart ws 0 (set (set (set ws 0 (k .shared)) 1 (k .«suffix_at»)) 2 (k .«suffix_len»))
+    key-good {k} e = sets-good (keyFrom k) (asked ∙ yes saysKey p e) (three ws (k .shared) (k .«suffix_at») (k .«suffix_len») h)
+
+    pub key-refused : {x : Refusal} {code : ℕ} → r ≡ KeyRefused x → code ≡ number x → ReadsKeyFlat s at end prevLen restart ws code ws
+    key-refused e q = sets-refused (asked ∙ yes saysKey p e) q
