@@ -1,4 +1,5 @@
 pub mod Words
+pub mod Flat
 pub mod Says
 pub mod Promise
 pub mod OneOutcome

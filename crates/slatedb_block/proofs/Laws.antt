@@ -45,8 +45,9 @@ use Rattle.block_step_v2.specs.Says.{viewIn}
 use Rattle.row_words.specs.Words.{badWords, doneCode, codeOf, truthWord, orderIn, cursorIn, cursorWords, builderFrom, builderWords}
 use Rattle.block_words.specs.Says.{iteratorFrom, builderAlone, stateIn}
 use Rattle.row_words.proofs.Laws.{counted-not, counted-so}
+use Rattle.row_words.specs.Flat.{sets-good, sets-refused}
 use Rattle.slatedb_block.specs.Says.{TellsSought}
-use Rattle.slatedb_block.specs.Promise.{Tells, Sets, MakesFlat, EmptiesFlat, BuildsFlat, OpensFlat, TellsFlat, SeeksAs, SeeksFlat}
+use Rattle.slatedb_block.specs.Promise.{Tells, MakesFlat, EmptiesFlat, BuildsFlat, OpensFlat, TellsFlat, SeeksAs, SeeksFlat}
 
 -- ---- what is set
 
@@ -55,12 +56,6 @@ tells-good e = rw e (record { answer = refl; number = refl })
 
 pub tells-refused : {want : Res ℕ} {n k code : ℕ} → want ≡ refuse k → code ≡ k → Tells want n code n
 tells-refused e q = rw (e, q) (record { answer = refl; number = refl })
-
-pub sets-good : {A : Type 0} {want : Res A} {words : A → List ℕ} {ws ws′ : List ℕ} (a : A) → want ≡ ok a → ws′ ≡ words a → Sets want words ws 0 ws′
-sets-good a e q = rw (e, q) (record { answer = refl; state = refl })
-
-pub sets-refused : {A : Type 0} {want : Res A} {words : A → List ℕ} {ws : List ℕ} {k code : ℕ} → want ≡ refuse k → code ≡ k → Sets want words ws code ws
-sets-refused e q = rw (e, q) (record { answer = refl; state = refl })
 
 -- ---- building a block
 

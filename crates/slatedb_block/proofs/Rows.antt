@@ -38,10 +38,10 @@ use Rattle.row_words.specs.Words.{badWords, codeOf, builderFrom, builderWords, 
 use Rattle.block_words.specs.Says.{stateIn}
 use Rattle.block_words.specs.Exports.{AddsFlat}
 use Rattle.row_words.proofs.Laws.{counted-not, counted-so}
+use Rattle.row_words.specs.Flat.{sets-good, sets-refused}
 use Rattle.block_words.proofs.Adds.{added, unadded, addWanted, adds-asked}
 use Rattle.slatedb_block.specs.Says.{PutsGrown}
 use Rattle.slatedb_block.specs.Promise.{Lays, EncodesFlat, DecodesFlat, FitsFlat}
-use Rattle.slatedb_block.proofs.Laws.{sets-good, sets-refused}
 
 -- ---- encode
 

@@ -8,14 +8,12 @@ use Rattle.layout.specs.Key.{Key}
 use Rattle.layout.specs.Limits.{maxKey}
 use Rattle.layout.specs.Seek.{seek}
 use Rattle.row_words.specs.Words.{counted, cursorIn}
+use Rattle.row_words.specs.Flat.{sets-settled}
 use Rattle.block_words.specs.OneOutcome.{SameKey, same-key}
-use Rattle.slatedb_block.specs.Promise.{Tells, Sets, EncodesFlat, DecodesFlat, MakesFlat, FitsFlat, EmptiesFlat, BuildsFlat, ChecksFlat, OpensFlat, TellsFlat, SeeksFlat}
+use Rattle.slatedb_block.specs.Promise.{Tells, EncodesFlat, DecodesFlat, MakesFlat, FitsFlat, EmptiesFlat, BuildsFlat, ChecksFlat, OpensFlat, TellsFlat, SeeksFlat}
 
 tells-settled : {want : Res ℕ} {n c d x y : ℕ} → Tells want n c x → Tells want n d y → (c ≡ d) × (x ≡ y)
 tells-settled a b = (a .answer ∙ sym (b .answer), a .number ∙ sym (b .number))
-
-sets-settled : {A : Type 0} {want : Res A} {words : A → List ℕ} {ws xs ys : List ℕ} {c d : ℕ} → Sets want words ws c xs → Sets want words ws d ys → (c ≡ d) × (xs ≡ ys)
-sets-settled a b = (a .answer ∙ sym (b .answer), a .state ∙ sym (b .state))
 
 -- ---- one row
 

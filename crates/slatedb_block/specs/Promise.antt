@@ -15,17 +15,13 @@ use Rattle.layout.specs.Check.{check}
 use Rattle.layout.specs.Cursor.{openBlock, isEmpty}
 use Rattle.layout.specs.Seek.{Sought, seek}
 use Rattle.row_words.specs.Words.{doneCode, codeOf, setBy, counted, truthWord, orderIn, cursorIn, cursorWords, builderFrom, builderIn, builderWords, fieldsIn, rowWords}
+use Rattle.row_words.specs.Flat.{Sets}
 use Rattle.block_words.specs.Exports.{KeyLeft}
 
 -- a number that is wanted in a lent word
 pub record Tells (want : Res ℕ) (n code n′ : ℕ) : Type 0 where
   pub answer : code ≡ codeOf want
   pub number : n′ ≡ setBy want (λ x. x) n
-
--- words that are wanted
-pub record Sets {A : Type 0} (want : Res A) (words : A → List ℕ) (ws : List ℕ) (code : ℕ) (ws′ : List ℕ) : Type 0 where
-  pub answer : code ≡ codeOf want
-  pub state : ws′ ≡ setBy want words ws
 
 -- ---- one row
 

@@ -27,7 +27,8 @@ use Rattle.row_decode_v2.specs.declared.KeyRead.{KeyRead}
 use Rattle.row_decode_v2.specs.declared.KeyRead.the-variants.{Read as ReadKey, Refused as KeyRefused}
 use Rattle.row_words.specs.Words.{badWords, counted, truthIn}
 use Rattle.row_words.proofs.Laws.{counted-not, counted-so}
-use Rattle.slatedb_parts.specs.Promise.{Sets, WritesVarintFlat, ReadsVarintFlat, ReadsKeyFlat}
+use Rattle.row_words.specs.Flat.{sets-good, sets-refused, two}
+use Rattle.slatedb_parts.specs.Promise.{WritesVarintFlat, ReadsVarintFlat, ReadsKeyFlat}
 
 -- ---- a varint written
 
@@ -40,19 +41,7 @@ module _ (v : ℕ) (out : List ℕ) (n : ℕ) (r : Put) (out′ : List ℕ) (p :
 
 -- ---- words
 
-sets-good : {A : Type 0} {want : Res A} {words : A → List ℕ} {ws ws′ : List ℕ} (a : A) → want ≡ ok a → ws′ ≡ words a → Sets want words ws 0 ws′
-sets-good a e q = rw (e, q) (record { answer = refl; state = refl })
-
-sets-refused : {A : Type 0} {want : Res A} {words : A → List ℕ} {ws : List ℕ} {k code : ℕ} → want ≡ refuse k → code ≡ k → Sets want words ws code ws
-sets-refused e q = rw (e, q) (record { answer = refl; state = refl })
-
 -- words stored one by one
-two : (ws : List ℕ) (a b : ℕ) → length ws ≡ 2 → set (set ws 0 a) 1 b ≡ a ∷ b ∷ []
-two (_ ∷ _ ∷ []) a b h = refl
-two [] a b h = absurd (omega arith)
-two (_ ∷ []) a b h = absurd (omega arith)
-two (_ ∷ _ ∷ _ ∷ ws) a b h = absurd (omega arith)
-
 three : (ws : List ℕ) (a b c : ℕ) → length ws ≡ 3 → set (set (set ws 0 a) 1 b) 2 c ≡ a ∷ b ∷ c ∷ []
 three (_ ∷ _ ∷ _ ∷ []) a b c h = refl
 three [] a b c h = absurd (omega arith)

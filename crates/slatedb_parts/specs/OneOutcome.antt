@@ -2,15 +2,12 @@
 use Prim.Native.Nat.{ℕ}
 use mathlib.Core.Path.{_≡_, sym, _∙_}
 use mathlib.Core.List.{List}
-use Rattle.layout.specs.Answer.{Res}
-use Rattle.slatedb_parts.specs.Promise.{Sets, WritesVarintFlat, ReadsVarintFlat, ReadsKeyFlat}
+use Rattle.row_words.specs.Flat.{sets-settled}
+use Rattle.slatedb_parts.specs.Promise.{WritesVarintFlat, ReadsVarintFlat, ReadsKeyFlat}
 
 pub varint-put-settled : (v : ℕ) (out : List ℕ) (n c d : ℕ) (ys zs : List ℕ) (x y : ℕ) → WritesVarintFlat v out n c ys x → WritesVarintFlat v out n d zs y
     → (c ≡ d) × (ys ≡ zs) × (x ≡ y)
 varint-put-settled v out n c d ys zs x y a b = (a .answer ∙ sym (b .answer), a .bytes ∙ sym (b .bytes), a .number ∙ sym (b .number))
-
-sets-settled : {A : Type 0} {want : Res A} {words : A → List ℕ} {ws xs ys : List ℕ} {c d : ℕ} → Sets want words ws c xs → Sets want words ws d ys → (c ≡ d) × (xs ≡ ys)
-sets-settled a b = (a .answer ∙ sym (b .answer), a .state ∙ sym (b .state))
 
 pub varint-get-settled : (s : List ℕ) (at : ℕ) (ws : List ℕ) (c d : ℕ) (xs ys : List ℕ) → ReadsVarintFlat s at ws c xs → ReadsVarintFlat s at ws d ys → (c ≡ d) × (xs ≡ ys)
 varint-get-settled s at ws c d xs ys a b = sets-settled a b

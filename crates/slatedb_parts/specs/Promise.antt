@@ -3,11 +3,12 @@ use Prim.Native.Nat.{ℕ}
 use mathlib.Core.Path.{_≡_}
 use mathlib.Core.List.{List, [], _∷_}
 use lib.ListN.{length}
-use Rattle.layout.specs.Answer.{Res, bind}
+use Rattle.layout.specs.Answer.{bind}
 use Rattle.layout.specs.Place.{NumAt, varintAt, putAt, afterPut}
 use Rattle.layout.specs.RowRead.{KeyRead, readKey}
 use Rattle.layout.specs.Varint.{varint}
 use Rattle.row_words.specs.Words.{codeOf, setBy, counted, truthIn}
+use Rattle.row_words.specs.Flat.{Sets}
 
 -- bytes w put at the start of a lent buffer, and how many they are in a lent word
 pub record Lays (w out : List ℕ) (n code : ℕ) (out′ : List ℕ) (n′ : ℕ) : Type 0 where
@@ -17,11 +18,6 @@ pub record Lays (w out : List ℕ) (n code : ℕ) (out′ : List ℕ) (n′ : �
 
 abbrev pub WritesVarintFlat : ℕ → List ℕ → ℕ → ℕ → List ℕ → ℕ → Type 0
 WritesVarintFlat v out n code out′ n′ = Lays (varint v) out n code out′ n′
-
--- words that are wanted
-pub record Sets {A : Type 0} (want : Res A) (words : A → List ℕ) (ws : List ℕ) (code : ℕ) (ws′ : List ℕ) : Type 0 where
-  pub answer : code ≡ codeOf want
-  pub state : ws′ ≡ setBy want words ws
 
 -- a varint that was read: its number, and the place after it
 abbrev pub numWords : NumAt → List ℕ

@@ -3,7 +3,7 @@
 use Prim.Native.Nat.{ℕ, suc, _+_, _-_, _%_, _^_, _<_, _≤_}
 use mathlib.Core.Path.{_≡_, refl, ap, ap₂, sym, _∙_}
 use mathlib.Core.Bool.{Bool, true, false, cond}
-use mathlib.Core.List.{List, [], _∷_}
+use mathlib.Core.List.{List}
 use native.Mathlib.Omega.{arith}
 use lib.ListN.{length, take, getD, set, replicate}
 use lib.Seq.{length-take-le, getD-take}
@@ -26,6 +26,7 @@ use Rattle.block_iterator_v2.specs.Says.{placeOf, viewOf, saysOpen}
 use Rattle.block_iterator_v2.specs.declared.Opened.{Opened}
 use Rattle.block_iterator_v2.specs.declared.OpenAnswer.the-variants.{Good as GoodOpen, Refused as OpenRefused}
 use Rattle.row_words.specs.Words.{badWords, doneCode, orderIn}
+use Rattle.row_words.specs.Flat.{two}
 use Rattle.slatedb_walks.specs.Walk.{lastByte, amount, Walk, walkIs, withRow, walk, wrapped}
 use Rattle.slatedb_walks.specs.Promise.{Tells, WalksFlat}
 
@@ -88,13 +89,6 @@ pub row-added : (sum seq held : ℕ) (key : List ℕ) (n : ℕ) {last lengths na
 row-added sum seq held key n some h lengths-is last-is named-is both-is r-is =
     let long = length-take-le n key h in
     rw (long, getD-take n key (n - 1) 0 (omega arith), ← last-is) (omega (arith, lengths-is, named-is, both-is, r-is))
-
--- two words stored one by one
-pub two : (ws : List ℕ) (a b : ℕ) → length ws ≡ 2 → set (set ws 0 a) 1 b ≡ a ∷ b ∷ []
-two (_ ∷ _ ∷ []) a b h = refl
-two [] a b h = absurd (omega arith)
-two (_ ∷ []) a b h = absurd (omega arith)
-two (_ ∷ _ ∷ _ ∷ ws) a b h = absurd (omega arith)
 
 -- what a walk that ended leaves
 pub told-ended : {want : Res Walk} (sums : List ℕ) (o : Bool) (rows sum : ℕ) {code : ℕ} → length sums ≡ 2 → want ≡ ok (walkIs o rows sum) → code ≡ cond o doneCode 0
