@@ -31,7 +31,7 @@ extern "C" {
 #define SLATEDB_UNKNOWN_FLAGS 11       /* the flags byte is 16 or more */
 #define SLATEDB_TOMBSTONE_WITH_MERGE 12 /* the flags set tombstone and merge together */
 #define SLATEDB_BAD_SHARE 13           /* the share is longer than the key before, or not 0 at a restart */
-#define SLATEDB_BAD_TRAILER 14         /* under 2 bytes, a count of 0, or a trailer longer than the block */
+#define SLATEDB_BAD_TRAILER 14         /* the block has under 2 bytes, its count is 0, or its trailer is longer than the block */
 #define SLATEDB_BAD_OFFSET 15          /* the first restart is not 0, the offsets don't rise, or one is not below the data's length */
 #define SLATEDB_ROW_PAST_REGION 16     /* a row inside the data runs past the next restart */
 #define SLATEDB_KEY_FALLS 17           /* a key is smaller than the one before */
