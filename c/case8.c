@@ -15,11 +15,6 @@ enum { PAGE = 65536, PIECES = 16, ROWS = 5, INTERVAL = 2, RESTARTS = 3, DATA = 6
 static const char *const KEYS[ROWS] = {"a", "b", "b", "b", "c"};
 static const uint64_t STARTS[ROWS] = {0, 13, 26, 39, 51};
 
-_Static_assert(sizeof(slatedb_cursor) == SLATEDB_CURSOR_WORDS * sizeof(uint64_t), "cursor");
-_Static_assert(sizeof(slatedb_builder) == SLATEDB_BUILDER_WORDS * sizeof(uint64_t), "builder");
-_Static_assert(sizeof(slatedb_fields) == SLATEDB_FIELDS_WORDS * sizeof(uint64_t), "fields");
-_Static_assert(sizeof(slatedb_row) == SLATEDB_ROW_WORDS * sizeof(uint64_t), "row");
-
 static uint8_t block[BLOCK];
 
 /* Every cursor of the two walks over it, and the one byte of its key. */

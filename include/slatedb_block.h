@@ -14,7 +14,10 @@
 #include <stdint.h>
 
 #ifdef __cplusplus
+#define SLATEDB_STATIC_ASSERT static_assert
 extern "C" {
+#else
+#define SLATEDB_STATIC_ASSERT _Static_assert
 #endif
 
 #define SLATEDB_GOOD 0
@@ -100,6 +103,13 @@ typedef struct {
     uint64_t has_create;
     int64_t create;
 } slatedb_row;
+
+/* Each struct is its words and nothing else, and a length has 64 bits, as in the library. */
+SLATEDB_STATIC_ASSERT(sizeof(slatedb_cursor) == SLATEDB_CURSOR_WORDS * sizeof(uint64_t), "a cursor's words");
+SLATEDB_STATIC_ASSERT(sizeof(slatedb_builder) == SLATEDB_BUILDER_WORDS * sizeof(uint64_t), "a builder's words");
+SLATEDB_STATIC_ASSERT(sizeof(slatedb_fields) == SLATEDB_FIELDS_WORDS * sizeof(uint64_t), "the fields' words");
+SLATEDB_STATIC_ASSERT(sizeof(slatedb_row) == SLATEDB_ROW_WORDS * sizeof(uint64_t), "a row's words");
+SLATEDB_STATIC_ASSERT(sizeof(size_t) == 8, "a length has 64 bits in the library");
 
 /* These words are lent as arrays; a struct above is such an array. */
 #define SLATEDB_WORDS(p) ((uint64_t *)(p)), (sizeof *(p) / sizeof(uint64_t))

@@ -12,8 +12,7 @@
 #ifndef SLATEDB_WALKS_H
 #define SLATEDB_WALKS_H
 
-#include <stddef.h>
-#include <stdint.h>
+#include "slatedb_block.h"
 
 #ifdef __cplusplus
 extern "C" {
@@ -25,6 +24,8 @@ typedef struct {
     uint64_t rows; /* how many were found */
     uint64_t sum;  /* of each row's seq, the lengths of its key and its value, and its key's last byte, modulo 2^64 */
 } slatedb_sums;
+
+SLATEDB_STATIC_ASSERT(sizeof(slatedb_sums) == SLATEDB_SUMS_WORDS * sizeof(uint64_t), "the sums' words");
 
 /* Through the method that takes the cursor by value and gives it back, at each step. */
 uint8_t slatedb_walk_by_value(const uint8_t *block, size_t block_len, uint64_t order, uint64_t limit, uint64_t *sums, size_t sums_len);
