@@ -11,6 +11,8 @@
 
 /* PAGE is a multiple of every processor's page. */
 enum { PAGE = 65536, PIECES = 16, ROWS = 5, INTERVAL = 2, RESTARTS = 3, DATA = 64, BLOCK = 72, HALF = ROWS + 1, STATES = 2 * HALF };
+enum { CURSOR = SLATEDB_CURSOR_WORDS, BUILDER = SLATEDB_BUILDER_WORDS, KEY = SLATEDB_KEY_BYTES };
+enum { FIELDS = SLATEDB_FIELDS_WORDS, ROW = SLATEDB_ROW_WORDS };
 
 static const char *const KEYS[ROWS] = {"a", "b", "b", "b", "c"};
 static const uint64_t STARTS[ROWS] = {0, 13, 26, 39, 51};
@@ -70,9 +72,9 @@ struct desk {
 };
 
 static struct desk new_desk(size_t data_len, size_t restarts_len) {
-    struct desk d = {lend(sizeof(slatedb_builder)), lend(SLATEDB_KEY_BYTES), lend(data_len),
+    struct desk d = {lend(sizeof(slatedb_builder)), lend(KEY), lend(data_len),
                      lend(restarts_len * sizeof(uint16_t)), data_len, restarts_len};
-    expect("a new builder", slatedb_builder_new(SLATEDB_WORDS(d.builder), 4096, INTERVAL), SLATEDB_GOOD);
+    expect("a new builder", slatedb_builder_new(slatedb_builder_words(d.builder), BUILDER, 4096, INTERVAL), SLATEDB_GOOD);
     return d;
 }
 
@@ -81,8 +83,8 @@ static uint8_t add(struct desk *d, size_t row) {
     slatedb_fields *fields = lend(sizeof *fields);
     *fields = (slatedb_fields){.kind = SLATEDB_VALUE, .seq = row + 1};
     uint8_t *key = lend_copy(KEYS[row], 1);
-    uint8_t code = slatedb_builder_add(SLATEDB_WORDS(d->builder), d->last_key, SLATEDB_KEY_BYTES, d->data, d->data_len,
-                                       d->restarts, d->restarts_len, key, 1, lend(0), 0, SLATEDB_WORDS(fields));
+    uint8_t code = slatedb_builder_add(slatedb_builder_words(d->builder), BUILDER, d->last_key, KEY, d->data, d->data_len,
+                                       d->restarts, d->restarts_len, key, 1, lend(0), 0, slatedb_fields_words(fields), FIELDS);
     take_back(mark);
     return code;
 }
@@ -94,8 +96,9 @@ static uint8_t add_rows(struct desk *d) {
     return code;
 }
 
-static uint8_t build(struct desk *d, uint64_t *count) {
-    return slatedb_builder_build(SLATEDB_WORDS(d->builder), d->data, d->data_len, d->restarts, d->restarts_len, count);
+static uint8_t build(const struct desk *d, uint64_t *count) {
+    return slatedb_builder_build(slatedb_builder_const_words(d->builder), BUILDER, d->data, d->data_len,
+                                 d->restarts, d->restarts_len, count);
 }
 
 static void build_case(void) {
@@ -149,12 +152,12 @@ struct reader {
 
 static struct reader new_reader(const uint8_t *from, size_t len, size_t out_len) {
     return (struct reader){.block = lend_copy(from, len), .len = len, .cursor = lend(sizeof(slatedb_cursor)),
-                           .key = lend(SLATEDB_KEY_BYTES), .out = lend(out_len), .out_len = out_len,
+                           .key = lend(KEY), .out = lend(out_len), .out_len = out_len,
                            .row = lend(sizeof(slatedb_row)), .reads = lend(sizeof(uint64_t))};
 }
 
 static uint8_t reopen(struct reader *r, uint64_t order) {
-    return slatedb_open(r->block, r->len, order, SLATEDB_WORDS(r->cursor));
+    return slatedb_open(r->block, r->len, order, slatedb_cursor_words(r->cursor), CURSOR);
 }
 
 static int refused(uint8_t code) {
@@ -163,13 +166,13 @@ static int refused(uint8_t code) {
 
 /* A step that is refused has changed nothing. */
 static uint8_t step(struct reader *r) {
-    static uint8_t key[SLATEDB_KEY_BYTES], out[SLATEDB_KEY_BYTES];
+    static uint8_t key[KEY], out[KEY];
     slatedb_cursor cursor = *r->cursor;
     slatedb_row row = *r->row;
     memcpy(key, r->key, sizeof key);
     memcpy(out, r->out, r->out_len);
-    uint8_t code = slatedb_next(r->block, r->len, SLATEDB_WORDS(r->cursor), r->key, SLATEDB_KEY_BYTES, r->out, r->out_len,
-                                SLATEDB_WORDS(r->row));
+    uint8_t code = slatedb_next(r->block, r->len, slatedb_cursor_words(r->cursor), CURSOR, r->key, KEY, r->out, r->out_len,
+                                slatedb_row_words(r->row), ROW);
     if (refused(code)) {
         int same = !memcmp(&cursor, r->cursor, sizeof cursor) && !memcmp(&row, r->row, sizeof row) &&
                    !memcmp(key, r->key, sizeof key) && !memcmp(out, r->out, r->out_len);
@@ -178,13 +181,18 @@ static uint8_t step(struct reader *r) {
     return code;
 }
 
+static uint8_t is_empty(const struct reader *r, uint64_t *empty) {
+    return slatedb_is_empty(r->block, r->len, slatedb_cursor_const_words(r->cursor), CURSOR, empty);
+}
+
 static uint8_t seek(struct reader *r, const char *target) {
-    static uint8_t key[SLATEDB_KEY_BYTES];
+    static uint8_t key[KEY];
     size_t mark = used_pieces;
     slatedb_cursor cursor = *r->cursor;
     memcpy(key, r->key, sizeof key);
     uint8_t *lent = lend_copy(target, strlen(target));
-    uint8_t code = slatedb_seek(r->block, r->len, lent, strlen(target), SLATEDB_WORDS(r->cursor), r->key, SLATEDB_KEY_BYTES, r->reads);
+    uint8_t code = slatedb_seek(r->block, r->len, lent, strlen(target), slatedb_cursor_words(r->cursor), CURSOR, r->key, KEY,
+                                r->reads);
     if (refused(code)) {
         int same = !memcmp(&cursor, r->cursor, sizeof cursor) && !memcmp(key, r->key, sizeof key);
         expect("what a refused seek leaves", same, 1);
@@ -220,7 +228,7 @@ static void walk(struct reader *r, uint64_t order) {
         if (code == SLATEDB_GOOD && i < ROWS) expect_row(r, order == SLATEDB_ASCENDING ? i : ROWS - 1 - i);
         if (code == SLATEDB_DONE) printf(" done\n");
     }
-    expect("is_empty", slatedb_is_empty(r->block, r->len, SLATEDB_WORDS(r->cursor), &empty), SLATEDB_GOOD);
+    expect("is_empty", is_empty(r, &empty), SLATEDB_GOOD);
     expect("empty", empty, 1);
     expect("a step after the last one", step(r), SLATEDB_DONE);
 }
@@ -267,11 +275,12 @@ static void one_row(void) {
         *fields = (slatedb_fields){.kind = SLATEDB_VALUE, .seq = 1};
         uint8_t *output = lend(len);
         uint64_t *count = lend(sizeof *count);
-        uint8_t code = slatedb_encode(output, len, 0, 0, lend_copy("a", 1), 1, lend(0), 0, SLATEDB_WORDS(fields), count);
+        uint8_t code = slatedb_encode(output, len, 0, 0, lend_copy("a", 1), 1, lend(0), 0, slatedb_fields_words(fields), FIELDS,
+                                      count);
         expect("a row written", code, len == sizeof row ? SLATEDB_GOOD : SLATEDB_BUFFER_TOO_SMALL);
         if (code == SLATEDB_GOOD) expect("the row's bytes", *count == len && !memcmp(output, row, len), 1);
         slatedb_row *read = lend(sizeof *read);
-        code = slatedb_decode(lend_copy(row, len), len, 0, SLATEDB_WORDS(read));
+        code = slatedb_decode(lend_copy(row, len), len, 0, slatedb_row_words(read), ROW);
         expect("a row read", code, len == sizeof row ? SLATEDB_GOOD : SLATEDB_INPUT_ENDS);
         take_back(0);
     }
@@ -338,8 +347,6 @@ static uint8_t try_is_empty(const size_t *n) {
 }
 
 enum { MOST = 3 }; /* such arrays in a call */
-enum { CURSOR = SLATEDB_CURSOR_WORDS, BUILDER = SLATEDB_BUILDER_WORDS, KEY = SLATEDB_KEY_BYTES };
-enum { FIELDS = SLATEDB_FIELDS_WORDS, ROW = SLATEDB_ROW_WORDS };
 
 static const struct {
     const char *name;
@@ -399,7 +406,7 @@ static void walk_damaged(struct reader *r, uint64_t order, uint8_t verdict, uint
         if (code == SLATEDB_GOOD) steps++;
     }
     expect("a walk's end", code != SLATEDB_GOOD, 1);
-    if (verdict != SLATEDB_GOOD || r->out_len < SLATEDB_KEY_BYTES) return;
+    if (verdict != SLATEDB_GOOD || r->out_len < KEY) return;
     expect("the end of an accepted block", code, SLATEDB_DONE);
     expect("the rows of an accepted block", steps, rows);
 }
@@ -456,7 +463,7 @@ int main(void) {
         one_row();
         constants();
         damage(1);
-        damage(SLATEDB_KEY_BYTES);
+        damage(KEY);
     }
     printf("lengths of lent arrays: %llu tried\n", (unsigned long long)lengths_tried);
     printf("damaged blocks: %llu read, %llu of them accepted\n", (unsigned long long)tried, (unsigned long long)accepted);

@@ -111,7 +111,15 @@ SLATEDB_STATIC_ASSERT(sizeof(slatedb_fields) == SLATEDB_FIELDS_WORDS * sizeof(ui
 SLATEDB_STATIC_ASSERT(sizeof(slatedb_row) == SLATEDB_ROW_WORDS * sizeof(uint64_t), "a row's words");
 SLATEDB_STATIC_ASSERT(sizeof(size_t) == 8, "a length has 64 bits in the library");
 
-/* These words are lent as arrays; a struct above is such an array. */
+/* A struct's words, to be lent with their number above. */
+static inline uint64_t *slatedb_cursor_words(slatedb_cursor *cursor) { return (uint64_t *)cursor; }
+static inline const uint64_t *slatedb_cursor_const_words(const slatedb_cursor *cursor) { return (const uint64_t *)cursor; }
+static inline uint64_t *slatedb_builder_words(slatedb_builder *builder) { return (uint64_t *)builder; }
+static inline const uint64_t *slatedb_builder_const_words(const slatedb_builder *builder) { return (const uint64_t *)builder; }
+static inline const uint64_t *slatedb_fields_words(const slatedb_fields *fields) { return (const uint64_t *)fields; }
+static inline uint64_t *slatedb_row_words(slatedb_row *row) { return (uint64_t *)row; }
+
+/* The same of any struct, which need not be the right one: the functions above are better. */
 #define SLATEDB_WORDS(p) ((uint64_t *)(p)), (sizeof *(p) / sizeof(uint64_t))
 
 /* ---- one row */

@@ -27,6 +27,8 @@ typedef struct {
 
 SLATEDB_STATIC_ASSERT(sizeof(slatedb_sums) == SLATEDB_SUMS_WORDS * sizeof(uint64_t), "the sums' words");
 
+static inline uint64_t *slatedb_sums_words(slatedb_sums *sums) { return (uint64_t *)sums; }
+
 /* Through the method that takes the cursor by value and gives it back, at each step. */
 uint8_t slatedb_walk_by_value(const uint8_t *block, size_t block_len, uint64_t order, uint64_t limit, uint64_t *sums, size_t sums_len);
 
