@@ -138,13 +138,14 @@ uint8_t slatedb_decode(const uint8_t *input, size_t input_len, size_t previous_l
 uint8_t slatedb_builder_new(uint64_t *builder, size_t builder_len, size_t block_size, size_t restart_interval);
 
 /* Whether the row would fit: 254, 18, 1, 2, 3, and 4 for "no". */
-uint8_t slatedb_builder_would_fit(const uint64_t *builder, size_t builder_len, const uint8_t *last_key, size_t last_key_len,
+uint8_t slatedb_builder_would_fit(const uint64_t *builder, size_t builder_len,
+                                  const uint8_t *last_key_bytes, size_t last_key_bytes_len,
                                   size_t data_len, size_t restarts_len,
                                   const uint8_t *key, size_t key_len, const uint8_t *value, size_t value_len,
                                   const uint64_t *fields, size_t fields_len);
 
 /* Adds a row: 254, 18, 1, 2, 3, 4, 5, 6. */
-uint8_t slatedb_builder_add(uint64_t *builder, size_t builder_len, uint8_t *last_key, size_t last_key_len,
+uint8_t slatedb_builder_add(uint64_t *builder, size_t builder_len, uint8_t *last_key_bytes, size_t last_key_bytes_len,
                             uint8_t *data, size_t data_len, uint16_t *restarts, size_t restarts_len,
                             const uint8_t *key, size_t key_len, const uint8_t *value, size_t value_len,
                             const uint64_t *fields, size_t fields_len);
@@ -167,13 +168,13 @@ uint8_t slatedb_open(const uint8_t *block, size_t block_len, uint64_t order, uin
 /* One step: 254, 14, 18, then done, 15, 18, the row's, 19. Good gives the row, and its key, of shared + suffix_len
  * bytes, to the start of `out`. */
 uint8_t slatedb_next(const uint8_t *block, size_t block_len, uint64_t *cursor, size_t cursor_len,
-                     uint8_t *key, size_t key_len, uint8_t *out, size_t out_len, uint64_t *row, size_t row_len);
+                     uint8_t *key_bytes, size_t key_bytes_len, uint8_t *out, size_t out_len, uint64_t *row, size_t row_len);
 
 /* Moves the cursor to the target, in its own order: 254, 14, and what the search and the walk meet. Good: the next step
  * gives the first row at or above the target, or descending the last at or below it; done: there is none. *reads: how many
  * restart keys the search read, set for both. */
 uint8_t slatedb_seek(const uint8_t *block, size_t block_len, const uint8_t *target, size_t target_len,
-                     uint64_t *cursor, size_t cursor_len, uint8_t *key, size_t key_len, uint64_t *reads);
+                     uint64_t *cursor, size_t cursor_len, uint8_t *key_bytes, size_t key_bytes_len, uint64_t *reads);
 
 /* Whether no row is left: 254, 14. *empty: 0 or 1. */
 uint8_t slatedb_is_empty(const uint8_t *block, size_t block_len, const uint64_t *cursor, size_t cursor_len, uint64_t *empty);

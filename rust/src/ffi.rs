@@ -24,10 +24,10 @@ pub(crate) const MERGE: u64 = 2;
 #[rustfmt::skip]
 extern "C" {
     fn slatedb_builder_new(builder: *mut u64, builder_len: usize, block_size: usize, restart_interval: usize) -> u8;
-    fn slatedb_builder_would_fit(builder: *const u64, builder_len: usize, last_key: *const u8, last_key_len: usize,
+    fn slatedb_builder_would_fit(builder: *const u64, builder_len: usize, last_key_bytes: *const u8, last_key_bytes_len: usize,
         data_len: usize, restarts_len: usize, key: *const u8, key_len: usize, value: *const u8, value_len: usize,
         fields: *const u64, fields_len: usize) -> u8;
-    fn slatedb_builder_add(builder: *mut u64, builder_len: usize, last_key: *mut u8, last_key_len: usize,
+    fn slatedb_builder_add(builder: *mut u64, builder_len: usize, last_key_bytes: *mut u8, last_key_bytes_len: usize,
         data: *mut u8, data_len: usize, restarts: *mut u16, restarts_len: usize, key: *const u8, key_len: usize,
         value: *const u8, value_len: usize, fields: *const u64, fields_len: usize) -> u8;
     fn slatedb_builder_is_empty(builder: *const u64, builder_len: usize, empty: *mut u64) -> u8;
@@ -35,10 +35,10 @@ extern "C" {
         restarts: *const u16, restarts_len: usize, count: *mut u64) -> u8;
     fn slatedb_check(block: *const u8, block_len: usize, count: *mut u64) -> u8;
     fn slatedb_open(block: *const u8, block_len: usize, order: u64, cursor: *mut u64, cursor_len: usize) -> u8;
-    fn slatedb_next(block: *const u8, block_len: usize, cursor: *mut u64, cursor_len: usize, key: *mut u8, key_len: usize,
-        out: *mut u8, out_len: usize, row: *mut u64, row_len: usize) -> u8;
+    fn slatedb_next(block: *const u8, block_len: usize, cursor: *mut u64, cursor_len: usize,
+        key_bytes: *mut u8, key_bytes_len: usize, out: *mut u8, out_len: usize, row: *mut u64, row_len: usize) -> u8;
     fn slatedb_seek(block: *const u8, block_len: usize, target: *const u8, target_len: usize,
-        cursor: *mut u64, cursor_len: usize, key: *mut u8, key_len: usize, reads: *mut u64) -> u8;
+        cursor: *mut u64, cursor_len: usize, key_bytes: *mut u8, key_bytes_len: usize, reads: *mut u64) -> u8;
     fn slatedb_is_empty(block: *const u8, block_len: usize, cursor: *const u64, cursor_len: usize, empty: *mut u64) -> u8;
 }
 
