@@ -181,8 +181,11 @@ static uint8_t step(struct reader *r) {
     return code;
 }
 
-static uint8_t is_empty(const struct reader *r, uint64_t *empty) {
-    return slatedb_is_empty(r->block, r->len, slatedb_cursor_const_words(r->cursor), CURSOR, empty);
+static uint64_t is_empty(const struct reader *r) {
+    uint64_t empty;
+    uint8_t code = slatedb_is_empty(r->block, r->len, slatedb_cursor_const_words(r->cursor), CURSOR, &empty);
+    expect("is_empty", code, SLATEDB_GOOD);
+    return empty;
 }
 
 static uint8_t seek(struct reader *r, const char *target) {
@@ -217,19 +220,19 @@ static void expect_row(const struct reader *r, size_t row) {
 
 /* Walks the whole block, and keeps the cursor before each step. */
 static void walk(struct reader *r, uint64_t order) {
-    uint64_t empty;
     printf("%s:", name_of(order));
     expect("the opening", reopen(r, order), SLATEDB_GOOD);
     for (size_t i = 0; i <= ROWS; i++) {
         cursors[order * HALF + i] = *r->cursor;
         cursor_keys[order * HALF + i] = r->key[0];
+        /* after the last row, and not yet told that it was */
+        expect("empty before a step", is_empty(r), i == ROWS && order == SLATEDB_ASCENDING);
         uint8_t code = step(r);
         expect("the step", code, i < ROWS ? SLATEDB_GOOD : SLATEDB_DONE);
         if (code == SLATEDB_GOOD && i < ROWS) expect_row(r, order == SLATEDB_ASCENDING ? i : ROWS - 1 - i);
         if (code == SLATEDB_DONE) printf(" done\n");
     }
-    expect("is_empty", is_empty(r, &empty), SLATEDB_GOOD);
-    expect("empty", empty, 1);
+    expect("empty after done", is_empty(r), 1);
     expect("a step after the last one", step(r), SLATEDB_DONE);
 }
 
