@@ -65,17 +65,49 @@ impl Error for Refusal {}
 
 /// For a call that never says "done".
 pub(crate) fn good(code: u8) -> Result<(), Refusal> {
-    good_or_done(code).map(|_| ())
+    match code {
+        ffi::GOOD => Ok(()),
+        number => Err(refused(number)),
+    }
 }
 
-/// True for good, false for "done".
+/// For a call that may say "done": true for good, false for that.
 pub(crate) fn good_or_done(code: u8) -> Result<bool, Refusal> {
     match code {
-        ffi::GOOD => Ok(true),
         ffi::DONE => Ok(false),
-        // 254 too: this crate lends as many words as the header says, so the library is of another version
-        number => Err(*Refusal::ALL
-            .get(number as usize - 1)
-            .unwrap_or_else(|| panic!("the library answers {number}"))),
+        code => good(code).map(|()| true),
+    }
+}
+
+/// Panics at any other number, 254 too: this crate lends as many words as the header says, so the library is of another version.
+fn refused(number: u8) -> Refusal {
+    let refusal = Refusal::ALL.iter().find(|refusal| refusal.number() == number);
+    *refusal.unwrap_or_else(|| panic!("the library answers {number}"))
+}
+
+#[cfg(test)]
+mod tests {
+    use super::*;
+
+    #[test]
+    fn good_done_and_refusals_are_told_apart() {
+        assert_eq!((good(0), good_or_done(0)), (Ok(()), Ok(true)));
+        assert_eq!(good_or_done(255), Ok(false));
+        for &refusal in Refusal::ALL {
+            assert_eq!(good(refusal.number()), Err(refusal));
+            assert_eq!(good_or_done(refusal.number()), Err(refusal));
+        }
+    }
+
+    #[test]
+    #[should_panic(expected = "the library answers 255")]
+    fn done_is_not_good() {
+        let _ = good(255);
+    }
+
+    #[test]
+    #[should_panic(expected = "the library answers 254")]
+    fn bad_words_are_no_refusal() {
+        let _ = good_or_done(254);
     }
 }
