@@ -1,7 +1,8 @@
 //! The static library's functions (`include/slatedb_block.h`) on slices, and its constants. All that is unsafe is here.
 //!
-//! Why each call is safe: the library takes any arguments that are as long as the length beside them says, which is how
-//! slices are given here; it writes only to what is lent by `&mut`, which nothing else can be lent with; it keeps no pointer.
+//! Why each call is safe: the library takes any arguments that are as long as the length beside them says and not NULL, which
+//! is how slices are given here; it writes only to what is lent by `&mut`, which nothing else can be lent with; it keeps no
+//! pointer.
 
 #![allow(unsafe_code)]
 
