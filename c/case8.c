@@ -11,14 +11,11 @@
 
 /* PAGE is a multiple of every processor's page. */
 enum { PAGE = 65536, PIECES = 16, ROWS = 5, INTERVAL = 2, RESTARTS = 3, DATA = 64, BLOCK = 72, HALF = ROWS + 1, STATES = 2 * HALF };
+enum { CURSOR = SLATEDB_CURSOR_WORDS, BUILDER = SLATEDB_BUILDER_WORDS, KEY = SLATEDB_KEY_BYTES };
+enum { FIELDS = SLATEDB_FIELDS_WORDS, ROW = SLATEDB_ROW_WORDS };
 
 static const char *const KEYS[ROWS] = {"a", "b", "b", "b", "c"};
 static const uint64_t STARTS[ROWS] = {0, 13, 26, 39, 51};
-
-_Static_assert(sizeof(slatedb_cursor) == SLATEDB_CURSOR_WORDS * sizeof(uint64_t), "cursor");
-_Static_assert(sizeof(slatedb_builder) == SLATEDB_BUILDER_WORDS * sizeof(uint64_t), "builder");
-_Static_assert(sizeof(slatedb_fields) == SLATEDB_FIELDS_WORDS * sizeof(uint64_t), "fields");
-_Static_assert(sizeof(slatedb_row) == SLATEDB_ROW_WORDS * sizeof(uint64_t), "row");
 
 static uint8_t block[BLOCK];
 
@@ -75,9 +72,9 @@ struct desk {
 };
 
 static struct desk new_desk(size_t data_len, size_t restarts_len) {
-    struct desk d = {lend(sizeof(slatedb_builder)), lend(SLATEDB_KEY_BYTES), lend(data_len),
+    struct desk d = {lend(sizeof(slatedb_builder)), lend(KEY), lend(data_len),
                      lend(restarts_len * sizeof(uint16_t)), data_len, restarts_len};
-    expect("a new builder", slatedb_builder_new(SLATEDB_WORDS(d.builder), 4096, INTERVAL), SLATEDB_GOOD);
+    expect("a new builder", slatedb_builder_new(slatedb_builder_words(d.builder), BUILDER, 4096, INTERVAL), SLATEDB_GOOD);
     return d;
 }
 
@@ -86,8 +83,8 @@ static uint8_t add(struct desk *d, size_t row) {
     slatedb_fields *fields = lend(sizeof *fields);
     *fields = (slatedb_fields){.kind = SLATEDB_VALUE, .seq = row + 1};
     uint8_t *key = lend_copy(KEYS[row], 1);
-    uint8_t code = slatedb_builder_add(SLATEDB_WORDS(d->builder), d->last_key, SLATEDB_KEY_BYTES, d->data, d->data_len,
-                                       d->restarts, d->restarts_len, key, 1, lend(0), 0, SLATEDB_WORDS(fields));
+    uint8_t code = slatedb_builder_add(slatedb_builder_words(d->builder), BUILDER, d->last_key, KEY, d->data, d->data_len,
+                                       d->restarts, d->restarts_len, key, 1, lend(0), 0, slatedb_fields_words(fields), FIELDS);
     take_back(mark);
     return code;
 }
@@ -99,8 +96,9 @@ static uint8_t add_rows(struct desk *d) {
     return code;
 }
 
-static uint8_t build(struct desk *d, uint64_t *count) {
-    return slatedb_builder_build(SLATEDB_WORDS(d->builder), d->data, d->data_len, d->restarts, d->restarts_len, count);
+static uint8_t build(const struct desk *d, uint64_t *count) {
+    return slatedb_builder_build(slatedb_builder_const_words(d->builder), BUILDER, d->data, d->data_len,
+                                 d->restarts, d->restarts_len, count);
 }
 
 static void build_case(void) {
@@ -154,12 +152,12 @@ struct reader {
 
 static struct reader new_reader(const uint8_t *from, size_t len, size_t out_len) {
     return (struct reader){.block = lend_copy(from, len), .len = len, .cursor = lend(sizeof(slatedb_cursor)),
-                           .key = lend(SLATEDB_KEY_BYTES), .out = lend(out_len), .out_len = out_len,
+                           .key = lend(KEY), .out = lend(out_len), .out_len = out_len,
                            .row = lend(sizeof(slatedb_row)), .reads = lend(sizeof(uint64_t))};
 }
 
 static uint8_t reopen(struct reader *r, uint64_t order) {
-    return slatedb_open(r->block, r->len, order, SLATEDB_WORDS(r->cursor));
+    return slatedb_open(r->block, r->len, order, slatedb_cursor_words(r->cursor), CURSOR);
 }
 
 static int refused(uint8_t code) {
@@ -168,13 +166,13 @@ static int refused(uint8_t code) {
 
 /* A step that is refused has changed nothing. */
 static uint8_t step(struct reader *r) {
-    static uint8_t key[SLATEDB_KEY_BYTES], out[SLATEDB_KEY_BYTES];
+    static uint8_t key[KEY], out[KEY];
     slatedb_cursor cursor = *r->cursor;
     slatedb_row row = *r->row;
     memcpy(key, r->key, sizeof key);
     memcpy(out, r->out, r->out_len);
-    uint8_t code = slatedb_next(r->block, r->len, SLATEDB_WORDS(r->cursor), r->key, SLATEDB_KEY_BYTES, r->out, r->out_len,
-                                SLATEDB_WORDS(r->row));
+    uint8_t code = slatedb_next(r->block, r->len, slatedb_cursor_words(r->cursor), CURSOR, r->key, KEY, r->out, r->out_len,
+                                slatedb_row_words(r->row), ROW);
     if (refused(code)) {
         int same = !memcmp(&cursor, r->cursor, sizeof cursor) && !memcmp(&row, r->row, sizeof row) &&
                    !memcmp(key, r->key, sizeof key) && !memcmp(out, r->out, r->out_len);
@@ -183,13 +181,21 @@ static uint8_t step(struct reader *r) {
     return code;
 }
 
+static uint64_t is_empty(const struct reader *r) {
+    uint64_t empty;
+    uint8_t code = slatedb_is_empty(r->block, r->len, slatedb_cursor_const_words(r->cursor), CURSOR, &empty);
+    expect("is_empty", code, SLATEDB_GOOD);
+    return empty;
+}
+
 static uint8_t seek(struct reader *r, const char *target) {
-    static uint8_t key[SLATEDB_KEY_BYTES];
+    static uint8_t key[KEY];
     size_t mark = used_pieces;
     slatedb_cursor cursor = *r->cursor;
     memcpy(key, r->key, sizeof key);
     uint8_t *lent = lend_copy(target, strlen(target));
-    uint8_t code = slatedb_seek(r->block, r->len, lent, strlen(target), SLATEDB_WORDS(r->cursor), r->key, SLATEDB_KEY_BYTES, r->reads);
+    uint8_t code = slatedb_seek(r->block, r->len, lent, strlen(target), slatedb_cursor_words(r->cursor), CURSOR, r->key, KEY,
+                                r->reads);
     if (refused(code)) {
         int same = !memcmp(&cursor, r->cursor, sizeof cursor) && !memcmp(key, r->key, sizeof key);
         expect("what a refused seek leaves", same, 1);
@@ -214,19 +220,19 @@ static void expect_row(const struct reader *r, size_t row) {
 
 /* Walks the whole block, and keeps the cursor before each step. */
 static void walk(struct reader *r, uint64_t order) {
-    uint64_t empty;
     printf("%s:", name_of(order));
     expect("the opening", reopen(r, order), SLATEDB_GOOD);
     for (size_t i = 0; i <= ROWS; i++) {
         cursors[order * HALF + i] = *r->cursor;
         cursor_keys[order * HALF + i] = r->key[0];
+        /* after the last row, and not yet told that it was */
+        expect("empty before a step", is_empty(r), i == ROWS && order == SLATEDB_ASCENDING);
         uint8_t code = step(r);
         expect("the step", code, i < ROWS ? SLATEDB_GOOD : SLATEDB_DONE);
         if (code == SLATEDB_GOOD && i < ROWS) expect_row(r, order == SLATEDB_ASCENDING ? i : ROWS - 1 - i);
         if (code == SLATEDB_DONE) printf(" done\n");
     }
-    expect("is_empty", slatedb_is_empty(r->block, r->len, SLATEDB_WORDS(r->cursor), &empty), SLATEDB_GOOD);
-    expect("empty", empty, 1);
+    expect("empty after done", is_empty(r), 1);
     expect("a step after the last one", step(r), SLATEDB_DONE);
 }
 
@@ -272,14 +278,52 @@ static void one_row(void) {
         *fields = (slatedb_fields){.kind = SLATEDB_VALUE, .seq = 1};
         uint8_t *output = lend(len);
         uint64_t *count = lend(sizeof *count);
-        uint8_t code = slatedb_encode(output, len, 0, 0, lend_copy("a", 1), 1, lend(0), 0, SLATEDB_WORDS(fields), count);
+        uint8_t code = slatedb_encode(output, len, 0, 0, lend_copy("a", 1), 1, lend(0), 0, slatedb_fields_words(fields), FIELDS,
+                                      count);
         expect("a row written", code, len == sizeof row ? SLATEDB_GOOD : SLATEDB_BUFFER_TOO_SMALL);
         if (code == SLATEDB_GOOD) expect("the row's bytes", *count == len && !memcmp(output, row, len), 1);
         slatedb_row *read = lend(sizeof *read);
-        code = slatedb_decode(lend_copy(row, len), len, 0, SLATEDB_WORDS(read));
+        code = slatedb_decode(lend_copy(row, len), len, 0, slatedb_row_words(read), ROW);
         expect("a row read", code, len == sizeof row ? SLATEDB_GOOD : SLATEDB_INPUT_ENDS);
         take_back(0);
     }
+}
+
+/* ---- the lengths that the header says always do */
+
+static uint8_t large[131072];
+
+/* The largest row, alone and as a block's first: one byte less does not do. */
+static void largest_row(void) {
+    static uint8_t output[66594], key[KEY], last_key[KEY];
+    slatedb_fields fields = {.kind = SLATEDB_MERGE, .has_expire = 1, .has_create = 1};
+    for (size_t less = 0; less <= 1; less++) {
+        uint8_t wanted = less ? SLATEDB_BUFFER_TOO_SMALL : SLATEDB_GOOD;
+        slatedb_builder builder;
+        uint64_t count = 0;
+        uint16_t restarts[1];
+        expect("the largest row", slatedb_encode(output, 66590 - less, 0, 0, key, sizeof key, large, 65535,
+                                                 slatedb_fields_words(&fields), FIELDS, &count), wanted);
+        expect("its bytes", count, less ? 0 : 66590);
+        expect("a new builder", slatedb_builder_new(slatedb_builder_words(&builder), BUILDER, 0, 1), SLATEDB_GOOD);
+        expect("a block of the largest row",
+               slatedb_builder_add(slatedb_builder_words(&builder), BUILDER, last_key, KEY, output, 66594 - less, restarts, 1,
+                                   key, sizeof key, large, 65535, slatedb_fields_words(&fields), FIELDS), wanted);
+    }
+}
+
+/* Rows of 13 bytes, each a restart: 5,042 of them, and then a restart would lie too far. */
+static void most_restarts(void) {
+    static uint8_t last_key[KEY];
+    static uint16_t restarts[5042];
+    slatedb_fields fields = {.kind = SLATEDB_TOMBSTONE};
+    slatedb_builder builder;
+    uint8_t key = 'a', code = slatedb_builder_new(slatedb_builder_words(&builder), BUILDER, sizeof large, 1);
+    while (code == SLATEDB_GOOD)
+        code = slatedb_builder_add(slatedb_builder_words(&builder), BUILDER, last_key, KEY, large, sizeof large, restarts, 5042,
+                                   &key, 1, &key, 0, slatedb_fields_words(&fields), FIELDS);
+    expect("the end of short rows", code, SLATEDB_RESTART_TOO_FAR);
+    expect("the most restarts", builder.restarts, 5042);
 }
 
 /* ---- the header's constants: each call with n[0] words or key bytes in its first array, n[1] in its second, and so on */
@@ -343,8 +387,6 @@ static uint8_t try_is_empty(const size_t *n) {
 }
 
 enum { MOST = 3 }; /* such arrays in a call */
-enum { CURSOR = SLATEDB_CURSOR_WORDS, BUILDER = SLATEDB_BUILDER_WORDS, KEY = SLATEDB_KEY_BYTES };
-enum { FIELDS = SLATEDB_FIELDS_WORDS, ROW = SLATEDB_ROW_WORDS };
 
 static const struct {
     const char *name;
@@ -404,7 +446,7 @@ static void walk_damaged(struct reader *r, uint64_t order, uint8_t verdict, uint
         if (code == SLATEDB_GOOD) steps++;
     }
     expect("a walk's end", code != SLATEDB_GOOD, 1);
-    if (verdict != SLATEDB_GOOD || r->out_len < SLATEDB_KEY_BYTES) return;
+    if (verdict != SLATEDB_GOOD || r->out_len < KEY) return;
     expect("the end of an accepted block", code, SLATEDB_DONE);
     expect("the rows of an accepted block", steps, rows);
 }
@@ -455,13 +497,15 @@ static void damage(size_t out_len) {
 int main(void) {
     build_case();
     read_case();
+    largest_row();
+    most_restarts();
     for (at_start = 0; at_start <= 1; at_start++) {
         short_buffers();
         short_trailers();
         one_row();
         constants();
         damage(1);
-        damage(SLATEDB_KEY_BYTES);
+        damage(KEY);
     }
     printf("lengths of lent arrays: %llu tried\n", (unsigned long long)lengths_tried);
     printf("damaged blocks: %llu read, %llu of them accepted\n", (unsigned long long)tried, (unsigned long long)accepted);

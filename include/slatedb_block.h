@@ -1,11 +1,13 @@
 /* Blocks of slatedb's format V2: rows written and read, blocks built, checked, walked and sought in.
  *
  * The functions are those of the static library slatedb_block. They are proved for all arguments that these declarations
- * allow: pointers to as many elements as the length beside them says, where nothing that a call may write is lent to it
- * twice. Nothing here allocates, keeps a pointer or has a state of its own.
+ * allow: pointers to as many elements as the length beside them says, and to one word where there is none (`count`,
+ * `empty`, `reads`). No pointer may be NULL, even where its length is 0, and nothing that a call may write may be lent to
+ * it twice. Nothing here allocates, keeps a pointer or has a state of its own.
  *
- * Every function answers a code: 0 for good, the number of a refusal, 255 for "done". A call that answers a number from 1
- * to 254 has changed no memory that was lent to it.
+ * Every function answers a code: 0 for good, the number of a refusal, 255 for "done". Beside each stand the numbers that it
+ * can answer, in the order of its tests; after "any of", in the order in which they are met. A call that answers a number
+ * from 1 to 254 has changed no memory that was lent to it.
  */
 #ifndef SLATEDB_BLOCK_H
 #define SLATEDB_BLOCK_H
@@ -14,7 +16,17 @@
 #include <stdint.h>
 
 #ifdef __cplusplus
+#define SLATEDB_STATIC_ASSERT static_assert
 extern "C" {
+#else
+#define SLATEDB_STATIC_ASSERT _Static_assert
+#endif
+
+/* A refusal is not to be overlooked. */
+#ifdef __GNUC__
+#define SLATEDB_MUST_USE __attribute__((warn_unused_result))
+#else
+#define SLATEDB_MUST_USE
 #endif
 
 #define SLATEDB_GOOD 0
@@ -31,7 +43,7 @@ extern "C" {
 #define SLATEDB_UNKNOWN_FLAGS 11       /* the flags byte is 16 or more */
 #define SLATEDB_TOMBSTONE_WITH_MERGE 12 /* the flags set tombstone and merge together */
 #define SLATEDB_BAD_SHARE 13           /* the share is longer than the key before, or not 0 at a restart */
-#define SLATEDB_BAD_TRAILER 14         /* under 2 bytes, a count of 0, or a trailer longer than the block */
+#define SLATEDB_BAD_TRAILER 14         /* the block has under 2 bytes, its count is 0, or its trailer is longer than the block */
 #define SLATEDB_BAD_OFFSET 15          /* the first restart is not 0, the offsets don't rise, or one is not below the data's length */
 #define SLATEDB_ROW_PAST_REGION 16     /* a row inside the data runs past the next restart */
 #define SLATEDB_KEY_FALLS 17           /* a key is smaller than the one before */
@@ -55,13 +67,14 @@ extern "C" {
 #define SLATEDB_TOMBSTONE 1
 #define SLATEDB_MERGE 2
 
-/* A cursor's words. The first key_len of its SLATEDB_KEY_BYTES key bytes, which the caller keeps beside them, are the key before; those after it tell nothing. */
+/* A cursor's words. The first key_len of its SLATEDB_KEY_BYTES key bytes, which the caller keeps beside them, are the key
+ * before; those after it tell nothing, and a step or a seek may change them. */
 typedef struct {
     uint64_t order;    /* SLATEDB_ASCENDING or SLATEDB_DESCENDING */
     uint64_t region;   /* the restart region that the cursor stands in */
     uint64_t at;       /* and its position there */
     uint64_t key_len;
-    uint64_t done;     /* 1 once no row is left */
+    uint64_t done;     /* 1 once a step or a seek has said "done" */
 } slatedb_cursor;
 
 /* A builder's words; the first last_key_len of its SLATEDB_KEY_BYTES key bytes are the last key. */
@@ -101,63 +114,100 @@ typedef struct {
     int64_t create;
 } slatedb_row;
 
-/* These words are lent as arrays; a struct above is such an array. */
+/* Each struct is its words and nothing else, and a length has 64 bits, as in the library. */
+SLATEDB_STATIC_ASSERT(sizeof(slatedb_cursor) == SLATEDB_CURSOR_WORDS * sizeof(uint64_t), "a cursor's words");
+SLATEDB_STATIC_ASSERT(sizeof(slatedb_builder) == SLATEDB_BUILDER_WORDS * sizeof(uint64_t), "a builder's words");
+SLATEDB_STATIC_ASSERT(sizeof(slatedb_fields) == SLATEDB_FIELDS_WORDS * sizeof(uint64_t), "the fields' words");
+SLATEDB_STATIC_ASSERT(sizeof(slatedb_row) == SLATEDB_ROW_WORDS * sizeof(uint64_t), "a row's words");
+SLATEDB_STATIC_ASSERT(sizeof(size_t) == 8, "a length has 64 bits in the library");
+
+/* A struct's words, to be lent with their number above: the compiler sees that it is the right struct. */
+static inline uint64_t *slatedb_cursor_words(slatedb_cursor *cursor) { return (uint64_t *)cursor; }
+static inline const uint64_t *slatedb_cursor_const_words(const slatedb_cursor *cursor) { return (const uint64_t *)cursor; }
+static inline uint64_t *slatedb_builder_words(slatedb_builder *builder) { return (uint64_t *)builder; }
+static inline const uint64_t *slatedb_builder_const_words(const slatedb_builder *builder) { return (const uint64_t *)builder; }
+static inline const uint64_t *slatedb_fields_words(const slatedb_fields *fields) { return (const uint64_t *)fields; }
+static inline uint64_t *slatedb_row_words(slatedb_row *row) { return (uint64_t *)row; }
+
+/* The same for any struct, which nothing tests: the functions above are better. */
 #define SLATEDB_WORDS(p) ((uint64_t *)(p)), (sizeof *(p) / sizeof(uint64_t))
 
 /* ---- one row */
 
-/* Writes a row after a key of previous_len bytes, of which it shares the first `shared`: 254, 13, 1, 2, 3, 6. *count: its bytes. */
+/* Writes a row after a key of previous_len bytes, of which it shares the first `shared`: 254, 13, 1, 2, 3, 6.
+ * *count: its bytes, which start the output. 66,590 bytes of output always do. */
+SLATEDB_MUST_USE
 uint8_t slatedb_encode(uint8_t *output, size_t output_len, size_t previous_len, size_t shared,
                        const uint8_t *key_suffix, size_t key_suffix_len, const uint8_t *value, size_t value_len,
                        const uint64_t *fields, size_t fields_len, uint64_t *count);
 
-/* Reads the row that starts the input, after a key of previous_len bytes: 254, 9, 10, 13, 1, 2, 3, 11, 12. */
+/* Reads the row that starts the input, after a key of previous_len bytes: 254, then any of 9 to 13, 1, 2, 3. Bytes after
+ * the row are allowed. */
+SLATEDB_MUST_USE
 uint8_t slatedb_decode(const uint8_t *input, size_t input_len, size_t previous_len, uint64_t *row, size_t row_len);
 
-/* ---- building a block: rows go into `data`, the restarts' offsets into `restarts` */
+/* ---- building a block: rows go into `data`, the restarts' offsets into `restarts`
+ *
+ * As restarts 5,042 places always do; as data the larger of the block size and 66,594 bytes, since a first row of any size
+ * is taken. Shorter buffers are answered with 6 once a row needs more: then longer ones that begin alike may be lent. */
 
 /* A new builder: 254, 8. Its key bytes need no setting. */
+SLATEDB_MUST_USE
 uint8_t slatedb_builder_new(uint64_t *builder, size_t builder_len, size_t block_size, size_t restart_interval);
 
-/* Whether the row would fit: 254, 18, 1, 2, 3, and 4 for "no". */
-uint8_t slatedb_builder_would_fit(const uint64_t *builder, size_t builder_len, const uint8_t *last_key, size_t last_key_len,
+/* Whether the row would fit: 254, 18, 1, 2, 3, and 4 for "no". The two lengths are those of the buffers that add is given;
+ * after good, add may still answer 5 or 6. */
+SLATEDB_MUST_USE
+uint8_t slatedb_builder_would_fit(const uint64_t *builder, size_t builder_len,
+                                  const uint8_t *last_key_bytes, size_t last_key_bytes_len,
                                   size_t data_len, size_t restarts_len,
                                   const uint8_t *key, size_t key_len, const uint8_t *value, size_t value_len,
                                   const uint64_t *fields, size_t fields_len);
 
 /* Adds a row: 254, 18, 1, 2, 3, 4, 5, 6. */
-uint8_t slatedb_builder_add(uint64_t *builder, size_t builder_len, uint8_t *last_key, size_t last_key_len,
+SLATEDB_MUST_USE
+uint8_t slatedb_builder_add(uint64_t *builder, size_t builder_len, uint8_t *last_key_bytes, size_t last_key_bytes_len,
                             uint8_t *data, size_t data_len, uint16_t *restarts, size_t restarts_len,
                             const uint8_t *key, size_t key_len, const uint8_t *value, size_t value_len,
                             const uint64_t *fields, size_t fields_len);
 
-/* Whether there is no row: 254. *empty: 0 or 1. */
+/* Whether there is no row: 254. *empty: 1 if so, else 0. */
+SLATEDB_MUST_USE
 uint8_t slatedb_builder_is_empty(const uint64_t *builder, size_t builder_len, uint64_t *empty);
 
 /* Puts the trailer after the rows: 254, 18, 7, 6. The block is the first *count bytes of data. */
+SLATEDB_MUST_USE
 uint8_t slatedb_builder_build(const uint64_t *builder, size_t builder_len, uint8_t *data, size_t data_len,
                               const uint16_t *restarts, size_t restarts_len, uint64_t *count);
 
 /* ---- reading a block */
 
-/* Checks a whole block: 14, 15, then row by row 9 to 13, 1, 2, 3, 16, 17. *count: its rows. */
+/* Checks a whole block: 14, 15, then row by row any of 9 to 13, 1, 2, 3, 16, 17. *count: its rows. */
+SLATEDB_MUST_USE
 uint8_t slatedb_check(const uint8_t *block, size_t block_len, uint64_t *count);
 
-/* A cursor before the first row, or after the last one: 254, 14, 15. Its key bytes need no setting. */
+/* A cursor before the first row, or descending after the last one: 254, 14, 15. Its key bytes need no setting. */
+SLATEDB_MUST_USE
 uint8_t slatedb_open(const uint8_t *block, size_t block_len, uint64_t order, uint64_t *cursor, size_t cursor_len);
 
-/* One step: 254, 14, 18, then done, 15, 18, the row's, 19. Good gives the row, and its key, of shared + suffix_len
- * bytes, to the start of `out`. */
+/* One step: 254, 14, 18, done if that was said before, then any of 15, 18, 9 to 13, 1, 2, 3, 16, and 19 last. Good gives the
+ * row, and its key, of shared + suffix_len bytes, to the start of `out`, for which 1,024 bytes always do; done: no row is
+ * left, and both stay. */
+SLATEDB_MUST_USE
 uint8_t slatedb_next(const uint8_t *block, size_t block_len, uint64_t *cursor, size_t cursor_len,
-                     uint8_t *key, size_t key_len, uint8_t *out, size_t out_len, uint64_t *row, size_t row_len);
+                     uint8_t *key_bytes, size_t key_bytes_len, uint8_t *out, size_t out_len, uint64_t *row, size_t row_len);
 
-/* Moves the cursor to the target, in its own order: 254, 14, and what the search and the walk meet. Good: the next step
- * gives the first row at or above the target, or descending the last at or below it; done: there is none. *reads: how many
- * restart keys the search read, set for both. */
+/* Moves the cursor to the target, in its own order, from wherever it stands: 254, 14, then any of 15, 9 to 13, 1, 2, 3, 16.
+ * On a block that slatedb_check accepts, good: the next step gives the first row at or above the target, or descending the
+ * last at or below it; done: there is none. On any other block it may pass over that row, and never faults. *reads: how
+ * many restart keys the search read, set for both. */
+SLATEDB_MUST_USE
 uint8_t slatedb_seek(const uint8_t *block, size_t block_len, const uint8_t *target, size_t target_len,
-                     uint64_t *cursor, size_t cursor_len, uint8_t *key, size_t key_len, uint64_t *reads);
+                     uint64_t *cursor, size_t cursor_len, uint8_t *key_bytes, size_t key_bytes_len, uint64_t *reads);
 
-/* Whether no row is left: 254, 14. *empty: 0 or 1. */
+/* Whether no row is left: 254, 14. *empty: 1 if so, else 0. Only the trailer is tested; descending, only the mark `done`
+ * tells: after the last row it is still 0, until a step or a seek says "done". */
+SLATEDB_MUST_USE
 uint8_t slatedb_is_empty(const uint8_t *block, size_t block_len, const uint64_t *cursor, size_t cursor_len, uint64_t *empty);
 
 #ifdef __cplusplus

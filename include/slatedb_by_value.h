@@ -12,14 +12,17 @@ extern "C" {
 #endif
 
 /* As slatedb_builder_add. */
-uint8_t slatedb_builder_add_by_value(uint64_t *builder, size_t builder_len, uint8_t *last_key, size_t last_key_len,
+SLATEDB_MUST_USE
+uint8_t slatedb_builder_add_by_value(uint64_t *builder, size_t builder_len, uint8_t *last_key_bytes, size_t last_key_bytes_len,
                                      uint8_t *data, size_t data_len, uint16_t *restarts, size_t restarts_len,
                                      const uint8_t *key, size_t key_len, const uint8_t *value, size_t value_len,
                                      const uint64_t *fields, size_t fields_len);
 
 /* As slatedb_next. */
+SLATEDB_MUST_USE
 uint8_t slatedb_next_by_value(const uint8_t *block, size_t block_len, uint64_t *cursor, size_t cursor_len,
-                              uint8_t *key, size_t key_len, uint8_t *out, size_t out_len, uint64_t *row, size_t row_len);
+                              uint8_t *key_bytes, size_t key_bytes_len, uint8_t *out, size_t out_len,
+                              uint64_t *row, size_t row_len);
 
 #ifdef __cplusplus
 }

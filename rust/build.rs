@@ -21,10 +21,11 @@ fn folder() -> PathBuf {
 fn main() {
     println!("cargo:rerun-if-env-changed={FOLDER}");
     println!("cargo:rerun-if-changed=build.rs");
-    if env::var("CARGO_CFG_TARGET_ARCH").as_deref() != Ok("x86_64") {
-        fail(
-            "the library is for x86-64: give --target x86_64-unknown-linux-gnu (README.md says what that needs)".into(),
-        );
+    // all three: another system's calls, or 32-bit lengths on this processor, would link and then go wrong
+    for (what, wanted) in [("ARCH", "x86_64"), ("OS", "linux"), ("POINTER_WIDTH", "64")] {
+        if env::var(format!("CARGO_CFG_TARGET_{what}")).as_deref() != Ok(wanted) {
+            fail("the library is for 64-bit Linux on x86-64: give --target x86_64-unknown-linux-gnu (README.md says what that needs)".into());
+        }
     }
     let folder = folder();
     let library = folder.join("libslatedb_block.a");

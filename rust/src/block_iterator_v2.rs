@@ -5,7 +5,8 @@ use crate::types::RowEntry;
 
 /// Iterator over a V2 block, which uses its restart points to seek.
 ///
-/// The block may be owned or borrowed: anything that lends its bytes. It need not be checked before.
+/// The block may be owned or borrowed: anything that lends its bytes. One that [`check`](crate::check) has not accepted may be
+/// read too: nothing panics, and a row that can't be read is refused, but a seek may pass over the row that it is to find.
 pub struct BlockIteratorV2<B: AsRef<[u8]>> {
     block: B,
     cursor: [u64; ffi::CURSOR_WORDS],
@@ -54,7 +55,8 @@ impl<B: AsRef<[u8]>> BlockIteratorV2<B> {
         })
     }
 
-    /// Moves to the first row at or above the key, or descending to the last at or below it, from wherever the iterator stands.
+    /// On a block that [`check`](crate::check) accepts, moves to the first row at or above the key, or descending to the last
+    /// at or below it, from wherever the iterator stands. On any other block it may pass over that row.
     /// Answers how many restart keys the search has read.
     pub fn seek(&mut self, next_key: &[u8]) -> Result<usize, Refusal> {
         let mut reads = 0;
@@ -73,9 +75,9 @@ impl<B: AsRef<[u8]>> BlockIteratorV2<B> {
     /// As slatedb's: ascending, true as soon as the last row was given; descending, once `next` or `seek` found no row.
     pub fn is_empty(&self) -> bool {
         let mut empty = 0;
-        // only a bad trailer is refused, and such a block was not opened
         let code = ffi::is_empty(self.block.as_ref(), &self.cursor, &mut empty);
-        good(code).is_err() || empty == 1
+        // only a bad trailer is refused, which a block has that lends other bytes than when it was opened: `next` tells it
+        good(code).is_ok() && empty == 1
     }
 }
 

@@ -17,7 +17,6 @@ pub struct BlockBuilderV2 {
     // longer than what is in use: the library writes into the rest
     data: Vec<u8>,
     restarts: Vec<u16>,
-    block_size: usize,
 }
 
 impl BlockBuilderV2 {
@@ -35,11 +34,11 @@ impl BlockBuilderV2 {
             last_key: Box::new([0; ffi::KEY_BYTES]),
             data: Vec::new(),
             restarts: Vec::new(),
-            block_size,
         })
     }
 
-    /// Whether `add` would take the row. An empty builder takes a first row of any size.
+    /// Whether the row fits. An empty builder takes a first row of any size. `add` may still refuse a row that fits, with
+    /// [`Refusal::RestartTooFar`].
     pub fn would_fit(&self, entry: &RowEntry) -> Result<bool, Refusal> {
         let fields = entry.fields();
         let code = ffi::builder_would_fit(
@@ -65,7 +64,8 @@ impl BlockBuilderV2 {
 
     pub fn is_empty(&self) -> bool {
         let mut empty = 0;
-        good(ffi::builder_is_empty(&self.builder, &mut empty)).is_ok() && empty == 1
+        good(ffi::builder_is_empty(&self.builder, &mut empty)).expect("no builder is refused here");
+        empty == 1
     }
 
     /// The block's bytes.
@@ -93,12 +93,11 @@ impl BlockBuilderV2 {
     }
 
     fn make_room(&mut self, entry: &RowEntry) {
-        let [_block_size, _interval, used, restarts, ..] = self.builder;
-        let (used, restarts) = (used as usize, restarts as usize);
+        let [block_size, _interval, used, restarts, ..] = self.builder.map(|word| word as usize);
         let row = entry.key.len() + entry.value.len() + ROW_OVERHEAD;
         let needed = used + row + 2 * restarts + TRAILER_OVERHEAD;
         // as slatedb: a block is at most its block size, or its first row
-        self.data.resize(needed.max(self.block_size), 0);
+        self.data.resize(needed.max(block_size), 0);
         self.restarts.resize(2 * restarts + 8, 0);
     }
 }

@@ -1,7 +1,8 @@
 //! The static library's functions (`include/slatedb_block.h`) on slices, and its constants. All that is unsafe is here.
 //!
-//! Why each call is safe: the library takes any arguments that are as long as the length beside them says, which is how
-//! slices are given here; it writes only to what is lent by `&mut`, which nothing else can be lent with; it keeps no pointer.
+//! Why each call is safe: the library takes any arguments that are as long as the length beside them says and not NULL, which
+//! is how slices are given here; it writes only to what is lent by `&mut`, which nothing else can be lent with; it keeps no
+//! pointer.
 
 #![allow(unsafe_code)]
 
@@ -24,10 +25,10 @@ pub(crate) const MERGE: u64 = 2;
 #[rustfmt::skip]
 extern "C" {
     fn slatedb_builder_new(builder: *mut u64, builder_len: usize, block_size: usize, restart_interval: usize) -> u8;
-    fn slatedb_builder_would_fit(builder: *const u64, builder_len: usize, last_key: *const u8, last_key_len: usize,
+    fn slatedb_builder_would_fit(builder: *const u64, builder_len: usize, last_key_bytes: *const u8, last_key_bytes_len: usize,
         data_len: usize, restarts_len: usize, key: *const u8, key_len: usize, value: *const u8, value_len: usize,
         fields: *const u64, fields_len: usize) -> u8;
-    fn slatedb_builder_add(builder: *mut u64, builder_len: usize, last_key: *mut u8, last_key_len: usize,
+    fn slatedb_builder_add(builder: *mut u64, builder_len: usize, last_key_bytes: *mut u8, last_key_bytes_len: usize,
         data: *mut u8, data_len: usize, restarts: *mut u16, restarts_len: usize, key: *const u8, key_len: usize,
         value: *const u8, value_len: usize, fields: *const u64, fields_len: usize) -> u8;
     fn slatedb_builder_is_empty(builder: *const u64, builder_len: usize, empty: *mut u64) -> u8;
@@ -35,10 +36,10 @@ extern "C" {
         restarts: *const u16, restarts_len: usize, count: *mut u64) -> u8;
     fn slatedb_check(block: *const u8, block_len: usize, count: *mut u64) -> u8;
     fn slatedb_open(block: *const u8, block_len: usize, order: u64, cursor: *mut u64, cursor_len: usize) -> u8;
-    fn slatedb_next(block: *const u8, block_len: usize, cursor: *mut u64, cursor_len: usize, key: *mut u8, key_len: usize,
-        out: *mut u8, out_len: usize, row: *mut u64, row_len: usize) -> u8;
+    fn slatedb_next(block: *const u8, block_len: usize, cursor: *mut u64, cursor_len: usize,
+        key_bytes: *mut u8, key_bytes_len: usize, out: *mut u8, out_len: usize, row: *mut u64, row_len: usize) -> u8;
     fn slatedb_seek(block: *const u8, block_len: usize, target: *const u8, target_len: usize,
-        cursor: *mut u64, cursor_len: usize, key: *mut u8, key_len: usize, reads: *mut u64) -> u8;
+        cursor: *mut u64, cursor_len: usize, key_bytes: *mut u8, key_bytes_len: usize, reads: *mut u64) -> u8;
     fn slatedb_is_empty(block: *const u8, block_len: usize, cursor: *const u64, cursor_len: usize, empty: *mut u64) -> u8;
 }
 

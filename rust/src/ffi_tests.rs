@@ -7,19 +7,37 @@ fn header() -> String {
     std::fs::read_to_string(path).unwrap()
 }
 
-/// The header's numbers, by name without SLATEDB_.
-fn defined(header: &str, name: &str) -> u64 {
-    let start = format!("#define SLATEDB_{name} ");
-    let line = header
-        .lines()
-        .find(|line| line.starts_with(&start))
-        .unwrap_or_else(|| panic!("no {name}"));
-    line[start.len()..].split(' ').next().unwrap().parse().unwrap()
+/// A number of the header: its name without SLATEDB_, and its comment.
+struct Definition<'a> {
+    name: &'a str,
+    number: u64,
+    comment: &'a str,
+}
+
+fn definition(line: &str) -> Option<Definition<'_>> {
+    let (name, rest) = line.strip_prefix("#define SLATEDB_")?.split_once(' ')?;
+    let (number, comment) = rest.split_once(' ').unwrap_or((rest, ""));
+    Some(Definition {
+        name,
+        // the header's other macros are no numbers
+        number: number.parse().ok()?,
+        comment: comment.trim().trim_start_matches("/* ").trim_end_matches(" */"),
+    })
+}
+
+fn definitions(header: &str) -> Vec<Definition<'_>> {
+    header.lines().filter_map(definition).collect()
+}
+
+fn defined<'a>(definitions: &'a [Definition<'a>], name: &str) -> &'a Definition<'a> {
+    let found = definitions.iter().find(|definition| definition.name == name);
+    found.unwrap_or_else(|| panic!("no {name}"))
 }
 
 #[test]
 fn constants_are_the_headers() {
     let header = header();
+    let definitions = definitions(&header);
     let constants = [
         ("GOOD", GOOD as u64),
         ("DONE", DONE as u64),
@@ -36,14 +54,10 @@ fn constants_are_the_headers() {
         ("MERGE", MERGE),
     ];
     for (name, number) in constants {
-        assert_eq!(defined(&header, name), number, "{name}");
+        assert_eq!(defined(&definitions, name).number, number, "{name}");
     }
-    let numbers = header
-        .lines()
-        .filter(|line| line.starts_with("#define SLATEDB_") && !line.contains('('))
-        .count();
-    // and the header's own guard
-    assert_eq!(numbers, constants.len() + Refusal::ALL.len() + 1);
+    // and it has no others
+    assert_eq!(definitions.len(), constants.len() + Refusal::ALL.len());
 }
 
 /// EmptyKey is EMPTY_KEY.
@@ -61,12 +75,11 @@ fn spelled_out(refusal: Refusal) -> String {
 #[test]
 fn refusals_are_the_headers() {
     let header = header();
-    for refusal in Refusal::ALL {
-        assert_eq!(
-            defined(&header, &spelled_out(refusal)),
-            refusal.number() as u64,
-            "{refusal:?}"
-        );
+    let definitions = definitions(&header);
+    for &refusal in Refusal::ALL {
+        let Definition { number, comment, .. } = defined(&definitions, &spelled_out(refusal));
+        assert_eq!(refusal.number() as u64, *number, "{refusal:?}");
+        assert_eq!(refusal.to_string(), format!("refusal {number}: {comment}"));
     }
 }
 

@@ -1,7 +1,13 @@
 //! slatedb 0.16.0's V2 block builder and block iterator, over the proved static library `slatedb_block`.
 //!
-//! The names and shapes are slatedb's, with three changes: bytes are plain vectors and slices, nothing is async, and where
-//! slatedb panics or reads a damaged block as far as it goes, these answer a [`Refusal`].
+//! Types and methods are slatedb's, with these changes:
+//!
+//! - Keys, values and blocks are vectors and slices; nothing is async, and there is no `init`. An iterator takes any block that
+//!   is `AsRef<[u8]>`, and is an `Iterator` too.
+//! - What slatedb panics at, and what a damaged block has in it, is a [`Refusal`]: constructors and `would_fit` answer a
+//!   `Result` too. A row that doesn't fit stays `Ok(false)`.
+//! - [`check`] is added: whether a whole block is good. `seek` answers how many restart keys its search read. `build` gives the
+//!   encoded block. `new_with_restart_interval`, which slatedb has for tests, is for all.
 
 #![deny(unsafe_code)]
 

@@ -3,81 +3,55 @@ use std::fmt;
 
 use crate::ffi;
 
-/// Why a call was refused. A refused call has changed nothing.
-#[derive(Clone, Copy, Debug, PartialEq, Eq, Hash)]
-#[repr(u8)]
-pub enum Refusal {
-    EmptyKey = 1,
-    KeyTooLong = 2,
-    ValueTooLong = 3,
-    RowDoesNotFit = 4,
-    RestartTooFar = 5,
-    BufferTooSmall = 6,
-    EmptyBlock = 7,
-    BadSettings = 8,
-    InputEnds = 9,
-    VarintTooLarge = 10,
-    UnknownFlags = 11,
-    TombstoneWithMerge = 12,
-    BadShare = 13,
-    BadTrailer = 14,
-    BadOffset = 15,
-    RowPastRegion = 16,
-    KeyFalls = 17,
-    BadState = 18,
-    KeyBufferTooShort = 19,
+// one list, so that a refusal's documentation and what it says of itself are one text: the header's
+macro_rules! refusals {
+    ($($number:literal $name:ident $reason:literal)*) => {
+        /// Why a call was refused. A refused call has changed nothing.
+        #[derive(Clone, Copy, Debug, PartialEq, Eq, Hash)]
+        #[non_exhaustive]
+        #[repr(u8)]
+        pub enum Refusal {
+            $(#[doc = concat!("Refusal ", $number, ": ", $reason, ".")] $name = $number,)*
+        }
+
+        impl Refusal {
+            /// All of them, by number from 1.
+            pub const ALL: &'static [Refusal] = &[$(Refusal::$name),*];
+
+            fn reason(self) -> &'static str {
+                match self {
+                    $(Refusal::$name => $reason,)*
+                }
+            }
+        }
+    };
+}
+
+refusals! {
+    1 EmptyKey "the key is empty"
+    2 KeyTooLong "the key has over 1,024 bytes"
+    3 ValueTooLong "the value, or its length, is over 65,535"
+    4 RowDoesNotFit "the row doesn't fit into the block"
+    5 RestartTooFar "a restart would lie past 65,535"
+    6 BufferTooSmall "a lent buffer can't hold what is to be written"
+    7 EmptyBlock "a block is built with no row"
+    8 BadSettings "the block size or the interval is outside its limits"
+    9 InputEnds "the input ends inside a row"
+    10 VarintTooLarge "the fifth byte of a varint is above 15"
+    11 UnknownFlags "the flags byte is 16 or more"
+    12 TombstoneWithMerge "the flags set tombstone and merge together"
+    13 BadShare "the share is longer than the key before, or not 0 at a restart"
+    14 BadTrailer "the block has under 2 bytes, its count is 0, or its trailer is longer than the block"
+    15 BadOffset "the first restart is not 0, the offsets don't rise, or one is not below the data's length"
+    16 RowPastRegion "a row inside the data runs past the next restart"
+    17 KeyFalls "a key is smaller than the one before"
+    18 BadState "the cursor's or the builder's state can't belong to these buffers"
+    19 KeyBufferTooShort "the lent key buffer is shorter than the key"
 }
 
 impl Refusal {
-    /// All of them, by number from 1.
-    pub const ALL: [Refusal; 19] = [
-        Refusal::EmptyKey,
-        Refusal::KeyTooLong,
-        Refusal::ValueTooLong,
-        Refusal::RowDoesNotFit,
-        Refusal::RestartTooFar,
-        Refusal::BufferTooSmall,
-        Refusal::EmptyBlock,
-        Refusal::BadSettings,
-        Refusal::InputEnds,
-        Refusal::VarintTooLarge,
-        Refusal::UnknownFlags,
-        Refusal::TombstoneWithMerge,
-        Refusal::BadShare,
-        Refusal::BadTrailer,
-        Refusal::BadOffset,
-        Refusal::RowPastRegion,
-        Refusal::KeyFalls,
-        Refusal::BadState,
-        Refusal::KeyBufferTooShort,
-    ];
-
     pub fn number(self) -> u8 {
         self as u8
-    }
-
-    fn reason(self) -> &'static str {
-        match self {
-            Refusal::EmptyKey => "the key is empty",
-            Refusal::KeyTooLong => "the key has over 1,024 bytes",
-            Refusal::ValueTooLong => "the value, or its length, is over 65,535",
-            Refusal::RowDoesNotFit => "the row doesn't fit into the block",
-            Refusal::RestartTooFar => "a restart would lie past 65,535",
-            Refusal::BufferTooSmall => "a buffer can't hold what is to be written",
-            Refusal::EmptyBlock => "a block is built with no row",
-            Refusal::BadSettings => "the block size or the interval is outside its limits",
-            Refusal::InputEnds => "the input ends inside a row",
-            Refusal::VarintTooLarge => "the fifth byte of a varint is above 15",
-            Refusal::UnknownFlags => "the flags byte is 16 or more",
-            Refusal::TombstoneWithMerge => "the flags set tombstone and merge together",
-            Refusal::BadShare => "the share is longer than the key before, or not 0 at a restart",
-            Refusal::BadTrailer => "under 2 bytes, a count of 0, or a trailer longer than the block",
-            Refusal::BadOffset => "the restarts don't start at 0, don't rise, or leave the data",
-            Refusal::RowPastRegion => "a row inside the data runs past the next restart",
-            Refusal::KeyFalls => "a key is smaller than the one before",
-            Refusal::BadState => "the state can't belong to these buffers",
-            Refusal::KeyBufferTooShort => "the key buffer is shorter than the key",
-        }
     }
 }
 
@@ -91,17 +65,49 @@ impl Error for Refusal {}
 
 /// For a call that never says "done".
 pub(crate) fn good(code: u8) -> Result<(), Refusal> {
-    good_or_done(code).map(|_| ())
+    match code {
+        ffi::GOOD => Ok(()),
+        number => Err(refused(number)),
+    }
 }
 
-/// True for good, false for "done".
+/// For a call that may say "done": true for good, false for that.
 pub(crate) fn good_or_done(code: u8) -> Result<bool, Refusal> {
     match code {
-        ffi::GOOD => Ok(true),
         ffi::DONE => Ok(false),
-        // 254 too: this crate lends as many words as the header says, so the library is of another version
-        number => Err(*Refusal::ALL
-            .get(number as usize - 1)
-            .unwrap_or_else(|| panic!("the library answers {number}"))),
+        code => good(code).map(|()| true),
+    }
+}
+
+/// Panics at any other number, 254 too: this crate lends as many words as the header says, so the library is of another version.
+fn refused(number: u8) -> Refusal {
+    let refusal = Refusal::ALL.iter().find(|refusal| refusal.number() == number);
+    *refusal.unwrap_or_else(|| panic!("the library answers {number}"))
+}
+
+#[cfg(test)]
+mod tests {
+    use super::*;
+
+    #[test]
+    fn good_done_and_refusals_are_told_apart() {
+        assert_eq!((good(0), good_or_done(0)), (Ok(()), Ok(true)));
+        assert_eq!(good_or_done(255), Ok(false));
+        for &refusal in Refusal::ALL {
+            assert_eq!(good(refusal.number()), Err(refusal));
+            assert_eq!(good_or_done(refusal.number()), Err(refusal));
+        }
+    }
+
+    #[test]
+    #[should_panic(expected = "the library answers 255")]
+    fn done_is_not_good() {
+        let _ = good(255);
+    }
+
+    #[test]
+    #[should_panic(expected = "the library answers 254")]
+    fn bad_words_are_no_refusal() {
+        let _ = good_or_done(254);
     }
 }

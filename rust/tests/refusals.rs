@@ -2,6 +2,8 @@
 
 mod common;
 
+use std::cell::Cell;
+
 use common::{build, open, rows_of, walk, BOTH};
 use slatedb_block::{check, BlockBuilderV2, BlockIteratorV2, IterationOrder, Refusal, RowEntry};
 
@@ -51,6 +53,8 @@ fn restart_at(place: usize) -> Result<bool, Refusal> {
     let mut builder = BlockBuilderV2::new_with_restart_interval(131_072, 1).unwrap();
     let row = value(b"a", place - 15);
     assert_eq!(builder.add(row), Ok(true));
+    // it fits, whatever `add` says of its place
+    assert_eq!(builder.would_fit(&value(b"b", 0)), Ok(true));
     builder.add(value(b"b", 0))
 }
 
@@ -158,6 +162,32 @@ fn a_refused_step_is_refused_again_and_ends_a_loop() {
     // a seek to what is whole takes it up again
     assert!(iterator.seek(b"a").is_ok());
     assert_eq!(iterator.map(|row| row.is_ok()).collect::<Vec<_>>(), [true, false]);
+}
+
+/// Lends its bytes when it is opened, and none later.
+struct Vanishing {
+    bytes: Vec<u8>,
+    lent: Cell<bool>,
+}
+
+impl AsRef<[u8]> for Vanishing {
+    fn as_ref(&self) -> &[u8] {
+        if self.lent.replace(true) {
+            return &[];
+        }
+        &self.bytes
+    }
+}
+
+#[test]
+fn a_refusal_is_not_an_end() {
+    let block = Vanishing {
+        bytes: build(&rows_of(&["a"]), 1),
+        lent: Cell::new(false),
+    };
+    let mut iterator = BlockIteratorV2::new_ascending(block).unwrap();
+    assert!(!iterator.is_empty());
+    assert_eq!(iterator.next(), Err(Refusal::BadTrailer));
 }
 
 /// Nothing panics, and an accepted block has as many rows as the check says.

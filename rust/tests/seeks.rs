@@ -3,7 +3,7 @@
 mod common;
 
 use common::{build, open, rows_of, walk, BOTH};
-use slatedb_block::{IterationOrder, RowEntry};
+use slatedb_block::{check, IterationOrder, Refusal, RowEntry};
 
 /// The rows that have to follow a seek.
 fn expected(rows: &[RowEntry], order: IterationOrder, target: &[u8]) -> Vec<RowEntry> {
@@ -113,4 +113,13 @@ fn a_seek_that_finds_nothing_leaves_nothing() {
         assert!(iterator.is_empty());
         assert_eq!(iterator.next(), Ok(None));
     }
+}
+
+/// Why a seek that must not miss its row needs a checked block.
+#[test]
+fn where_keys_fall_a_seek_may_pass_over_its_row() {
+    let block = build(&rows_of(&["c", "a", "z"]), 1);
+    assert_eq!(check(&block), Err(Refusal::KeyFalls));
+    let after = rest(&block, IterationOrder::Ascending, b"c");
+    assert_eq!(after.iter().map(|row| &row.key[..]).collect::<Vec<_>>(), [b"z"]);
 }
