@@ -30,9 +30,19 @@ static slatedb_fields fields = {.kind = SLATEDB_MERGE, .seq = 1, .has_expire = 1
 static slatedb_row row;
 static slatedb_varint varint;
 static slatedb_key key_read;
+static slatedb_sums sums;
 static uint64_t count;
 static size_t key_len, block_len;
 static uint8_t answer;
+
+/* Their words, as they are lent. */
+#define LENT_BUILDER slatedb_builder_words(&builder), SLATEDB_BUILDER_WORDS
+#define LENT_CURSOR slatedb_cursor_words(&cursor), SLATEDB_CURSOR_WORDS
+#define LENT_FIELDS slatedb_fields_words(&fields), SLATEDB_FIELDS_WORDS
+#define LENT_ROW slatedb_row_words(&row), SLATEDB_ROW_WORDS
+#define LENT_SUMS slatedb_sums_words(&sums), SLATEDB_SUMS_WORDS
+#define LENT_VARINT slatedb_varint_words(&varint), SLATEDB_VARINT_WORDS
+#define LENT_KEY slatedb_key_words(&key_read), SLATEDB_KEY_WORDS
 
 static void run_job(void) {
     job();
@@ -59,36 +69,36 @@ static void nothing(void) {
 }
 
 static void call_encode(void) {
-    answer = slatedb_encode(encoded, sizeof encoded, 0, 0, key, key_len, out, 100, SLATEDB_WORDS(&fields), &count);
+    answer = slatedb_encode(encoded, sizeof encoded, 0, 0, key, key_len, out, 100, LENT_FIELDS, &count);
 }
 
 static void call_decode(void) {
-    answer = slatedb_decode(encoded, sizeof encoded, 0, SLATEDB_WORDS(&row));
+    answer = slatedb_decode(encoded, sizeof encoded, 0, LENT_ROW);
 }
 
 static void call_builder_new(void) {
-    answer = slatedb_builder_new(SLATEDB_WORDS(&builder), DATA, 16);
+    answer = slatedb_builder_new(LENT_BUILDER, DATA, 16);
 }
 
 static void call_builder_would_fit(void) {
-    answer = slatedb_builder_would_fit(SLATEDB_WORDS(&builder), last, sizeof last, DATA, PLACES, key, key_len, out, 100, SLATEDB_WORDS(&fields));
+    answer = slatedb_builder_would_fit(LENT_BUILDER, last, sizeof last, DATA, PLACES, key, key_len, out, 100, LENT_FIELDS);
 }
 
 static void call_builder_add(void) {
-    answer = slatedb_builder_add(SLATEDB_WORDS(&builder), last, sizeof last, data, DATA, restarts, PLACES, key, key_len, out, 100, SLATEDB_WORDS(&fields));
+    answer = slatedb_builder_add(LENT_BUILDER, last, sizeof last, data, DATA, restarts, PLACES, key, key_len, out, 100, LENT_FIELDS);
 }
 
 static void call_builder_add_by_value(void) {
-    answer = slatedb_builder_add_by_value(SLATEDB_WORDS(&builder), last, sizeof last, data, DATA, restarts, PLACES, key, key_len, out, 100,
-                                          SLATEDB_WORDS(&fields));
+    answer = slatedb_builder_add_by_value(LENT_BUILDER, last, sizeof last, data, DATA, restarts, PLACES, key, key_len, out, 100,
+                                          LENT_FIELDS);
 }
 
 static void call_builder_is_empty(void) {
-    answer = slatedb_builder_is_empty(SLATEDB_WORDS(&builder), &count);
+    answer = slatedb_builder_is_empty(LENT_BUILDER, &count);
 }
 
 static void call_builder_build(void) {
-    answer = slatedb_builder_build(SLATEDB_WORDS(&builder), data, DATA, restarts, PLACES, &count);
+    answer = slatedb_builder_build(LENT_BUILDER, data, DATA, restarts, PLACES, &count);
 }
 
 static void call_check(void) {
@@ -98,33 +108,31 @@ static void call_check(void) {
 static uint64_t order;
 
 static void call_open(void) {
-    answer = slatedb_open(data, block_len, order, SLATEDB_WORDS(&cursor));
+    answer = slatedb_open(data, block_len, order, LENT_CURSOR);
 }
 
 static void call_next(void) {
-    answer = slatedb_next(data, block_len, SLATEDB_WORDS(&cursor), carried, sizeof carried, out, sizeof out, SLATEDB_WORDS(&row));
+    answer = slatedb_next(data, block_len, LENT_CURSOR, carried, sizeof carried, out, sizeof out, LENT_ROW);
 }
 
 static void call_next_by_value(void) {
-    answer = slatedb_next_by_value(data, block_len, SLATEDB_WORDS(&cursor), carried, sizeof carried, out, sizeof out, SLATEDB_WORDS(&row));
+    answer = slatedb_next_by_value(data, block_len, LENT_CURSOR, carried, sizeof carried, out, sizeof out, LENT_ROW);
 }
 
 static void call_seek(void) {
-    answer = slatedb_seek(data, block_len, key, key_len, SLATEDB_WORDS(&cursor), carried, sizeof carried, &count);
+    answer = slatedb_seek(data, block_len, key, key_len, LENT_CURSOR, carried, sizeof carried, &count);
 }
 
 static void call_is_empty(void) {
-    answer = slatedb_is_empty(data, block_len, SLATEDB_WORDS(&cursor), &count);
+    answer = slatedb_is_empty(data, block_len, LENT_CURSOR, &count);
 }
 
-static slatedb_sums sums;
-
 static void call_walk_by_value(void) {
-    answer = slatedb_walk_by_value(data, block_len, order, UINT64_MAX, SLATEDB_WORDS(&sums));
+    answer = slatedb_walk_by_value(data, block_len, order, UINT64_MAX, LENT_SUMS);
 }
 
 static void call_walk_in_place(void) {
-    answer = slatedb_walk_in_place(data, block_len, order, UINT64_MAX, SLATEDB_WORDS(&sums));
+    answer = slatedb_walk_in_place(data, block_len, order, UINT64_MAX, LENT_SUMS);
 }
 
 static void call_varint_put(void) {
@@ -132,11 +140,11 @@ static void call_varint_put(void) {
 }
 
 static void call_varint_get(void) {
-    answer = slatedb_varint_get(encoded, sizeof encoded, 0, SLATEDB_WORDS(&varint));
+    answer = slatedb_varint_get(encoded, sizeof encoded, 0, LENT_VARINT);
 }
 
 static void call_decode_key(void) {
-    answer = slatedb_decode_key(encoded, sizeof encoded, 0, sizeof encoded, 0, 1, SLATEDB_WORDS(&key_read));
+    answer = slatedb_decode_key(encoded, sizeof encoded, 0, sizeof encoded, 0, 1, LENT_KEY);
 }
 
 static struct {

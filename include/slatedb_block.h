@@ -129,9 +129,6 @@ static inline const uint64_t *slatedb_builder_const_words(const slatedb_builder 
 static inline const uint64_t *slatedb_fields_words(const slatedb_fields *fields) { return (const uint64_t *)fields; }
 static inline uint64_t *slatedb_row_words(slatedb_row *row) { return (uint64_t *)row; }
 
-/* The same for any struct, which nothing tests: the functions above are better. */
-#define SLATEDB_WORDS(p) ((uint64_t *)(p)), (sizeof *(p) / sizeof(uint64_t))
-
 /* ---- one row */
 
 /* Writes a row after a key of previous_len bytes, of which it shares the first `shared`: 254, 13, 1, 2, 3, 6.

@@ -21,16 +21,20 @@ static int timed(size_t block_size) {
     slatedb_builder builder;
     slatedb_fields fields = {.kind = SLATEDB_VALUE};
     uint64_t len = 0, rows = 0;
-    slatedb_builder_new(SLATEDB_WORDS(&builder), block_size, 16);
+    if (slatedb_builder_new(slatedb_builder_words(&builder), SLATEDB_BUILDER_WORDS, block_size, 16) != SLATEDB_GOOD) {
+        return 1;
+    }
     for (;; fields.seq++) {
         char key[17];
         snprintf(key, sizeof key, "card%012u", (unsigned)fields.seq);
-        if (slatedb_builder_add(SLATEDB_WORDS(&builder), last, sizeof last, data, block_size, restarts, 1024, (const uint8_t *)key, 16, value, sizeof value,
-                                SLATEDB_WORDS(&fields)) != SLATEDB_GOOD) {
+        if (slatedb_builder_add(slatedb_builder_words(&builder), SLATEDB_BUILDER_WORDS, last, sizeof last, data, block_size, restarts, 1024,
+                                (const uint8_t *)key, 16, value, sizeof value, slatedb_fields_words(&fields), SLATEDB_FIELDS_WORDS) != SLATEDB_GOOD) {
             break;
         }
     }
-    slatedb_builder_build(SLATEDB_WORDS(&builder), data, block_size, restarts, 1024, &len);
+    if (slatedb_builder_build(slatedb_builder_words(&builder), SLATEDB_BUILDER_WORDS, data, block_size, restarts, 1024, &len) != SLATEDB_GOOD) {
+        return 1;
+    }
     double least = 1e18;
     for (int i = 0; i < ROUNDS; i++) {
         double start = now();

@@ -15,7 +15,8 @@ static _Thread_local uint16_t restarts[5042];
 static int32_t rows(const uint8_t *block, size_t len, slatedb_cursor *cursor, uint64_t limit, port_sum *out) {
     slatedb_row row;
     while (limit--) {
-        uint8_t code = STEP(block, len, SLATEDB_WORDS(cursor), key, sizeof key, given, sizeof given, SLATEDB_WORDS(&row));
+        uint8_t code = STEP(block, len, slatedb_cursor_words(cursor), SLATEDB_CURSOR_WORDS, key, sizeof key, given, sizeof given,
+                            slatedb_row_words(&row), SLATEDB_ROW_WORDS);
         if (code == SLATEDB_DONE) return 0;
         if (code) return -code;
         PORT_ROW(out, given, row.shared + row.suffix_len, row.value_len, row.seq);
@@ -25,11 +26,13 @@ static int32_t rows(const uint8_t *block, size_t len, slatedb_cursor *cursor, ui
 
 int32_t port_scan(int32_t desc, const uint8_t *block, size_t len, port_sum *out) {
 #ifdef WALK
-    uint8_t code = WALK(block, len, desc != 0, UINT64_MAX, SLATEDB_WORDS(out));
+    slatedb_sums sums = {out->rows, out->sum};
+    uint8_t code = WALK(block, len, desc != 0, UINT64_MAX, slatedb_sums_words(&sums), SLATEDB_SUMS_WORDS);
+    *out = (port_sum){sums.rows, sums.sum};
     return code == SLATEDB_DONE ? 0 : -1 - code;
 #else
     slatedb_cursor cursor;
-    uint8_t code = slatedb_open(block, len, desc != 0, SLATEDB_WORDS(&cursor));
+    uint8_t code = slatedb_open(block, len, desc != 0, slatedb_cursor_words(&cursor), SLATEDB_CURSOR_WORDS);
     return code ? -code : rows(block, len, &cursor, UINT64_MAX, out);
 #endif
 }
@@ -37,9 +40,9 @@ int32_t port_scan(int32_t desc, const uint8_t *block, size_t len, port_sum *out)
 int32_t port_seek(int32_t desc, const uint8_t *block, size_t len, const uint8_t *target, size_t target_len, port_sum *out) {
     slatedb_cursor cursor;
     uint64_t reads;
-    uint8_t code = slatedb_open(block, len, desc != 0, SLATEDB_WORDS(&cursor));
+    uint8_t code = slatedb_open(block, len, desc != 0, slatedb_cursor_words(&cursor), SLATEDB_CURSOR_WORDS);
     if (code) return -code;
-    code = slatedb_seek(block, len, target, target_len, SLATEDB_WORDS(&cursor), key, sizeof key, &reads);
+    code = slatedb_seek(block, len, target, target_len, slatedb_cursor_words(&cursor), SLATEDB_CURSOR_WORDS, key, sizeof key, &reads);
     if (code == SLATEDB_DONE) return 0;
     return code ? -code : rows(block, len, &cursor, 1, out);
 }
@@ -48,15 +51,15 @@ int64_t port_build(size_t block_size, size_t interval, const port_row *row, size
     slatedb_builder builder;
     uint64_t count;
     size_t added = 0;
-    uint8_t code = slatedb_builder_new(SLATEDB_WORDS(&builder), block_size, interval);
+    uint8_t code = slatedb_builder_new(slatedb_builder_words(&builder), SLATEDB_BUILDER_WORDS, block_size, interval);
     for (; !code && added < n; row++) {
         slatedb_fields fields = {row->kind, row->seq, row->has_expire, row->expire, row->has_create, row->create};
-        code = slatedb_builder_add(SLATEDB_WORDS(&builder), key, sizeof key, out, cap, restarts, 5042,
-                                   row->key, row->key_len, row->value, row->value_len, SLATEDB_WORDS(&fields));
+        code = slatedb_builder_add(slatedb_builder_words(&builder), SLATEDB_BUILDER_WORDS, key, sizeof key, out, cap, restarts, 5042,
+                                   row->key, row->key_len, row->value, row->value_len, slatedb_fields_words(&fields), SLATEDB_FIELDS_WORDS);
         if (!code) added++;
     }
     if (code && code != SLATEDB_ROW_DOES_NOT_FIT) return -code;
-    code = slatedb_builder_build(SLATEDB_WORDS(&builder), out, cap, restarts, 5042, &count);
+    code = slatedb_builder_build(slatedb_builder_words(&builder), SLATEDB_BUILDER_WORDS, out, cap, restarts, 5042, &count);
     *out_len = count;
     return code ? -code : (int64_t)added;
 }
