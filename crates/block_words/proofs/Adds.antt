@@ -13,7 +13,7 @@ use Rattle.layout.specs.Place.{splice}
 use Rattle.layout.specs.Row.{Fields}
 use Rattle.row_size_v2.specs.Says.{fieldsFrom}
 use Rattle.row_size_v2.specs.declared.RowFields.{RowFields}
-use Rattle.row_words.specs.Words.{badWords, builderFrom, builderWords, fieldsIn}
+use Rattle.row_words.specs.Words.{badWords, builderFrom, builderWords, fieldsIn, builderCount}
 use Rattle.block_words.specs.Exports.{Gain, AddsAs, AddsFlat}
 
 abbrev pub gained : Fields → Builder → Res Gain
@@ -41,18 +41,18 @@ abbrev pub addWanted : List ℕ → List ℕ → List ℕ → List ℕ → List 
 addWanted ws last bytes places key value f = add (builderFrom ws last) (length bytes) (length places) key (fieldsFrom f value)
 
 module _ (ws last bytes places key value fs : List ℕ) where
-  pub adds-short : (length ws ≡ 6 → ⊥) → AddsFlat ws last bytes places key value fs badWords ws last bytes places
-  adds-short h = rw (ne-eqb (length ws) 6 h) (record { answer = refl; state = refl; last-after = refl; bytes-after = refl; places-after = refl })
+  pub adds-short : (length ws ≡ builderCount → ⊥) → AddsFlat ws last bytes places key value fs badWords ws last bytes places
+  adds-short h = rw (ne-eqb (length ws) builderCount h) (record { answer = refl; state = refl; last-after = refl; bytes-after = refl; places-after = refl })
 
-  pub adds-no-key : length ws ≡ 6 → (length last ≡ maxKey → ⊥) → AddsFlat ws last bytes places key value fs badWords ws last bytes places
-  adds-no-key h k = rw (eq-eqb (length ws) 6 h, ne-eqb (length last) maxKey k) (record { answer = refl; state = refl; last-after = refl; bytes-after = refl; places-after = refl })
+  pub adds-no-key : length ws ≡ builderCount → (length last ≡ maxKey → ⊥) → AddsFlat ws last bytes places key value fs badWords ws last bytes places
+  adds-no-key h k = rw (eq-eqb (length ws) builderCount h, ne-eqb (length last) maxKey k) (record { answer = refl; state = refl; last-after = refl; bytes-after = refl; places-after = refl })
 
-  pub adds-bad : length ws ≡ 6 → length last ≡ maxKey → fieldsIn fs value ≡ refuse badWords → AddsFlat ws last bytes places key value fs badWords ws last bytes places
+  pub adds-bad : length ws ≡ builderCount → length last ≡ maxKey → fieldsIn fs value ≡ refuse badWords → AddsFlat ws last bytes places key value fs badWords ws last bytes places
   adds-bad h k e =
-      rw (eq-eqb (length ws) 6 h, eq-eqb (length last) maxKey k, e) (record { answer = refl; state = refl; last-after = refl; bytes-after = refl; places-after = refl })
+      rw (eq-eqb (length ws) builderCount h, eq-eqb (length last) maxKey k, e) (record { answer = refl; state = refl; last-after = refl; bytes-after = refl; places-after = refl })
 
-  module _ (f : RowFields) (h : length ws ≡ 6) (k : length last ≡ maxKey) (is : fieldsIn fs value ≡ ok (fieldsFrom f value)) where
+  module _ (f : RowFields) (h : length ws ≡ builderCount) (k : length last ≡ maxKey) (is : fieldsIn fs value ≡ ok (fieldsFrom f value)) where
     pub adds-asked : {code : ℕ} {ws′ last′ bytes′ places′ : List ℕ}
         → AddsAs (bind (addWanted ws last bytes places key value f) (gained (fieldsFrom f value))) (builderFrom ws last) key ws last bytes places code ws′ last′ bytes′ places′
         → AddsFlat ws last bytes places key value fs code ws′ last′ bytes′ places′
-    adds-asked a = rw (eq-eqb (length ws) 6 h, eq-eqb (length last) maxKey k, is) a
+    adds-asked a = rw (eq-eqb (length ws) builderCount h, eq-eqb (length last) maxKey k, is) a

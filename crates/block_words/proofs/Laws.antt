@@ -24,7 +24,7 @@ use Rattle.block_grow_v2.specs.declared.State.{State}
 use Rattle.block_iterator_v2.specs.Says.{viewOf}
 use Rattle.block_iterator_v2.specs.declared.BlockIteratorV2.{BlockIteratorV2}
 use Rattle.block_step_v2.specs.declared.Place.{Place}
-use Rattle.row_words.specs.Words.{badWords, truthIn, orderIn, wordAt, cursorFrom, cursorIn, cursorWords}
+use Rattle.row_words.specs.Words.{badWords, truthIn, orderIn, wordAt, cursorFrom, cursorIn, cursorWords, builderCount, cursorCount}
 use Rattle.block_words.specs.Says.{saysCursor, saysState, stateIn}
 use Rattle.block_words.specs.declared.CursorRead.the-variants.{Is as IsCursor}
 use Rattle.block_words.specs.declared.StateRead.{StateRead}
@@ -32,42 +32,42 @@ use Rattle.block_words.specs.declared.StateRead.the-variants.{Is as IsSt
 use Rattle.block_words.specs.Promise.{roomy, PutsIterator, LoadsState, MakesOver}
 use Rattle.row_words.proofs.Laws.{counted-not, counted-so}
 
-pub cursor-short : (ws : List ℕ) → (length ws ≡ 5 → ⊥) → (key : List ℕ) → refuse badWords ≡ cursorIn ws key
+pub cursor-short : (ws : List ℕ) → (length ws ≡ cursorCount → ⊥) → (key : List ℕ) → refuse badWords ≡ cursorIn ws key
 unfolding cursorIn
-cursor-short ws h key = sym (counted-not ws 5 _ h)
+cursor-short ws h key = sym (counted-not ws cursorCount _ h)
 
-pub cursor-no-order : (ws : List ℕ) → length ws ≡ 5 → orderIn (wordAt ws 0) ≡ refuse badWords → (key : List ℕ) → refuse badWords ≡ cursorIn ws key
+pub cursor-no-order : (ws : List ℕ) → length ws ≡ cursorCount → orderIn (wordAt ws 0) ≡ refuse badWords → (key : List ℕ) → refuse badWords ≡ cursorIn ws key
 unfolding cursorIn
-cursor-no-order ws h o key = sym (counted-so ws 5 _ h ∙ rw o refl)
+cursor-no-order ws h o key = sym (counted-so ws cursorCount _ h ∙ rw o refl)
 
-module _ (ws : List ℕ) (h : length ws ≡ 5) {d : Direction} (o : orderIn (wordAt ws 0) ≡ ok d) where
+module _ (ws : List ℕ) (h : length ws ≡ cursorCount) {d : Direction} (o : orderIn (wordAt ws 0) ≡ ok d) where
   pub cursor-no-mark : truthIn (wordAt ws 4) ≡ refuse badWords → (key : List ℕ) → refuse badWords ≡ cursorIn ws key
   unfolding cursorIn
-  cursor-no-mark m key = sym (counted-so ws 5 _ h ∙ rw (o, m) refl)
+  cursor-no-mark m key = sym (counted-so ws cursorCount _ h ∙ rw (o, m) refl)
 
   pub cursor-read : {b : Bool} → truthIn (wordAt ws 4) ≡ ok b → (key : List ℕ) → cursorIn ws key ≡ ok (cursorFrom ws key d b)
   unfolding cursorIn
-  cursor-read m key = counted-so ws 5 _ h ∙ rw (o, m) refl
+  cursor-read m key = counted-so ws cursorCount _ h ∙ rw (o, m) refl
 
-pub cursor-loaded : (ws : List ℕ) (p : Place) → length ws ≡ 5 → orderIn (wordAt ws 0) ≡ ok (saysOrder (p .order)) → truthIn (wordAt ws 4) ≡ ok (p .done)
+pub cursor-loaded : (ws : List ℕ) (p : Place) → length ws ≡ cursorCount → orderIn (wordAt ws 0) ≡ ok (saysOrder (p .order)) → truthIn (wordAt ws 4) ≡ ok (p .done)
     → p .region ≡ wordAt ws 1 → p .at ≡ wordAt ws 2 → p .«key_len» ≡ wordAt ws 3 → (key : List ℕ) → saysCursor key (IsCursor p) ≡ cursorIn ws key
 cursor-loaded ws p h o m r a k key = rw (r, a, k) (sym (cursor-read ws h o m key))
 
 -- what is a cursor has its five words
-pub cursor-counts : (ws key : List ℕ) (c : Cursor) → cursorIn ws key ≡ ok c → length ws ≡ 5
+pub cursor-counts : (ws key : List ℕ) (c : Cursor) → cursorIn ws key ≡ ok c → length ws ≡ cursorCount
 unfolding cursorIn
-cursor-counts ws key c e = guard-then (not (eqb (length ws) 5)) badWords _ c e λ t q. eqb-true (length ws) 5 (not-false (eqb (length ws) 5) t)
+cursor-counts ws key c e = guard-then (not (eqb (length ws) cursorCount)) badWords _ c e λ t q. eqb-true (length ws) cursorCount (not-false (eqb (length ws) cursorCount) t)
 
 -- a builder's words, as `state_in` answered of them
 module _ (ws : List ℕ) {r : StateRead} (l : LoadsState ws r) where
-  pub state-none : r ≡ BadState → length ws ≡ 6 → ⊥
-  state-none e h = apart (sym (counted-so ws 6 (ok (stateIn ws)) h) ∙ yes saysState l e)
+  pub state-none : r ≡ BadState → length ws ≡ builderCount → ⊥
+  state-none e h = apart (sym (counted-so ws builderCount (ok (stateIn ws)) h) ∙ yes saysState l e)
 
-  pub state-counts : {s : State} → r ≡ IsState s → length ws ≡ 6
-  state-counts {s} e = guard-then (not (eqb (length ws) 6)) badWords (ok (stateIn ws)) s (yes saysState l e) λ t q. eqb-true (length ws) 6 (not-false (eqb (length ws) 6) t)
+  pub state-counts : {s : State} → r ≡ IsState s → length ws ≡ builderCount
+  state-counts {s} e = guard-then (not (eqb (length ws) builderCount)) badWords (ok (stateIn ws)) s (yes saysState l e) λ t q. eqb-true (length ws) builderCount (not-false (eqb (length ws) builderCount) t)
 
   pub state-is : {s : State} → r ≡ IsState s → s ≡ stateIn ws
-  state-is {s} e = sym (ok-inj (sym (counted-so ws 6 (ok (stateIn ws)) (state-counts e)) ∙ yes saysState l e))
+  state-is {s} e = sym (ok-inj (sym (counted-so ws builderCount (ok (stateIn ws)) (state-counts e)) ∙ yes saysState l e))
 
 -- ---- what is stored
 
@@ -87,19 +87,19 @@ over-whole last {s} {t} {r} h e m =
     m ∙ rw (e, le-ltb (length zeros) (0 + length last) (omega (arith, h)), drop-of-length-le zeros {i = 0 + length last} (omega (arith, h)), append-nil last) refl
 
 module _ (c : BlockIteratorV2) (ws key : List ℕ) where
-  pub iterator-no-words : (length ws ≡ 5 → ⊥) → PutsIterator c ws key false ws key
+  pub iterator-no-words : (length ws ≡ cursorCount → ⊥) → PutsIterator c ws key false ws key
   iterator-no-words h =
-      let is : roomy ws key ≡ false = rw (ne-eqb (length ws) 5 h) refl in
+      let is : roomy ws key ≡ false = rw (ne-eqb (length ws) cursorCount h) refl in
       record { answer = sym is; words = rw is refl; bytes = rw is refl }
 
-  pub iterator-no-key : length ws ≡ 5 → (length key ≡ maxKey → ⊥) → PutsIterator c ws key false ws key
+  pub iterator-no-key : length ws ≡ cursorCount → (length key ≡ maxKey → ⊥) → PutsIterator c ws key false ws key
   iterator-no-key h k =
-      let is : roomy ws key ≡ false = rw (eq-eqb (length ws) 5 h, ne-eqb (length key) maxKey k) refl in
+      let is : roomy ws key ≡ false = rw (eq-eqb (length ws) cursorCount h, ne-eqb (length key) maxKey k) refl in
       record { answer = sym is; words = rw is refl; bytes = rw is refl }
 
-  module _ (h : length ws ≡ 5) (k : length key ≡ maxKey) where
+  module _ (h : length ws ≡ cursorCount) (k : length key ≡ maxKey) where
     enough : roomy ws key ≡ true
-    enough = rw (eq-eqb (length ws) 5 h, eq-eqb (length key) maxKey k) refl
+    enough = rw (eq-eqb (length ws) cursorCount h, eq-eqb (length key) maxKey k) refl
 
     pub iterator-put : {ws′ key′ : List ℕ} → ws′ ≡ cursorWords (viewOf c) → key′ ≡ c .key → PutsIterator c ws key true ws′ key′
     iterator-put w b = record { answer = sym enough; words = rw enough w; bytes = rw enough b }

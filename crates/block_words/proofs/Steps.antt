@@ -13,7 +13,7 @@ use Rattle.layout.specs.Laws.Answer.{ok-inj}
 use Rattle.types.specs.Answers.{apart}
 use Rattle.block_step_v2.specs.Says.{viewIn, row as row-told, none, toldOf, told, told-row, told-apart}
 use Rattle.block_step_v2.specs.declared.Place.{Place}
-use Rattle.row_words.specs.Words.{badWords, doneCode, codeOf, cursorIn, cursorWords, rowWords}
+use Rattle.row_words.specs.Words.{badWords, doneCode, codeOf, cursorIn, cursorWords, rowWords, rowCount}
 use Rattle.block_words.specs.Exports.{StepsAs, StepsFlat}
 
 -- ---- a step that is wanted of the cursor c, and the cursor d, key buffer and row that it left
@@ -54,17 +54,17 @@ told-refused (refuse n) k e = ap refuse (ap codeOf e)
 -- ---- the exports
 
 module _ (b ws key out row : List ℕ) where
-  pub steps-no-row : (length row ≡ 13 → ⊥) → StepsFlat b ws key out row badWords ws key out row
-  steps-no-row h = rw (ne-eqb (length row) 13 h) (record { answer = refl; state = refl; key-bytes = refl; lent = refl; row-words = refl })
+  pub steps-no-row : (length row ≡ rowCount → ⊥) → StepsFlat b ws key out row badWords ws key out row
+  steps-no-row h = rw (ne-eqb (length row) rowCount h) (record { answer = refl; state = refl; key-bytes = refl; lent = refl; row-words = refl })
 
-  pub steps-no-key : length row ≡ 13 → (length key ≡ maxKey → ⊥) → StepsFlat b ws key out row badWords ws key out row
-  steps-no-key h k = rw (eq-eqb (length row) 13 h, ne-eqb (length key) maxKey k) (record { answer = refl; state = refl; key-bytes = refl; lent = refl; row-words = refl })
+  pub steps-no-key : length row ≡ rowCount → (length key ≡ maxKey → ⊥) → StepsFlat b ws key out row badWords ws key out row
+  steps-no-key h k = rw (eq-eqb (length row) rowCount h, ne-eqb (length key) maxKey k) (record { answer = refl; state = refl; key-bytes = refl; lent = refl; row-words = refl })
 
-  pub steps-no-cursor : length row ≡ 13 → length key ≡ maxKey → cursorIn ws key ≡ refuse badWords → StepsFlat b ws key out row badWords ws key out row
+  pub steps-no-cursor : length row ≡ rowCount → length key ≡ maxKey → cursorIn ws key ≡ refuse badWords → StepsFlat b ws key out row badWords ws key out row
   steps-no-cursor h k e =
-      rw (eq-eqb (length row) 13 h, eq-eqb (length key) maxKey k, e) (record { answer = refl; state = refl; key-bytes = refl; lent = refl; row-words = refl })
+      rw (eq-eqb (length row) rowCount h, eq-eqb (length key) maxKey k, e) (record { answer = refl; state = refl; key-bytes = refl; lent = refl; row-words = refl })
 
-  module _ (p : Place) (h : length row ≡ 13) (k : length key ≡ maxKey) (is : cursorIn ws key ≡ ok (viewIn p key)) where
+  module _ (p : Place) (h : length row ≡ rowCount) (k : length key ≡ maxKey) (is : cursorIn ws key ≡ ok (viewIn p key)) where
     pub steps-asked : {code : ℕ} {ws′ key′ out′ row′ : List ℕ} → StepsAs (next (viewIn p key) b (length out)) ws key out row code ws′ key′ out′ row′
         → StepsFlat b ws key out row code ws′ key′ out′ row′
-    steps-asked s = rw (eq-eqb (length row) 13 h, eq-eqb (length key) maxKey k, is) s
+    steps-asked s = rw (eq-eqb (length row) rowCount h, eq-eqb (length key) maxKey k, is) s

@@ -10,7 +10,7 @@ use Rattle.layout.specs.Place.{splice}
 use Rattle.layout.specs.Row.{Fields}
 use Rattle.layout.specs.Builder.{Builder, add, dataAfter, placesAfter}
 use Rattle.layout.specs.Cursor.{Cursor, Answer, found, done, Step, next, keyAfter}
-use Rattle.row_words.specs.Words.{doneCode, codeOf, setBy, counted, cursorIn, cursorWords, builderFrom, builderWords, fieldsIn, rowWords}
+use Rattle.row_words.specs.Words.{doneCode, codeOf, setBy, counted, cursorIn, cursorWords, builderFrom, builderWords, fieldsIn, rowWords, builderCount, rowCount}
 
 -- a row that is added: the builder then, and what was offered with the key
 pub record Gain : Type 0 where
@@ -29,7 +29,7 @@ pub record AddsAs (want : Res Gain) (v : Builder) (key : Key) (ws last bytes pla
 
 abbrev pub AddsFlat : List ℕ → Key → List ℕ → List ℕ → Key → List ℕ → List ℕ → ℕ → List ℕ → List ℕ → List ℕ → List ℕ → Type 0
 AddsFlat ws last bytes places key value fs code ws′ last′ bytes′ places′ =
-    AddsAs (counted ws 6 (counted last maxKey (bind (fieldsIn fs value) λ f. gain (builderFrom ws last) bytes places key f))) (builderFrom ws last) key ws last bytes places
+    AddsAs (counted ws builderCount (counted last maxKey (bind (fieldsIn fs value) λ f. gain (builderFrom ws last) bytes places key f))) (builderFrom ws last) key ws last bytes places
     code ws′ last′ bytes′ places′
 
 -- the key's bytes beside the cursor that a call leaves: those of its key; a refusal leaves them all
@@ -59,4 +59,4 @@ pub record StepsAs (want : Res Step) (ws key out row : List ℕ) (code : ℕ) (w
 
 abbrev pub StepsFlat : List ℕ → List ℕ → List ℕ → List ℕ → List ℕ → ℕ → List ℕ → List ℕ → List ℕ → List ℕ → Type 0
 StepsFlat b ws key out row code ws′ key′ out′ row′ =
-    StepsAs (counted row 13 (counted key maxKey (bind (cursorIn ws key) λ c. next c b (length out)))) ws key out row code ws′ key′ out′ row′
+    StepsAs (counted row rowCount (counted key maxKey (bind (cursorIn ws key) λ c. next c b (length out)))) ws key out row code ws′ key′ out′ row′

@@ -16,7 +16,7 @@ use Rattle.block_iterator_v2.specs.declared.BlockIteratorV2.{BlockIteratorV2}
 use Rattle.block_words.specs.declared.OrderRead.{OrderRead}
 use Rattle.block_words.specs.declared.CursorRead.{CursorRead}
 use Rattle.block_words.specs.declared.StateRead.{StateRead}
-use Rattle.row_words.specs.Words.{counted, cursorIn}
+use Rattle.row_words.specs.Words.{counted, cursorIn, rowCount}
 use Rattle.block_words.specs.Says.{saysOrdered-one, saysCursor-one, saysState-one}
 use Rattle.block_words.specs.Promise.{LoadsOrder, LoadsCursor, PutsCursor, PutsIterator, LoadsState, PutsState, MakesOver}
 use Rattle.block_words.specs.Exports.{AddsFlat, KeyLeft, StepsFlat}
@@ -74,11 +74,11 @@ same-key (refuse n) left key ks ls m l = m ∙ sym l
 -- a step, in place and by value
 pub next-settled : (b ws key out row : List ℕ) (c d : ℕ) (vs us ks ls ys zs rs qs : List ℕ)
     → StepsFlat b ws key out row c vs ks ys rs → StepsFlat b ws key out row d us ls zs qs
-    → (c ≡ d) × (vs ≡ us) × SameKey (counted row 13 (counted key maxKey (bind (cursorIn ws key) λ k. next k b (length out)))) (λ s. s .cursor) ks ls × (ys ≡ zs) × (rs ≡ qs)
+    → (c ≡ d) × (vs ≡ us) × SameKey (counted row rowCount (counted key maxKey (bind (cursorIn ws key) λ k. next k b (length out)))) (λ s. s .cursor) ks ls × (ys ≡ zs) × (rs ≡ qs)
 next-settled b ws key out row c d vs us ks ls ys zs rs qs m l = (
   m .answer ∙ sym (l .answer),
   m .state ∙ sym (l .state),
-  same-key (counted row 13 (counted key maxKey (bind (cursorIn ws key) λ k. next k b (length out)))) (λ s. s .cursor) key ks ls (m .key-bytes) (l .key-bytes),
+  same-key (counted row rowCount (counted key maxKey (bind (cursorIn ws key) λ k. next k b (length out)))) (λ s. s .cursor) key ks ls (m .key-bytes) (l .key-bytes),
   m .lent ∙ sym (l .lent),
   m .row-words ∙ sym (l .row-words),
 )

@@ -19,7 +19,7 @@ use Rattle.block_iterator_v2.specs.declared.BlockIteratorV2.{BlockIteratorV2}
 use Rattle.block_words.specs.declared.OrderRead.{OrderRead}
 use Rattle.block_words.specs.declared.CursorRead.{CursorRead}
 use Rattle.block_words.specs.declared.StateRead.{StateRead}
-use Rattle.row_words.specs.Words.{counted, orderIn, cursorIn, cursorWords, builderWords}
+use Rattle.row_words.specs.Words.{counted, orderIn, cursorIn, cursorWords, builderWords, builderCount, cursorCount}
 use Rattle.block_words.specs.Says.{saysOrdered, saysCursor, saysState, stateIn}
 use Rattle.row_words.specs.Promise.{Stores}
 
@@ -33,11 +33,11 @@ abbrev pub LoadsCursor : List ℕ → CursorRead → Type 0
 LoadsCursor ws r = (key : List ℕ) → saysCursor key r ≡ cursorIn ws key
 
 abbrev pub PutsCursor : Place → List ℕ → Bool → List ℕ → Type 0
-PutsCursor p ws r ws′ = Stores 5 (cursorWords (viewIn p [])) ws r ws′
+PutsCursor p ws r ws′ = Stores cursorCount (cursorWords (viewIn p [])) ws r ws′
 
 -- words and key bytes are as many as a cursor has
 abbrev pub roomy : List ℕ → List ℕ → Bool
-roomy ws key = cond (eqb (length ws) 5) (eqb (length key) maxKey) false
+roomy ws key = cond (eqb (length ws) cursorCount) (eqb (length key) maxKey) false
 
 pub record PutsIterator (c : BlockIteratorV2) (ws key : List ℕ) (r : Bool) (ws′ key′ : List ℕ) : Type 0 where
   pub answer : r ≡ roomy ws key
@@ -47,10 +47,10 @@ pub record PutsIterator (c : BlockIteratorV2) (ws key : List ℕ) (r : Bool) (ws
 -- ---- a builder
 
 abbrev pub LoadsState : List ℕ → StateRead → Type 0
-LoadsState ws r = saysState r ≡ counted ws 6 (ok (stateIn ws))
+LoadsState ws r = saysState r ≡ counted ws builderCount (ok (stateIn ws))
 
 abbrev pub PutsState : State → List ℕ → Bool → List ℕ → Type 0
-PutsState s ws r ws′ = Stores 6 (builderWords (viewFrom s [])) ws r ws′
+PutsState s ws r ws′ = Stores builderCount (builderWords (viewFrom s [])) ws r ws′
 
 -- the lent bytes lie at the start of the last key's, which are zeros; more than these are not copied
 abbrev pub MakesOver : State → List ℕ → BlockBuilderV2 → Type 0

@@ -19,7 +19,7 @@ use Rattle.types.specs.declared.ValueDeletable.the-variants.{Value, Tombstone, 
 use Rattle.row_decode_v2.specs.Says.{rowFrom}
 use Rattle.row_decode_v2.specs.declared.Row.{Row}
 use Rattle.row_size_v2.specs.declared.RowFields.{RowFields}
-use Rattle.row_words.specs.Words.{badWords, truthIn, wordAt, kindIn, timeIn, fieldsIn, heldWords, timeWords, rowWords}
+use Rattle.row_words.specs.Words.{badWords, truthIn, wordAt, kindIn, timeIn, fieldsIn, heldWords, timeWords, rowWords, fieldsCount, rowCount}
 use Rattle.row_words.specs.Says.{saysFields, heldFrom, timeWordsOf}
 use Rattle.row_words.specs.declared.FieldsRead.the-variants.{Is as IsFields}
 use Rattle.row_words.specs.declared.TimeWords.{TimeWords}
@@ -46,28 +46,28 @@ module _ (has w : ℕ) where
 
 -- ---- fields
 
-pub fields-short : (ws : List ℕ) → (length ws ≡ 6 → ⊥) → (v : List ℕ) → refuse badWords ≡ fieldsIn ws v
+pub fields-short : (ws : List ℕ) → (length ws ≡ fieldsCount → ⊥) → (v : List ℕ) → refuse badWords ≡ fieldsIn ws v
 unfolding fieldsIn
-fields-short ws h v = sym (counted-not ws 6 _ h)
+fields-short ws h v = sym (counted-not ws fieldsCount _ h)
 
-module _ (ws : List ℕ) (h : length ws ≡ 6) where
+module _ (ws : List ℕ) (h : length ws ≡ fieldsCount) where
   pub fields-no-kind : kindIn (wordAt ws 0) ≡ refuse badWords → (v : List ℕ) → refuse badWords ≡ fieldsIn ws v
   unfolding fieldsIn
-  fields-no-kind k v = sym (counted-so ws 6 _ h ∙ rw k refl)
+  fields-no-kind k v = sym (counted-so ws fieldsCount _ h ∙ rw k refl)
 
   pub fields-no-expire : {a : KindL} → kindIn (wordAt ws 0) ≡ ok a → timeIn (wordAt ws 2) (wordAt ws 3) ≡ refuse badWords → (v : List ℕ) → refuse badWords ≡ fieldsIn ws v
   unfolding fieldsIn
-  fields-no-expire k e v = sym (counted-so ws 6 _ h ∙ rw (k, e) refl)
+  fields-no-expire k e v = sym (counted-so ws fieldsCount _ h ∙ rw (k, e) refl)
 
   pub fields-no-create : {a : KindL} {b : TimeL} → kindIn (wordAt ws 0) ≡ ok a → timeIn (wordAt ws 2) (wordAt ws 3) ≡ ok b → timeIn (wordAt ws 4) (wordAt ws 5) ≡ refuse badWords
       → (v : List ℕ) → refuse badWords ≡ fieldsIn ws v
   unfolding fieldsIn
-  fields-no-create k e c v = sym (counted-so ws 6 _ h ∙ rw (k, e, c) refl)
+  fields-no-create k e c v = sym (counted-so ws fieldsCount _ h ∙ rw (k, e, c) refl)
 
   pub fields-loaded : (f : RowFields) → kindIn (wordAt ws 0) ≡ ok (saysKind (f .kind)) → timeIn (wordAt ws 2) (wordAt ws 3) ≡ ok (saysTime (f .expire))
       → timeIn (wordAt ws 4) (wordAt ws 5) ≡ ok (saysTime (f .create)) → f .seq ≡ wordAt ws 1 → (v : List ℕ) → saysFields v (IsFields f) ≡ fieldsIn ws v
   unfolding fieldsIn
-  fields-loaded f k e c s v = sym (counted-so ws 6 _ h ∙ rw (k, e, c, s) refl)
+  fields-loaded f k e c s v = sym (counted-so ws fieldsCount _ h ∙ rw (k, e, c, s) refl)
 
 -- a time's words
 pub timed : (t : Time) (z : ℤ) (b : ℕ) → t ≡ At z → b ≡ bits z → _≡_ {A = TimeWords} (record { has = 1; bits = b }) (timeWordsOf t)
@@ -95,7 +95,7 @@ row-words r =
     ∙ held-words (r .held) (r .seq ∷ timeWords (saysTime (r .expire)) (timeWords (saysTime (r .create)) [])))
 
 -- a row's words, all stored
-pub row-stored : (ws : List ℕ) (r : Row) → length ws ≡ 13
+pub row-stored : (ws : List ℕ) (r : Row) → length ws ≡ rowCount
     → set (set (set (set (set (set (set (set (set (set (set (set (set ws 0 (r .start)) 1 (r .next)) 2 (r .shared)) 3 (r .«suffix_at»)) 4 (r .«suffix_len»)) 5 (heldFrom (r .held) .kind)) 6 (heldFrom (r .held) .start)) 7 (heldFrom (r .held) .len)) 8 (r .seq)) 9 (timeWordsOf (r .expire) .has)) 10 (timeWordsOf (r .expire) .bits)) 11 (timeWordsOf (r .create) .has)) 12 (timeWordsOf (r .create) .bits)
     ≡ rowWords (rowFrom r)
 row-stored ws r h =

@@ -31,6 +31,19 @@ setBy (refuse n) f old = old
 
 -- ---- words
 
+-- how many there are of each
+abbrev pub cursorCount : ℕ
+cursorCount = 5
+
+abbrev pub builderCount : ℕ
+builderCount = 6
+
+abbrev pub fieldsCount : ℕ
+fieldsCount = 6
+
+abbrev pub rowCount : ℕ
+rowCount = 13
+
 abbrev pub wordAt : List ℕ → ℕ → ℕ
 wordAt ws i = getD ws i 0
 
@@ -62,7 +75,7 @@ cursorFrom ws key d m = record { direction = d; region = wordAt ws 1; at = wordA
 
 unfoldable pub cursorIn : List ℕ → Key → Res Cursor
 cursorIn ws key =
-    counted ws 5
+    counted ws cursorCount
     (bind (orderIn (wordAt ws 0)) λ d.
     bind (truthIn (wordAt ws 4)) λ m.
     ok (cursorFrom ws key d m))
@@ -85,7 +98,7 @@ builderFrom ws last =
     }
 
 abbrev pub builderIn : List ℕ → Key → Res Builder
-builderIn ws last = counted ws 6 (ok (builderFrom ws last))
+builderIn ws last = counted ws builderCount (ok (builderFrom ws last))
 
 abbrev pub builderWords : Builder → List ℕ
 builderWords v = v .size ∷ v .interval ∷ v .used ∷ v .restarts ∷ v .rows ∷ v .lastLen ∷ []
@@ -103,7 +116,7 @@ timeIn has w = bind (truthIn has) λ b. ok (timeFrom w b)
 
 unfoldable pub fieldsIn : List ℕ → List ℕ → Res Fields
 fieldsIn ws v =
-    counted ws 6
+    counted ws fieldsCount
     (bind (kindIn (wordAt ws 0)) λ k.
     bind (timeIn (wordAt ws 2) (wordAt ws 3)) λ e.
     bind (timeIn (wordAt ws 4) (wordAt ws 5)) λ c.

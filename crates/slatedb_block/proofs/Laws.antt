@@ -42,7 +42,7 @@ use Rattle.block_iterator_v2.specs.declared.SeekAnswer.the-variants.{Landed, Do
 use Rattle.block_iterator_v2.specs.declared.BlockIteratorV2.{BlockIteratorV2}
 use Rattle.block_step_v2.specs.declared.Place.{Place}
 use Rattle.block_step_v2.specs.Says.{viewIn}
-use Rattle.row_words.specs.Words.{badWords, doneCode, codeOf, truthWord, orderIn, cursorIn, cursorWords, builderFrom, builderWords}
+use Rattle.row_words.specs.Words.{badWords, doneCode, codeOf, truthWord, orderIn, cursorIn, cursorWords, builderFrom, builderWords, builderCount, cursorCount}
 use Rattle.block_words.specs.Says.{iteratorFrom, builderAlone, stateIn}
 use Rattle.row_words.proofs.Laws.{counted-not, counted-so}
 use Rattle.row_words.specs.Flat.{sets-good, sets-refused}
@@ -59,64 +59,64 @@ tells-refused e q = rw (e, q) (record { answer = refl; number = refl })
 
 -- ---- building a block
 
-pub makes-short : (ws : List ℕ) (size interval : ℕ) → (length ws ≡ 6 → ⊥) → MakesFlat ws size interval badWords ws
-makes-short ws size interval h = sets-refused (counted-not ws 6 (newBuilder size interval) h) refl
+pub makes-short : (ws : List ℕ) (size interval : ℕ) → (length ws ≡ builderCount → ⊥) → MakesFlat ws size interval badWords ws
+makes-short ws size interval h = sets-refused (counted-not ws builderCount (newBuilder size interval) h) refl
 
-module _ (ws : List ℕ) (size interval : ℕ) (r : New) (h : length ws ≡ 6) (m : Makes size interval r) where
+module _ (ws : List ℕ) (size interval : ℕ) (r : New) (h : length ws ≡ builderCount) (m : Makes size interval r) where
   pub makes-good : {ws′ : List ℕ} → r .answer ≡ GoodMade → ws′ ≡ builderWords (viewOfBuilder (r .builder)) → MakesFlat ws size interval 0 ws′
   makes-good e q =
       let w = whether-good (newBuilder size interval) (viewOfBuilder (r .builder)) (yes saysMade (m .answer) e) (λ a z. m .view ∙ ap built z) in
-      sets-good (viewOfBuilder (r .builder)) (counted-so ws 6 (newBuilder size interval) h ∙ w) q
+      sets-good (viewOfBuilder (r .builder)) (counted-so ws builderCount (newBuilder size interval) h ∙ w) q
 
   pub makes-refused : {x : Refusal} {code : ℕ} → r .answer ≡ MadeRefused x → code ≡ number x → MakesFlat ws size interval code ws
-  makes-refused {x} e q = sets-refused (counted-so ws 6 (newBuilder size interval) h ∙ whether-refused (newBuilder size interval) (number x) (yes saysMade (m .answer) e)) q
+  makes-refused {x} e q = sets-refused (counted-so ws builderCount (newBuilder size interval) h ∙ whether-refused (newBuilder size interval) (number x) (yes saysMade (m .answer) e)) q
 
-pub empties-short : (ws : List ℕ) (n : ℕ) → (length ws ≡ 6 → ⊥) → EmptiesFlat ws n badWords n
-empties-short ws n h = tells-refused (rw (ne-eqb (length ws) 6 h) refl) refl
+pub empties-short : (ws : List ℕ) (n : ℕ) → (length ws ≡ builderCount → ⊥) → EmptiesFlat ws n badWords n
+empties-short ws n h = tells-refused (rw (ne-eqb (length ws) builderCount h) refl) refl
 
-pub empties : (ws : List ℕ) (n x : ℕ) (b : Bool) → length ws ≡ 6 → b ≡ isEmptyBuilder (viewOfBuilder (builderAlone (stateIn ws))) → x ≡ truthWord b → EmptiesFlat ws n 0 x
+pub empties : (ws : List ℕ) (n x : ℕ) (b : Bool) → length ws ≡ builderCount → b ≡ isEmptyBuilder (viewOfBuilder (builderAlone (stateIn ws))) → x ≡ truthWord b → EmptiesFlat ws n 0 x
 unfolding isEmptyBuilder
-empties ws n x b h e q = rw (q, e) (tells-good (rw (eq-eqb (length ws) 6 h) refl))
+empties ws n x b h e q = rw (q, e) (tells-good (rw (eq-eqb (length ws) builderCount h) refl))
 
-pub builds-short : (ws bytes places : List ℕ) (n : ℕ) → (length ws ≡ 6 → ⊥) → BuildsFlat ws bytes places n badWords bytes n
-builds-short ws bytes places n h = rw (ne-eqb (length ws) 6 h) (record { told = record { answer = refl; number = refl }; bytes-after = refl })
+pub builds-short : (ws bytes places : List ℕ) (n : ℕ) → (length ws ≡ builderCount → ⊥) → BuildsFlat ws bytes places n badWords bytes n
+builds-short ws bytes places n h = rw (ne-eqb (length ws) builderCount h) (record { told = record { answer = refl; number = refl }; bytes-after = refl })
 
 -- a builder whose last key's bytes are not lent builds what any other builds
 built-any : (ws : List ℕ) (dataLen placesLen : ℕ) → build (viewOfBuilder (builderAlone (stateIn ws))) dataLen placesLen ≡ build (builderFrom ws []) dataLen placesLen
 unfolding build stateTests
 built-any ws dataLen placesLen = refl
 
-module _ (ws bytes places bytes′ : List ℕ) (n : ℕ) (r : Built) (h : length ws ≡ 6) (b : Builds (builderAlone (stateIn ws)) bytes places r bytes′) where
+module _ (ws bytes places bytes′ : List ℕ) (n : ℕ) (r : Built) (h : length ws ≡ builderCount) (b : Builds (builderAlone (stateIn ws)) bytes places r bytes′) where
   pub builds-block : {k : ℕ} → r .answer ≡ Block k → BuildsFlat ws bytes places n 0 bytes′ k
   builds-block {k} e =
       let w = yes saysBuild (b .answer) e in
       let v = sym (built-any ws (length bytes) (length places)) ∙ w in
       let after = rw w at (b .bytes-after) in
-      rw (eq-eqb (length ws) 6 h, v) (record { told = record { answer = refl; number = refl }; bytes-after = after })
+      rw (eq-eqb (length ws) builderCount h, v) (record { told = record { answer = refl; number = refl }; bytes-after = after })
 
   pub builds-refused : {x : Refusal} {code : ℕ} → r .answer ≡ BuildRefused x → code ≡ number x → BuildsFlat ws bytes places n code bytes′ n
   builds-refused {x} e q =
       let w = yes saysBuild (b .answer) e in
       let v = sym (built-any ws (length bytes) (length places)) ∙ w in
       let after = rw w at (b .bytes-after) in
-      rw (eq-eqb (length ws) 6 h, v, q) (record { told = record { answer = refl; number = refl }; bytes-after = after })
+      rw (eq-eqb (length ws) builderCount h, v, q) (record { told = record { answer = refl; number = refl }; bytes-after = after })
 
 -- ---- opening
 
-pub opens-short : (b : List ℕ) (order : ℕ) (ws : List ℕ) → (length ws ≡ 5 → ⊥) → OpensFlat b order ws badWords ws
-opens-short b order ws h = sets-refused (counted-not ws 5 _ h) refl
+pub opens-short : (b : List ℕ) (order : ℕ) (ws : List ℕ) → (length ws ≡ cursorCount → ⊥) → OpensFlat b order ws badWords ws
+opens-short b order ws h = sets-refused (counted-not ws cursorCount _ h) refl
 
-pub opens-no-order : (b : List ℕ) (order : ℕ) (ws : List ℕ) → length ws ≡ 5 → orderIn order ≡ refuse badWords → OpensFlat b order ws badWords ws
-opens-no-order b order ws h o = sets-refused (counted-so ws 5 _ h ∙ rw o refl) refl
+pub opens-no-order : (b : List ℕ) (order : ℕ) (ws : List ℕ) → length ws ≡ cursorCount → orderIn order ≡ refuse badWords → OpensFlat b order ws badWords ws
+opens-no-order b order ws h o = sets-refused (counted-so ws cursorCount _ h ∙ rw o refl) refl
 
-module _ (b : List ℕ) (order : ℕ) (ws : List ℕ) (r : Opened) (o : IterationOrder) (h : length ws ≡ 5) (is : orderIn order ≡ ok (saysOrder o)) (opens : Opens b o r) where
+module _ (b : List ℕ) (order : ℕ) (ws : List ℕ) (r : Opened) (o : IterationOrder) (h : length ws ≡ cursorCount) (is : orderIn order ≡ ok (saysOrder o)) (opens : Opens b o r) where
   pub opens-good : {ws′ : List ℕ} → r .answer ≡ GoodOpen → ws′ ≡ cursorWords (viewOf (r .iterator)) → OpensFlat b order ws 0 ws′
   opens-good e q =
       let w = whether-good (openBlock b (saysOrder o)) (viewOf (r .iterator)) (yes saysOpen (opens .answer) e) (λ a z. opens .view ∙ ap (cursorOr (saysOrder o)) z) in
-      sets-good (viewOf (r .iterator)) (counted-so ws 5 _ h ∙ rw is w) q
+      sets-good (viewOf (r .iterator)) (counted-so ws cursorCount _ h ∙ rw is w) q
 
   pub opens-refused : {x : Refusal} {code : ℕ} → r .answer ≡ OpenRefused x → code ≡ number x → OpensFlat b order ws code ws
-  opens-refused {x} e q = sets-refused (counted-so ws 5 _ h ∙ rw is (whether-refused (openBlock b (saysOrder o)) (number x) (yes saysOpen (opens .answer) e))) q
+  opens-refused {x} e q = sets-refused (counted-so ws cursorCount _ h ∙ rw is (whether-refused (openBlock b (saysOrder o)) (number x) (yes saysOpen (opens .answer) e))) q
 
 -- ---- asking whether a row is left: the key's bytes tell nothing
 

@@ -34,7 +34,7 @@ use Rattle.block_grow_v2.specs.declared.Fit.the-variants.{Yes, Refused as FitRe
 use Rattle.block_grow_v2.specs.declared.Grown.{Grown}
 use Rattle.block_grow_v2.specs.declared.Grown.the-variants.{Row as GrownRow, Refused as GrownRefused}
 use Rattle.block_grow_v2.specs.declared.State.{State}
-use Rattle.row_words.specs.Words.{badWords, codeOf, builderFrom, builderWords, fieldsIn, rowWords}
+use Rattle.row_words.specs.Words.{badWords, codeOf, builderFrom, builderWords, fieldsIn, rowWords, builderCount, rowCount}
 use Rattle.block_words.specs.Says.{stateIn}
 use Rattle.block_words.specs.Exports.{AddsFlat}
 use Rattle.row_words.proofs.Laws.{counted-not, counted-so}
@@ -68,35 +68,35 @@ module _ (prevLen shared : ℕ) (suffix value fs out : List ℕ) (n : ℕ) where
 -- ---- decode
 
 module _ (s : List ℕ) (prevLen : ℕ) (row : List ℕ) where
-  pub decodes-short : (length row ≡ 13 → ⊥) → DecodesFlat s prevLen row badWords row
-  decodes-short h = sets-refused (counted-not row 13 (decodeRow s prevLen) h) refl
+  pub decodes-short : (length row ≡ rowCount → ⊥) → DecodesFlat s prevLen row badWords row
+  decodes-short h = sets-refused (counted-not row rowCount (decodeRow s prevLen) h) refl
 
-  module _ (a : RowRead) (h : length row ≡ 13) (d : Decodes s prevLen a) where
+  module _ (a : RowRead) (h : length row ≡ rowCount) (d : Decodes s prevLen a) where
     pub decodes-good : {r : Row} {row′ : List ℕ} → a ≡ ReadRow r → row′ ≡ rowWords (rowFrom r) → DecodesFlat s prevLen row 0 row′
-    decodes-good {r} e q = sets-good (rowFrom r) (counted-so row 13 (decodeRow s prevLen) h ∙ yes saysRow d e) q
+    decodes-good {r} e q = sets-good (rowFrom r) (counted-so row rowCount (decodeRow s prevLen) h ∙ yes saysRow d e) q
 
     pub decodes-refused : {x : Refusal} {code : ℕ} → a ≡ RowRefused x → code ≡ number x → DecodesFlat s prevLen row code row
-    decodes-refused {x} e q = sets-refused (counted-so row 13 (decodeRow s prevLen) h ∙ yes saysRow d e) q
+    decodes-refused {x} e q = sets-refused (counted-so row rowCount (decodeRow s prevLen) h ∙ yes saysRow d e) q
 
 -- ---- the fit question
 
 module _ (ws last : List ℕ) (dataLen placesLen : ℕ) (key value fs : List ℕ) where
-  pub fits-short : (length ws ≡ 6 → ⊥) → FitsFlat ws last dataLen placesLen key value fs badWords
-  fits-short h = rw (ne-eqb (length ws) 6 h) refl
+  pub fits-short : (length ws ≡ builderCount → ⊥) → FitsFlat ws last dataLen placesLen key value fs badWords
+  fits-short h = rw (ne-eqb (length ws) builderCount h) refl
 
-  pub fits-no-key : length ws ≡ 6 → (length last ≡ maxKey → ⊥) → FitsFlat ws last dataLen placesLen key value fs badWords
-  fits-no-key h k = rw (eq-eqb (length ws) 6 h, ne-eqb (length last) maxKey k) refl
+  pub fits-no-key : length ws ≡ builderCount → (length last ≡ maxKey → ⊥) → FitsFlat ws last dataLen placesLen key value fs badWords
+  fits-no-key h k = rw (eq-eqb (length ws) builderCount h, ne-eqb (length last) maxKey k) refl
 
-  pub fits-bad : length ws ≡ 6 → length last ≡ maxKey → fieldsIn fs value ≡ refuse badWords → FitsFlat ws last dataLen placesLen key value fs badWords
-  fits-bad h k e = rw (eq-eqb (length ws) 6 h, eq-eqb (length last) maxKey k, e) refl
+  pub fits-bad : length ws ≡ builderCount → length last ≡ maxKey → fieldsIn fs value ≡ refuse badWords → FitsFlat ws last dataLen placesLen key value fs badWords
+  fits-bad h k e = rw (eq-eqb (length ws) builderCount h, eq-eqb (length last) maxKey k, e) refl
 
-  module _ (f : RowFields) (a : Fit) (h : length ws ≡ 6) (k : length last ≡ maxKey) (is : fieldsIn fs value ≡ ok (fieldsFrom f value))
+  module _ (f : RowFields) (a : Fit) (h : length ws ≡ builderCount) (k : length last ≡ maxKey) (is : fieldsIn fs value ≡ ok (fieldsFrom f value))
       (p : Fits (builderOver (stateIn ws) last) dataLen placesLen key value f a) where
     pub fits-yes : a ≡ Yes → FitsFlat ws last dataLen placesLen key value fs 0
-    fits-yes e = rw (eq-eqb (length ws) 6 h, eq-eqb (length last) maxKey k, is) (sym (ap codeOf (yes saysFit p e)))
+    fits-yes e = rw (eq-eqb (length ws) builderCount h, eq-eqb (length last) maxKey k, is) (sym (ap codeOf (yes saysFit p e)))
 
     pub fits-refused : {x : Refusal} {code : ℕ} → a ≡ FitRefused x → code ≡ number x → FitsFlat ws last dataLen placesLen key value fs code
-    fits-refused {x} e q = rw (eq-eqb (length ws) 6 h, eq-eqb (length last) maxKey k, is) (q ∙ sym (ap codeOf (yes saysFit p e)))
+    fits-refused {x} e q = rw (eq-eqb (length ws) builderCount h, eq-eqb (length last) maxKey k, is) (q ∙ sym (ap codeOf (yes saysFit p e)))
 
 -- ---- adding a row in place
 
@@ -108,7 +108,7 @@ ungrown : (want : Res Builder) (k : ℕ) → (bind want λ v. ok (stateFrom v)) 
 ungrown (ok w) k e = absurd (apart e)
 ungrown (refuse n) k e = ap refuse (ap codeOf e)
 
-module _ (ws last bytes places key value fs : List ℕ) (f : RowFields) (h : length ws ≡ 6) (k : length last ≡ maxKey) (is : fieldsIn fs value ≡ ok (fieldsFrom f value)) where
+module _ (ws last bytes places key value fs : List ℕ) (f : RowFields) (h : length ws ≡ builderCount) (k : length last ≡ maxKey) (is : fieldsIn fs value ≡ ok (fieldsFrom f value)) where
   abbrev wanted : Res Builder
   wanted = addWanted ws last bytes places key value f
 

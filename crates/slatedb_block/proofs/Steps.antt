@@ -18,12 +18,12 @@ use Rattle.block_step_v2.specs.Says.{viewIn, saysMoved, placeAfter}
 use Rattle.block_step_v2.specs.declared.Moved.{Moved}
 use Rattle.block_step_v2.specs.declared.Moved.the-variants.{Found, Done, Refused}
 use Rattle.block_step_v2.specs.declared.Place.{Place}
-use Rattle.row_words.specs.Words.{doneCode, cursorIn, cursorWords, rowWords}
+use Rattle.row_words.specs.Words.{doneCode, cursorIn, cursorWords, rowWords, rowCount}
 use Rattle.block_words.specs.Exports.{StepsFlat}
 use Rattle.slatedb_block.specs.Says.{PutsMoved}
 use Rattle.block_words.proofs.Steps.{stepped, ended, refused, told-refused, steps-asked}
 
-module _ (b ws key out row : List ℕ) (p : Place) (h : length row ≡ 13) (k : length key ≡ maxKey) (is : cursorIn ws key ≡ ok (viewIn p key)) where
+module _ (b ws key out row : List ℕ) (p : Place) (h : length row ≡ rowCount) (k : length key ≡ maxKey) (is : cursorIn ws key ≡ ok (viewIn p key)) where
   module _ (r : Moved) (key′ out′ : List ℕ) (m : StepsInPlace p key b out r key′ out′) where
     whole : Moves (next (viewIn p key) b (length out)) p key out r key′ out′
     whole = rw (lent-whole p key b (length out) k refl) at m

@@ -14,7 +14,7 @@ use Rattle.layout.specs.Builder.{Builder, newBuilder, isEmpty as isEmptyBuilder
 use Rattle.layout.specs.Check.{check}
 use Rattle.layout.specs.Cursor.{openBlock, isEmpty}
 use Rattle.layout.specs.Seek.{Sought, seek}
-use Rattle.row_words.specs.Words.{doneCode, codeOf, setBy, counted, truthWord, orderIn, cursorIn, cursorWords, builderFrom, builderIn, builderWords, fieldsIn, rowWords}
+use Rattle.row_words.specs.Words.{doneCode, codeOf, setBy, counted, truthWord, orderIn, cursorIn, cursorWords, builderFrom, builderIn, builderWords, fieldsIn, rowWords, builderCount, cursorCount, rowCount}
 use Rattle.row_words.specs.Flat.{Sets}
 use Rattle.block_words.specs.Exports.{KeyLeft}
 
@@ -34,16 +34,16 @@ abbrev pub EncodesFlat : ℕ → ℕ → List ℕ → List ℕ → List ℕ → 
 EncodesFlat prevLen shared suffix value fs out n code out′ n′ = Lays (bind (fieldsIn fs value) λ f. encodeRow prevLen shared suffix f (length out)) out n code out′ n′
 
 abbrev pub DecodesFlat : List ℕ → ℕ → List ℕ → ℕ → List ℕ → Type 0
-DecodesFlat s prevLen row code row′ = Sets (counted row 13 (decodeRow s prevLen)) rowWords row code row′
+DecodesFlat s prevLen row code row′ = Sets (counted row rowCount (decodeRow s prevLen)) rowWords row code row′
 
 -- ---- building a block
 
 abbrev pub MakesFlat : List ℕ → ℕ → ℕ → ℕ → List ℕ → Type 0
-MakesFlat ws size interval code ws′ = Sets (counted ws 6 (newBuilder size interval)) builderWords ws code ws′
+MakesFlat ws size interval code ws′ = Sets (counted ws builderCount (newBuilder size interval)) builderWords ws code ws′
 
 abbrev pub FitsFlat : List ℕ → Key → ℕ → ℕ → Key → List ℕ → List ℕ → ℕ → Type 0
 FitsFlat ws last dataLen placesLen key value fs code =
-    code ≡ codeOf (counted ws 6 (counted last maxKey (bind (fieldsIn fs value) λ f. wouldFit (builderFrom ws last) dataLen placesLen key f)))
+    code ≡ codeOf (counted ws builderCount (counted last maxKey (bind (fieldsIn fs value) λ f. wouldFit (builderFrom ws last) dataLen placesLen key f)))
 
 -- the bytes of the last key tell nothing: none are lent
 abbrev pub EmptiesFlat : List ℕ → ℕ → ℕ → ℕ → Type 0
@@ -62,7 +62,7 @@ abbrev pub ChecksFlat : List ℕ → ℕ → ℕ → ℕ → Type 0
 ChecksFlat b n code n′ = Tells (check b) n code n′
 
 abbrev pub OpensFlat : List ℕ → ℕ → List ℕ → ℕ → List ℕ → Type 0
-OpensFlat b order ws code ws′ = Sets (counted ws 5 (bind (orderIn order) λ d. openBlock b d)) cursorWords ws code ws′
+OpensFlat b order ws code ws′ = Sets (counted ws cursorCount (bind (orderIn order) λ d. openBlock b d)) cursorWords ws code ws′
 
 abbrev pub TellsFlat : List ℕ → List ℕ → ℕ → ℕ → ℕ → Type 0
 TellsFlat b ws n code n′ = Tells (bind (cursorIn ws []) λ c. bind (isEmpty c b) λ e. ok (truthWord e)) n code n′

@@ -6,6 +6,7 @@ ghost use lib.ListN.{length};
 ghost use Rattle.block_v2.specs.Promise.{Makes};
 ghost use Rattle.block_words.specs.Exports.{AddsFlat, StepsFlat};
 ghost use Rattle.block_words.specs.Says.{builderAlone, iteratorFrom};
+ghost use Rattle.row_words.specs.Words.{builderCount, cursorCount, rowCount};
 ghost use Rattle.slatedb_block.specs.Says.{PutsGrown, PutsMoved, TellsSought};
 ghost use Rattle.slatedb_block.specs.Promise.{EncodesFlat, DecodesFlat, MakesFlat, FitsFlat, EmptiesFlat, BuildsFlat, ChecksFlat, OpensFlat, TellsFlat, SeeksFlat};
 use block_check_v2::Checked;
@@ -145,7 +146,7 @@ pub extern "C" fn slatedb_builder_would_fit(
 
 // Puts the builder with the row back.
 fn put_grown(builder: &mut [u64], grown: Grown) -> u8
-    requires { ⌜ length (now builder) ≡ 6 ⌝ }
+    requires { ⌜ length (now builder) ≡ builderCount ⌝ }
     ensures { λ r. ⌜ PutsGrown grown (now (builder .entry)) r (now (builder .exit)) ⌝ }
 {
     match grown {
@@ -317,7 +318,7 @@ pub extern "C" fn slatedb_is_empty(block: &[u8], cursor: &[u64], empty: &mut u64
 
 // Puts the cursor that moved back, and the row that was found.
 fn put_moved(cursor: &mut [u64], row: &mut [u64], moved: Moved) -> u8
-    requires { ⌜ (length (now cursor) ≡ 5) × (length (now row) ≡ 13) ⌝ }
+    requires { ⌜ (length (now cursor) ≡ cursorCount) × (length (now row) ≡ rowCount) ⌝ }
     ensures { λ r. ⌜ PutsMoved moved (now (cursor .entry)) (now (row .entry)) r (now (cursor .exit)) (now (row .exit)) ⌝ }
 {
     match moved {

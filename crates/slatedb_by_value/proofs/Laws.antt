@@ -27,7 +27,7 @@ use Rattle.block_iterator_v2.specs.Promise.{StepsNext}
 use Rattle.block_iterator_v2.specs.Says.{viewOf, saysNext}
 use Rattle.block_iterator_v2.specs.declared.Next.{Next}
 use Rattle.block_iterator_v2.specs.declared.NextAnswer.the-variants.{Found as NextFound, Done as NextDone, Refused as NextRefused}
-use Rattle.row_words.specs.Words.{doneCode, builderFrom, builderWords, cursorIn, cursorWords, fieldsIn, rowWords}
+use Rattle.row_words.specs.Words.{doneCode, builderFrom, builderWords, cursorIn, cursorWords, fieldsIn, rowWords, builderCount, rowCount}
 use Rattle.block_words.specs.Says.{iteratorOver, stateIn}
 use Rattle.block_words.specs.Exports.{AddsFlat, StepsFlat}
 use Rattle.block_words.proofs.Adds.{added, unadded, addWanted, adds-asked}
@@ -39,7 +39,7 @@ some : {A : Type 0} (want : Res A) → whether want ≡ ok tt → {C : Type 0} �
 some (ok w) e k = k w refl
 some (refuse n) e k = absurd (apart (sym e))
 
-module _ (ws last bytes places key value fs : List ℕ) (f : RowFields) (h : length ws ≡ 6) (k : length last ≡ maxKey) (is : fieldsIn fs value ≡ ok (fieldsFrom f value)) where
+module _ (ws last bytes places key value fs : List ℕ) (f : RowFields) (h : length ws ≡ builderCount) (k : length last ≡ maxKey) (is : fieldsIn fs value ≡ ok (fieldsFrom f value)) where
   abbrev wanted : Res Builder
   wanted = addWanted ws last bytes places key value f
 
@@ -62,7 +62,7 @@ module _ (ws last bytes places key value fs : List ℕ) (f : RowFields) (h : len
 
 -- ---- a step
 
-module _ (b ws key out row : List ℕ) (p : Place) (h : length row ≡ 13) (k : length key ≡ maxKey) (is : cursorIn ws key ≡ ok (viewIn p key)) where
+module _ (b ws key out row : List ℕ) (p : Place) (h : length row ≡ rowCount) (k : length key ≡ maxKey) (is : cursorIn ws key ≡ ok (viewIn p key)) where
   module _ (r : Next) (out′ : List ℕ) (s : StepsNext (iteratorOver p key) b out r out′) where
     pub next-found : {x : Row} {ws′ key′ row′ : List ℕ} → r .answer ≡ NextFound x → ws′ ≡ cursorWords (viewOf (r .iterator)) → key′ ≡ r .iterator .key → row′ ≡ rowWords (rowFrom x)
         → StepsFlat b ws key out row 0 ws′ key′ out′ row′

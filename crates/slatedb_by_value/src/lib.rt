@@ -5,6 +5,7 @@ ghost use lib.ListN.{length};
 ghost use Rattle.layout.specs.Limits.{maxKey};
 ghost use Rattle.block_words.specs.Exports.{AddsFlat, StepsFlat};
 ghost use Rattle.block_words.specs.Says.{iteratorOver};
+ghost use Rattle.row_words.specs.Words.{builderCount};
 ghost use Rattle.slatedb_by_value.specs.Says.{PutsBuilder};
 use block_iterator_v2::BlockIteratorV2;
 use block_iterator_v2::NextAnswer;
@@ -19,7 +20,7 @@ use row_words::FieldsRead;
 
 // Puts a builder back: its words, and its last key's bytes.
 fn put_added(builder: &mut [u64], last_key: &mut [u8], b: BlockBuilderV2)
-    requires { ⌜ (length (now builder) ≡ 6) × (length (now «last_key») ≡ maxKey) ⌝ }
+    requires { ⌜ (length (now builder) ≡ builderCount) × (length (now «last_key») ≡ maxKey) ⌝ }
     ensures { λ _. ⌜ PutsBuilder b (now (builder .exit)) (now («last_key» .exit)) ⌝ }
 {
     block_words::put_state(builder, block_v2::state_of(b));

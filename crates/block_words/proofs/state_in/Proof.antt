@@ -2,6 +2,7 @@
 -- Once their number is right no words are refused: each one that is read is the one that the definition names, and goes into its field unchanged.
 use mathlib.Core.Path.{sym}
 use Rattle.layout.specs.Answer.{ok}
+use Rattle.row_words.specs.Words.{builderCount}
 use Rattle.block_words.specs.Says.{stateIn}
 use Rattle.row_words.proofs.Laws.{counted-not, counted-so}
 use borrow.Author.Needs.{needs}
@@ -11,7 +12,7 @@ use Rattle.block_words.proofs.state_in.Tie as tie
 returns : tie.Need-returns
 returns c =
     let words = c .before .before .args .words .now in
-    sym (counted-not words 6 (ok (stateIn words)) (c .if1 .taken))
+    sym (counted-not words builderCount (ok (stateIn words)) (c .if1 .taken))
 
 shared-slice-read-size : tie.Need-shared-slice-read-size
 shared-slice-read-size c = search needs
@@ -54,7 +55,7 @@ returns-2 c =
     let after-size3 = c .before .before .before .before .before .before in
     let counted = after-size3 .before .before .before .before .before .before in
     let words = counted .before .before .args .words .now in
-    rw (after-size3 .before .before .before .before .size .ensures, after-size3 .before .before .size2 .ensures, after-size3 .size3 .ensures, c .before .before .before .before .size4 .ensures, c .before .before .size5 .ensures, c .size6 .ensures) (sym (counted-so words 6 (ok (stateIn words)) (counted .if1 .left)))
+    rw (after-size3 .before .before .before .before .size .ensures, after-size3 .before .before .size2 .ensures, after-size3 .size3 .ensures, c .before .before .before .before .size4 .ensures, c .before .before .size5 .ensures, c .size6 .ensures) (sym (counted-so words builderCount (ok (stateIn words)) (counted .if1 .left)))
 
 pub state-in-spec : {M : Type 1} → statement M
 state-in-spec =

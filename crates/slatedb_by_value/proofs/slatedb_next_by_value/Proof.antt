@@ -10,7 +10,7 @@ use Rattle.types.specs.Answers.{yes}
 use Rattle.block_step_v2.specs.Says.{viewIn}
 use Rattle.block_iterator_v2.specs.Says.{viewOf}
 use Rattle.block_iterator_v2.specs.declared.BlockIteratorV2.{BlockIteratorV2}
-use Rattle.row_words.specs.Words.{cursorIn, cursorWords}
+use Rattle.row_words.specs.Words.{cursorIn, cursorWords, cursorCount}
 use Rattle.block_words.specs.Says.{saysCursor}
 use Rattle.block_words.specs.Promise.{PutsIterator}
 use Rattle.block_words.proofs.Laws.{cursor-counts, put-words, put-bytes}
@@ -27,7 +27,7 @@ entry k = k .before .before .before .before .before .before .before .before .bef
 cursor-read : (k : tie.After-loaded) → cursorIn (entry k .args .cursor .now) (entry k .args .key .now) ≡ ok (viewIn (k .loaded .given .0 .0) (entry k .args .key .now))
 cursor-read k = yes (saysCursor (entry k .args .key .now)) (k .before .before .cursor-in .ensures (entry k .args .key .now)) (k .loaded .given .1)
 
-five-words : (k : tie.After-loaded) → length (entry k .args .cursor .now) ≡ 5
+five-words : (k : tie.After-loaded) → length (entry k .args .cursor .now) ≡ cursorCount
 five-words k = cursor-counts _ _ _ (cursor-read k)
 
 -- what is put back with the cursor
