@@ -105,7 +105,7 @@ fn start_refusal(a: StartRead) -> Refusal
 // ---- a step over the cursor's own key bytes
 
 // Lends the array as the bytes that a step works on.
-fn step(key: &mut [u8; types::MAX_KEY], p: Place, block: &[u8], out: &mut [u8]) -> Moved
+fn next_in_array(key: &mut [u8; types::MAX_KEY], p: Place, block: &[u8], out: &mut [u8]) -> Moved
     requires { ⌜ length (now key) ≡ maxKey ⌝ }
     ensures { λ r. ⌜ Moves (next (viewIn p (now (key .entry))) (now (block .entry)) (length (now (out .entry)))) p (now (key .entry)) (now (out .entry)) r (now (key .exit)) (now (out .exit)) ⌝ }
 {
@@ -220,6 +220,7 @@ impl BlockIteratorV2 {
     pub fn next(mut self, block: &[u8], out: &mut [u8]) -> Next
         ensures { λ r. ⌜ StepsNext self (now (block .entry)) (now (out .entry)) r (now (out .exit)) ⌝ }
     {
+        // By hand, not by `place_of`, which would take the key's array along.
         let order = self.order;
         let came = Place {
             order,
@@ -228,7 +229,7 @@ impl BlockIteratorV2 {
             key_len: self.key_len,
             done: self.done,
         };
-        let moved = step(&mut self.key, came, block, out);
+        let moved = next_in_array(&mut self.key, came, block, out);
         let place = place_after(moved, came);
         self.region = place.region;
         self.at = place.at;

@@ -110,7 +110,7 @@ impl BlockBuilderV2 {
     pub fn new(block_size: usize) -> New
         ensures { λ r. ⌜ Makes «block_size» defaultInterval r ⌝ }
     {
-        BlockBuilderV2::new_with_restart_interval(block_size, types::DEFAULT_INTERVAL)
+        BlockBuilderV2::new_with_restart_interval(block_size, types::DEFAULT_RESTART_INTERVAL)
     }
 
     // Creates a new builder with a custom restart interval: 8.

@@ -5,7 +5,7 @@ use mathlib.Core.List.{List}
 use lib.IntN.{ℤ}
 use Rattle.layout.specs.Fixed.{big, bits}
 use Rattle.buf_mut.specs.declared.Put.{Put}
-use Rattle.buf_mut.specs.Promise.{Puts}
+use Rattle.buf_mut.specs.Promise.{Puts, PlaceAfter}
 use Rattle.buf_mut.specs.Says.{saysPut-one}
 
 -- any bytes, and those of each writer
@@ -25,3 +25,6 @@ module _ (buf : List ℕ) (at : ℕ) (r q : Put) (ys zs : List ℕ) where
 
   pub copy-in-settled : (src : List ℕ) → Puts src buf at r ys → Puts src buf at q zs → (r ≡ q) × (ys ≡ zs)
   copy-in-settled src = puts-settled src buf at r q ys zs
+
+pub place-after-settled : (put : Put) (m n : ℕ) → PlaceAfter put m → PlaceAfter put n → m ≡ n
+place-after-settled put m n p q = p ∙ sym q

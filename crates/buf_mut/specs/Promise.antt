@@ -5,9 +5,13 @@ use mathlib.Core.List.{List}
 use lib.ListN.{length}
 use Rattle.layout.specs.Place.{putAt, afterPut}
 use Rattle.buf_mut.specs.declared.Put.{Put}
-use Rattle.buf_mut.specs.Says.{saysPut}
+use Rattle.buf_mut.specs.Says.{saysPut, placeAfter}
 
 -- a writer of the bytes w: its answer r, and the buffer that it leaves
 pub record Puts (w buf : List ℕ) (at : ℕ) (r : Put) (buf′ : List ℕ) : Type 0 where
   pub answer : saysPut r ≡ putAt (length buf) at w
   pub bytes : buf′ ≡ afterPut buf at w
+
+-- the place in a writer's answer
+abbrev pub PlaceAfter : Put → ℕ → Type 0
+PlaceAfter put r = r ≡ placeAfter put

@@ -12,6 +12,11 @@ abbrev pub saysPut : Put → Res ℕ
 saysPut (At n) = ok n
 saysPut (PutRefused r) = refuse (number r)
 
+-- what is taken out of an answer; the other case is never asked
+abbrev pub placeAfter : Put → ℕ
+placeAfter (At n) = n
+placeAfter (PutRefused r) = 0
+
 -- ---- one to one
 
 pub saysPut-one : (a b : Put) → saysPut a ≡ saysPut b → a ≡ b

@@ -3,13 +3,23 @@
 // with a place in it, each writer answers the place after what it wrote, and too little room is a refusal that writes nothing.
 ghost use Prim.Native.Nat.{_≤_};
 ghost use Rattle.layout.specs.Fixed.{big, bits};
-ghost use Rattle.buf_mut.specs.Promise.{Puts};
+ghost use Rattle.buf_mut.specs.Promise.{Puts, PlaceAfter};
 use types::Refusal;
 
 // The place after what was written.
 pub enum Put {
     At(usize),
     Refused(Refusal),
+}
+
+// The place after what was written, by those who have tested the room: to them no writer refuses.
+pub fn place_after(put: Put) -> usize
+    ensures { λ r. ⌜ PlaceAfter put r ⌝ }
+{
+    match put {
+        Put::At(next) => next,
+        Put::Refused(_) => 0,
+    }
 }
 
 // The lowest `n` bytes of `v`, high byte first.

@@ -76,11 +76,11 @@ fn two_rows(block_size: usize, restart_interval: usize) {
 
 pub fn blocks() {
     show::text(b"case 2\n");
-    two_rows(4096, types::DEFAULT_INTERVAL);
+    two_rows(4096, types::DEFAULT_RESTART_INTERVAL);
     show::text(b"case 3, block size 31\n");
-    two_rows(31, types::DEFAULT_INTERVAL);
+    two_rows(31, types::DEFAULT_RESTART_INTERVAL);
     show::text(b"case 3, block size 30\n");
-    two_rows(30, types::DEFAULT_INTERVAL);
+    two_rows(30, types::DEFAULT_RESTART_INTERVAL);
     show::text(b"case 4\n");
     two_rows(4096, 1);
 }

@@ -26,18 +26,18 @@ fn write_lengths(
     requires { ⌜ at + length (lengthBytes shared «suffix_len» «value_len») ≤ length (now output) ⌝ }
     ensures { λ r. ⌜ Wrote (now (output .entry)) at (lengthBytes shared «suffix_len» «value_len») (now (output .exit)) r ⌝ }
 {
-    let a = row_size_v2::place_after(utils::encode_varint(output, at, shared as u32));
-    let b = row_size_v2::place_after(utils::encode_varint(output, a, suffix_len as u32));
-    row_size_v2::place_after(utils::encode_varint(output, b, value_len as u32))
+    let a = buf_mut::place_after(utils::encode_varint(output, at, shared as u32));
+    let b = buf_mut::place_after(utils::encode_varint(output, a, suffix_len as u32));
+    buf_mut::place_after(utils::encode_varint(output, b, value_len as u32))
 }
 
 fn write_body(output: &mut [u8], at: usize, key_suffix: &[u8], value: &[u8], seq: u64) -> usize
     requires { ⌜ at + length (bodyBytes (now «key_suffix») (now value) seq) ≤ length (now output) ⌝ }
     ensures { λ r. ⌜ Wrote (now (output .entry)) at (bodyBytes (now («key_suffix» .entry)) (now (value .entry)) seq) (now (output .exit)) r ⌝ }
 {
-    let a = row_size_v2::place_after(buf_mut::copy_in(output, at, key_suffix));
-    let b = row_size_v2::place_after(buf_mut::copy_in(output, a, value));
-    row_size_v2::place_after(buf_mut::put_u64(output, b, seq))
+    let a = buf_mut::place_after(buf_mut::copy_in(output, at, key_suffix));
+    let b = buf_mut::place_after(buf_mut::copy_in(output, a, value));
+    buf_mut::place_after(buf_mut::put_u64(output, b, seq))
 }
 
 fn write_time(output: &mut [u8], at: usize, time: Time) -> usize
@@ -46,7 +46,7 @@ fn write_time(output: &mut [u8], at: usize, time: Time) -> usize
 {
     match time {
         Time::Absent => at,
-        Time::At(t) => row_size_v2::place_after(buf_mut::put_i64(output, at, t)),
+        Time::At(t) => buf_mut::place_after(buf_mut::put_i64(output, at, t)),
     }
 }
 

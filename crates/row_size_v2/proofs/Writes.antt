@@ -17,10 +17,10 @@ use Rattle.layout.specs.Laws.Splice.{Wrote, wrote-then, wrote-length}
 use Rattle.layout.specs.Laws.Tells.{keyLengthTests-tells}
 use Rattle.buf_mut.specs.declared.Put.{Put}
 use Rattle.buf_mut.specs.Promise.{Puts}
+use Rattle.buf_mut.specs.Says.{placeAfter}
 use Rattle.buf_mut.proofs.Laws.{puts-at, puts-fits}
 use Rattle.row_size_v2.specs.Parts.{keyLength}
 use Rattle.row_size_v2.specs.Promise.{Lays}
-use Rattle.row_size_v2.specs.Says.{placeAfter}
 
 -- ---- writes
 

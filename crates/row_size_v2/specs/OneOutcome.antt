@@ -5,11 +5,10 @@ use mathlib.Core.List.{List}
 use Rattle.types.specs.declared.Kind.{Kind}
 use Rattle.types.specs.declared.Refusal.{Refusal}
 use Rattle.types.specs.declared.Time.{Time}
-use Rattle.buf_mut.specs.declared.Put.{Put}
 use Rattle.row_size_v2.specs.declared.RowFields.{RowFields}
 use Rattle.row_size_v2.specs.declared.Sized.{Sized}
 use Rattle.row_size_v2.specs.declared.Restored.{Restored}
-use Rattle.row_size_v2.specs.Promise.{Flagged, Keeps, Sizes, SizeRefusal, PlaceAfter, Restores}
+use Rattle.row_size_v2.specs.Promise.{Flagged, Keeps, Sizes, SizeRefusal, Restores}
 use Rattle.row_size_v2.specs.Says.{saysSized-one, saysRestored-one}
 
 pub flags-settled : (row : RowFields) (m n : ℕ) → Flagged row m → Flagged row n → m ≡ n
@@ -24,9 +23,6 @@ encoded-size-settled shared suffixLen kind valueLen expire create r q a b = says
 
 pub size-refusal-settled : (a : Sized) (r q : Refusal) → SizeRefusal a r → SizeRefusal a q → r ≡ q
 size-refusal-settled a r q m n = m ∙ sym n
-
-pub place-after-settled : (put : Put) (m n : ℕ) → PlaceAfter put m → PlaceAfter put n → m ≡ n
-place-after-settled put m n p q = p ∙ sym q
 
 pub restore-full-key-settled : (prev : List ℕ) (shared : ℕ) (suffix out : List ℕ) (r q : Restored) (ys zs : List ℕ)
     → Restores prev shared suffix out r ys → Restores prev shared suffix out q zs → (r ≡ q) × (ys ≡ zs)

@@ -9,11 +9,10 @@ use Rattle.types.specs.Says.{saysKind, saysTime}
 use Rattle.types.specs.declared.Kind.{Kind}
 use Rattle.types.specs.declared.Refusal.{Refusal}
 use Rattle.types.specs.declared.Time.{Time}
-use Rattle.buf_mut.specs.declared.Put.{Put}
 use Rattle.row_size_v2.specs.declared.RowFields.{RowFields}
 use Rattle.row_size_v2.specs.declared.Sized.{Sized}
 use Rattle.row_size_v2.specs.declared.Restored.{Restored}
-use Rattle.row_size_v2.specs.Says.{saysSized, sizedRefusal, placeAfter, saysRestored}
+use Rattle.row_size_v2.specs.Says.{saysSized, sizedRefusal, saysRestored}
 
 abbrev pub Flagged : RowFields → ℕ → Type 0
 Flagged row r = r ≡ flagsOf (saysKind (row .kind)) (present (saysTime (row .expire))) (present (saysTime (row .create)))
@@ -28,9 +27,6 @@ Sizes shared suffixLen kind valueLen expire create r =
 
 abbrev pub SizeRefusal : Sized → Refusal → Type 0
 SizeRefusal a r = r ≡ sizedRefusal a
-
-abbrev pub PlaceAfter : Put → ℕ → Type 0
-PlaceAfter put r = r ≡ placeAfter put
 
 -- bytes that are wanted at the start of a lent buffer: their count or the refusal is answered, and no other byte changes
 pub record Lays (want : Res (List ℕ)) (buf : List ℕ) (said : Res ℕ) (buf′ : List ℕ) : Type 0 where

@@ -10,8 +10,6 @@ use Rattle.types.specs.Number.{number}
 use Rattle.types.specs.Says.{saysKind, saysTime}
 use Rattle.types.specs.declared.Refusal.{Refusal}
 use Rattle.types.specs.declared.Refusal.the-variants.{EmptyKey}
-use Rattle.buf_mut.specs.declared.Put.{Put}
-use Rattle.buf_mut.specs.declared.Put.the-variants.{At as PutAt, Refused as PutRefused}
 use Rattle.row_size_v2.specs.declared.RowFields.{RowFields}
 use Rattle.row_size_v2.specs.declared.Sized.{Sized}
 use Rattle.row_size_v2.specs.declared.Sized.the-variants.{Bytes as SizedBytes, Refused as SizedRefused}
@@ -35,10 +33,6 @@ saysRestored (RestoredRefused r) = refuse (number r)
 abbrev pub sizedRefusal : Sized → Refusal
 sizedRefusal (SizedBytes n) = EmptyKey
 sizedRefusal (SizedRefused r) = r
-
-abbrev pub placeAfter : Put → ℕ
-placeAfter (PutAt n) = n
-placeAfter (PutRefused r) = 0
 
 -- ---- one to one
 

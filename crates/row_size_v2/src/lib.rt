@@ -8,8 +8,7 @@ ghost use Rattle.layout.specs.Varint.{varintLength};
 ghost use Rattle.types.specs.Says.{saysKind, saysTime};
 ghost use Rattle.row_size_v2.specs.Says.{saysSized};
 ghost use Rattle.row_size_v2.specs.Parts.{keyLength};
-ghost use Rattle.row_size_v2.specs.Promise.{Flagged, Keeps, Sizes, SizeRefusal, PlaceAfter, Restores};
-use buf_mut::Put;
+ghost use Rattle.row_size_v2.specs.Promise.{Flagged, Keeps, Sizes, SizeRefusal, Restores};
 use types::Kind;
 use types::Refusal;
 use types::Time;
@@ -97,16 +96,6 @@ fn key_len(shared: usize, suffix_len: usize) -> Sized
     Sized::Bytes(len)
 }
 
-// The place after what was written, by those who have tested the room: to them no writer refuses.
-pub fn place_after(put: Put) -> usize
-    ensures { λ r. ⌜ PlaceAfter put r ⌝ }
-{
-    match put {
-        Put::At(next) => next,
-        Put::Refused(_) => 0,
-    }
-}
-
 pub enum Restored {
     Bytes(usize),
     Refused(Refusal),
@@ -131,8 +120,8 @@ pub fn restore_full_key(
     if out.len() < n {
         return Restored::Refused(Refusal::KeyBufferTooShort);
     }
-    let at = place_after(buf_mut::copy_in(out, 0, &previous_key[..shared]));
-    Restored::Bytes(place_after(buf_mut::copy_in(out, at, key_suffix)))
+    let at = buf_mut::place_after(buf_mut::copy_in(out, 0, &previous_key[..shared]));
+    Restored::Bytes(buf_mut::place_after(buf_mut::copy_in(out, at, key_suffix)))
 }
 
 // ---- size

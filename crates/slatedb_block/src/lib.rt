@@ -83,7 +83,7 @@ pub extern "C" fn slatedb_decode(input: &[u8], previous_len: usize, row: &mut [u
 fn make(block_size: usize, restart_interval: usize) -> New
     ensures { λ r. ⌜ Makes «block_size» «restart_interval» r ⌝ }
 {
-    if restart_interval == types::DEFAULT_INTERVAL {
+    if restart_interval == types::DEFAULT_RESTART_INTERVAL {
         return BlockBuilderV2::new(block_size);
     }
     BlockBuilderV2::new_with_restart_interval(block_size, restart_interval)

@@ -103,7 +103,7 @@ pub const MAX_BLOCK: usize = 131072;
 
 pub const MAX_INTERVAL: usize = 1024;
 
-pub const DEFAULT_INTERVAL: usize = 16;
+pub const DEFAULT_RESTART_INTERVAL: usize = 16;
 
 pub const MAX_OFFSET: usize = 65535;
 // 5,042 restarts of at least 13 bytes are the most that offsets up to 65,535 reach.
