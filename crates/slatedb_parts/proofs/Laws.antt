@@ -1,4 +1,5 @@
 -- What each exit of an export leaves, over plain variables, from what the function below promised.
+-- Each is the promise of the function that is called, carried over to codes and words: the tests that were passed are rewritten away, and what is left is that function's own answer.
 use Prim.Native.Nat.{ℕ}
 use mathlib.Core.Path.{_≡_, refl, _∙_}
 use mathlib.Core.Bool.{Bool}
