@@ -24,7 +24,7 @@ use Rattle.row_words.specs.Says.{saysFields, heldFrom, timeWordsOf}
 use Rattle.row_words.specs.declared.FieldsRead.the-variants.{Is as IsFields}
 use Rattle.row_words.specs.declared.TimeWords.{TimeWords}
 use Rattle.row_words.proofs.Laws.{of-none, counted-not, counted-so}
-use Rattle.row_words.proofs.Stores.{thirteen}
+use Rattle.row_words.proofs.Stores.{all-stored}
 
 pub kind-none : {w : ℕ} → (w ≡ 2 → ⊥) → (w ≡ 0 → ⊥) → (w ≡ 1 → ⊥) → refuse badWords ≡ kindIn w
 kind-none {w} h i j = rw (ne-eqb w 2 h) (of-none value tombstone i j)
@@ -99,5 +99,5 @@ pub row-stored : (ws : List ℕ) (r : Row) → length ws ≡ rowCount
     → set (set (set (set (set (set (set (set (set (set (set (set (set ws 0 (r .start)) 1 (r .next)) 2 (r .shared)) 3 (r .«suffix_at»)) 4 (r .«suffix_len»)) 5 (heldFrom (r .held) .kind)) 6 (heldFrom (r .held) .start)) 7 (heldFrom (r .held) .len)) 8 (r .seq)) 9 (timeWordsOf (r .expire) .has)) 10 (timeWordsOf (r .expire) .bits)) 11 (timeWordsOf (r .create) .has)) 12 (timeWordsOf (r .create) .bits)
     ≡ rowWords (rowFrom r)
 row-stored ws r h =
-    thirteen ws (r .start) (r .next) (r .shared) (r .«suffix_at») (r .«suffix_len») (heldFrom (r .held) .kind) (heldFrom (r .held) .start) (heldFrom (r .held) .len) (r .seq) (timeWordsOf (r .expire) .has) (timeWordsOf (r .expire) .bits) (timeWordsOf (r .create) .has) (timeWordsOf (r .create) .bits) h
+    all-stored (_ ∷ _ ∷ _ ∷ _ ∷ _ ∷ _ ∷ _ ∷ _ ∷ _ ∷ _ ∷ _ ∷ _ ∷ _ ∷ []) ws h
     ∙ row-words r

@@ -1,9 +1,7 @@
 -- What a call promises that answers words: its code, and the words after it, which a refusal leaves. Two outcomes that keep it are equal; and it is kept where the answer that is wanted is met.
 use Prim.Native.Nat.{ℕ}
 use mathlib.Core.Path.{_≡_, refl, sym, _∙_}
-use mathlib.Core.List.{List, [], _∷_}
-use native.Mathlib.Omega.{arith}
-use lib.ListN.{length, set}
+use mathlib.Core.List.{List}
 use Rattle.layout.specs.Answer.{Res, ok, refuse}
 use Rattle.row_words.specs.Words.{codeOf, setBy}
 
@@ -19,10 +17,3 @@ sets-good a e q = rw (e, q) (record { answer = refl; state = refl })
 
 pub sets-refused : {A : Type 0} {want : Res A} {words : A → List ℕ} {ws : List ℕ} {k code : ℕ} → want ≡ refuse k → code ≡ k → Sets want words ws code ws
 sets-refused e q = rw (e, q) (record { answer = refl; state = refl })
-
--- two words stored one by one are all there are
-pub two : (ws : List ℕ) (a b : ℕ) → length ws ≡ 2 → set (set ws 0 a) 1 b ≡ a ∷ b ∷ []
-two (_ ∷ _ ∷ []) a b h = refl
-two [] a b h = absurd (omega arith)
-two (_ ∷ []) a b h = absurd (omega arith)
-two (_ ∷ _ ∷ _ ∷ ws) a b h = absurd (omega arith)

@@ -4,7 +4,6 @@ use Prim.Native.Nat.{ℕ}
 use mathlib.Core.Path.{_≡_, refl, _∙_}
 use mathlib.Core.Bool.{Bool}
 use mathlib.Core.List.{List, [], _∷_}
-use native.Mathlib.Omega.{arith}
 use lib.ListN.{length, set}
 use Rattle.layout.specs.Answer.{Res, ok, refuse, bind}
 use Rattle.layout.specs.Place.{varintAt, numAt}
@@ -28,7 +27,8 @@ use Rattle.row_decode_v2.specs.declared.KeyRead.{KeyRead}
 use Rattle.row_decode_v2.specs.declared.KeyRead.the-variants.{Read as ReadKey, Refused as KeyRefused}
 use Rattle.row_words.specs.Words.{badWords, counted, truthIn}
 use Rattle.row_words.proofs.Laws.{counted-not, counted-so}
-use Rattle.row_words.specs.Flat.{sets-good, sets-refused, two}
+use Rattle.row_words.specs.Flat.{sets-good, sets-refused}
+use Rattle.row_words.proofs.Stores.{all-stored}
 use Rattle.slatedb_parts.specs.Promise.{WritesVarintFlat, ReadsVarintFlat, ReadsKeyFlat}
 
 -- ---- a varint written
@@ -40,16 +40,6 @@ module _ (v : ℕ) (out : List ℕ) (n : ℕ) (r : Put) (out′ : List ℕ) (p :
   pub writes-refused : {x : Refusal} {code : ℕ} → r ≡ PutRefused x → code ≡ number x → WritesVarintFlat v out n code out′ n
   writes-refused e q = let is = yes saysPut (p .answer) e in record { answer = rw is q; number = rw is refl; bytes = p .bytes }
 
--- ---- words
-
--- words stored one by one
-three : (ws : List ℕ) (a b c : ℕ) → length ws ≡ 3 → set (set (set ws 0 a) 1 b) 2 c ≡ a ∷ b ∷ c ∷ []
-three (_ ∷ _ ∷ _ ∷ []) a b c h = refl
-three [] a b c h = absurd (omega arith)
-three (_ ∷ []) a b c h = absurd (omega arith)
-three (_ ∷ _ ∷ []) a b c h = absurd (omega arith)
-three (_ ∷ _ ∷ _ ∷ _ ∷ ws) a b c h = absurd (omega arith)
-
 -- ---- a varint read
 
 module _ (s : List ℕ) (at : ℕ) (ws : List ℕ) where
@@ -58,7 +48,7 @@ module _ (s : List ℕ) (at : ℕ) (ws : List ℕ) where
 
   module _ (r : VarintRead) (h : length ws ≡ 2) (p : ReadsVarint s at r) where
     pub reads-good : {v n : ℕ} → r ≡ VarintNumber v n → ReadsVarintFlat s at ws 0 (set (set ws 0 v) 1 n)
-    reads-good {v} {n} e = sets-good (numAt v n) (counted-so ws 2 (varintAt s at) h ∙ yes saysVarint p e) (two ws v n h)
+    reads-good {v} {n} e = sets-good (numAt v n) (counted-so ws 2 (varintAt s at) h ∙ yes saysVarint p e) (all-stored (v ∷ n ∷ []) ws h)
 
     pub reads-refused : {x : Refusal} {code : ℕ} → r ≡ VarintRefused x → code ≡ number x → ReadsVarintFlat s at ws code ws
     reads-refused e q = sets-refused (counted-so ws 2 (varintAt s at) h ∙ yes saysVarint p e) q
@@ -81,7 +71,7 @@ module _ (s : List ℕ) (at end prevLen restart : ℕ) (ws : List ℕ) where
 
     pub key-good : {k : KeyPlace} → r ≡ ReadKey k
         → ReadsKeyFlat s at end prevLen restart ws 0 (set (set (set ws 0 (k .shared)) 1 (k .«suffix_at»)) 2 (k .«suffix_len»))
-    key-good {k} e = sets-good (keyFrom k) (asked ∙ yes saysKey p e) (three ws (k .shared) (k .«suffix_at») (k .«suffix_len») h)
+    key-good {k} e = sets-good (keyFrom k) (asked ∙ yes saysKey p e) (all-stored (k .shared ∷ k .«suffix_at» ∷ k .«suffix_len» ∷ []) ws h)
 
     pub key-refused : {x : Refusal} {code : ℕ} → r ≡ KeyRefused x → code ≡ number x → ReadsKeyFlat s at end prevLen restart ws code ws
     key-refused e q = sets-refused (asked ∙ yes saysKey p e) q

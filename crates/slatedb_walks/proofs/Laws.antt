@@ -3,7 +3,7 @@
 use Prim.Native.Nat.{ℕ, suc, _+_, _-_, _%_, _^_, _<_, _≤_}
 use mathlib.Core.Path.{_≡_, refl, ap, ap₂, sym, _∙_}
 use mathlib.Core.Bool.{Bool, true, false, cond}
-use mathlib.Core.List.{List}
+use mathlib.Core.List.{List, [], _∷_}
 use native.Mathlib.Omega.{arith}
 use lib.ListN.{length, take, getD, set, replicate}
 use lib.Seq.{length-take-le, getD-take}
@@ -26,7 +26,7 @@ use Rattle.block_iterator_v2.specs.Says.{placeOf, viewOf, saysOpen}
 use Rattle.block_iterator_v2.specs.declared.Opened.{Opened}
 use Rattle.block_iterator_v2.specs.declared.OpenAnswer.the-variants.{Good as GoodOpen, Refused as OpenRefused}
 use Rattle.row_words.specs.Words.{badWords, doneCode, orderIn}
-use Rattle.row_words.specs.Flat.{two}
+use Rattle.row_words.proofs.Stores.{all-stored}
 use Rattle.slatedb_walks.specs.Walk.{lastByte, amount, Walk, walkIs, withRow, walk, wrapped}
 use Rattle.slatedb_walks.specs.Promise.{Tells, WalksFlat}
 
@@ -93,7 +93,9 @@ row-added sum seq held key n some h lengths-is last-is named-is both-is r-is =
 -- what a walk that ended leaves
 pub told-ended : {want : Res Walk} (sums : List ℕ) (o : Bool) (rows sum : ℕ) {code : ℕ} → length sums ≡ 2 → want ≡ ok (walkIs o rows sum) → code ≡ cond o doneCode 0
     → Tells want sums code (set (set sums 0 rows) 1 sum)
-told-ended sums o rows sum h e q = rw (e, two sums rows sum h) (record { answer = q; words = refl })
+told-ended sums o rows sum h e q =
+    let are : set (set sums 0 rows) 1 sum ≡ rows ∷ sum ∷ [] = all-stored (rows ∷ sum ∷ []) sums h in
+    rw (e, are) (record { answer = q; words = refl })
 
 pub told-refused : {want : Res Walk} (sums : List ℕ) {code n : ℕ} → want ≡ refuse n → code ≡ n → Tells want sums code sums
 told-refused sums e q = rw e (record { answer = q; words = refl })

@@ -1,6 +1,7 @@
 -- `put_cursor` stores a cursor as five words; where there is another number of words it leaves them and says so.
 -- With every place set, nothing of the old list is left (`five`): the list is the definition's, with the words that stand for the order and for the mark at its ends.
-use Rattle.row_words.proofs.Stores.{five}
+use mathlib.Core.List.{[], _∷_}
+use Rattle.row_words.proofs.Stores.{all-stored}
 use Rattle.row_words.proofs.Laws.{stores-none, stores-all}
 use native.Mathlib.Omega.{arith}
 use lib.ListN.{length-set}
@@ -38,7 +39,7 @@ same-length c = search needs
 returns-2 : tie.Need-returns-2
 returns-2 c =
     let start = c .before .before .before .before in
-    stores-all (start .args .words .now) (c .before .before .if1 .left) (rw (c .before .order-word .ensures, c .truth-word .ensures) (five (start .args .words .now) _ _ _ _ _ (c .before .before .if1 .left)))
+    stores-all (start .args .words .now) (c .before .before .if1 .left) (rw (c .before .order-word .ensures, c .truth-word .ensures) (all-stored (_ ∷ _ ∷ _ ∷ _ ∷ _ ∷ []) (start .args .words .now) (c .before .before .if1 .left)))
 
 pub put-cursor-spec : {M : Type 1} → statement M
 put-cursor-spec =

@@ -1,9 +1,10 @@
 -- `put_state` stores a builder's numbers as six words; where there is another number of words it leaves them and says so.
 -- The six stores go to the six places, so nothing of the old list is left (`six`), and they have the order of the definition's list.
+use mathlib.Core.List.{[], _∷_}
 use native.Mathlib.Omega.{arith}
 use lib.ListN.{length-set}
 use Rattle.row_words.proofs.Laws.{stores-none, stores-all}
-use Rattle.row_words.proofs.Stores.{six}
+use Rattle.row_words.proofs.Stores.{all-stored}
 use borrow.Author.Needs.{needs}
 use Rattle.block_words.proofs.put_state.Statement.{statement}
 use Rattle.block_words.proofs.put_state.Tie as tie
@@ -33,7 +34,7 @@ same-length : tie.Need-same-length
 same-length c = search needs
 
 returns-2 : tie.Need-returns-2
-returns-2 c = stores-all (c .before .args .words .now) (c .if1 .left) (six (c .before .args .words .now) _ _ _ _ _ _ (c .if1 .left))
+returns-2 c = stores-all (c .before .args .words .now) (c .if1 .left) (all-stored (_ ∷ _ ∷ _ ∷ _ ∷ _ ∷ _ ∷ []) (c .before .args .words .now) (c .if1 .left))
 
 pub put-state-spec : {M : Type 1} → statement M
 put-state-spec =
