@@ -1,5 +1,5 @@
 -- What the private functions answer and write: a row that is tested, with what was found on the way; a row that is written.
-use Prim.Native.Nat.{ℕ, _+_, _≤_}
+use Prim.Native.Nat.{ℕ, _+_, _-_, _≤_}
 use mathlib.Core.Path.{_≡_}
 use mathlib.Core.Bool.{Bool, cond}
 use mathlib.Core.List.{List}
@@ -13,6 +13,10 @@ use Rattle.layout.specs.Row.{Fields, valueOf, rowBytes, lengthTests}
 use Rattle.types.specs.Number.{number}
 use Rattle.types.specs.declared.Refusal.{Refusal}
 use Rattle.types.specs.declared.Refusal.the-variants.{EmptyKey}
+use Rattle.row_size_v2.specs.Promise.{Sizes}
+use Rattle.row_size_v2.specs.Says.{fieldsFrom}
+use Rattle.row_size_v2.specs.declared.RowFields.{RowFields}
+use Rattle.row_size_v2.specs.declared.Sized.{Sized}
 use Rattle.block_grow_v2.specs.declared.State.{State}
 use Rattle.block_grow_v2.specs.declared.Planned.{Planned}
 use Rattle.block_grow_v2.specs.declared.Planned.the-variants.{Row as PlannedRow, Refused as PlannedRefused}
@@ -23,6 +27,10 @@ use Rattle.block_grow_v2.specs.Says.{viewFrom, stateFrom}
 -- whether these numbers are refused as a state, whatever the last key's bytes are: 18
 abbrev pub Judges : State → ℕ → ℕ → Bool → Type 0
 Judges s dataLen placesLen r = (last : List ℕ) → stateTests (viewFrom s last) dataLen placesLen ≡ guard r 18 (ok tt)
+
+-- the size of a row, by its share and the lengths of its key and its value
+abbrev pub SizesRow : ℕ → ℕ → ℕ → RowFields → Sized → Type 0
+SizesRow shared keyLen valueLen row r = Sizes shared (keyLen - shared) (row .kind) valueLen (row .expire) (row .create) r
 
 pub record Plan : Type 0 where
   pub shared : ℕ
@@ -45,6 +53,10 @@ accepted b dataLen placesLen key f = bind (add b dataLen placesLen key f) λ _. 
 abbrev pub saysPlanned : Planned → Res Plan
 saysPlanned (PlannedRow shared size restart) = ok (planIs shared size restart)
 saysPlanned (PlannedRefused r) = refuse (number r)
+
+-- what is found of a row whose value is known by its length: it is the same whatever the value's bytes are
+abbrev pub Plans : (Fields → Res Plan) → RowFields → ℕ → Planned → Type 0
+Plans want row valueLen r = (value : List ℕ) → length value ≡ valueLen → saysPlanned r ≡ want (fieldsFrom row value)
 
 -- the refusal of an answer that is one
 abbrev pub plannedRefusal : Planned → Refusal

@@ -13,11 +13,10 @@ ghost use Rattle.layout.specs.Builder.{restartsOf};
 ghost use Rattle.layout.specs.Key.{common};
 ghost use Rattle.layout.specs.Limits.{maxKey, maxBlock, maxInterval, maxOffset, maxRestarts, leastRow};
 ghost use Rattle.layout.specs.Row.{ifSo, rowBytes};
-ghost use Rattle.layout.specs.Laws.RowWrite.{sizeOf};
 ghost use Rattle.layout.specs.Laws.Splice.{Wrote};
-ghost use Rattle.row_size_v2.specs.Says.{fieldsFrom, saysSized};
+ghost use Rattle.row_size_v2.specs.Says.{fieldsFrom};
 ghost use Rattle.block_grow_v2.specs.Says.{viewFrom};
-ghost use Rattle.block_grow_v2.specs.Plan.{Judges, fitted, accepted, saysPlanned, plannedRefusal, Tested, Fitting, Grew};
+ghost use Rattle.block_grow_v2.specs.Plan.{Judges, SizesRow, fitted, accepted, Plans, plannedRefusal, Tested, Fitting, Grew};
 ghost use Rattle.block_grow_v2.specs.Promise.{FitsInPlace, AddsInPlace, Finishes};
 use buf_mut::Put;
 use row_encode_v2::Encoded;
@@ -154,22 +153,15 @@ fn shared_bytes(restart: bool, last: &[u8], last_len: usize, key: &[u8]) -> usiz
     compute_prefix(last, last_len, key)
 }
 
-// The encoded size of a row with this key, of which the last key gives `shared` bytes: 1, 2, 3.
-fn entry_encoded_size(shared: usize, key: &[u8], value: &[u8], row: RowFields) -> Sized
-    requires { ⌜ shared ≤ length (now key) ⌝ }
-    ensures { λ r. ⌜ saysSized r ≡ sizeOf shared (drop shared (now (key .entry))) (fieldsFrom row (now (value .entry))) ⌝ }
+// The encoded size of a row with a key of this length, of which the last key gives `shared` bytes, from lengths alone: 1, 2, 3.
+fn entry_encoded_size(shared: usize, key_len: usize, value_len: usize, row: RowFields) -> Sized
+    requires { ⌜ shared ≤ «key_len» ⌝ }
+    ensures { λ r. ⌜ SizesRow shared «key_len» «value_len» row r ⌝ }
 {
     let kind = row.kind;
     let expire = row.expire;
     let create = row.create;
-    row_size_v2::encoded_size(
-        shared,
-        key.len() - shared,
-        kind,
-        value.len(),
-        expire,
-        create,
-    )
+    row_size_v2::encoded_size(shared, key_len - shared, kind, value_len, expire, create)
 }
 
 // A new restart's offset takes two bytes of the trailer.
@@ -189,25 +181,25 @@ fn has_room(counter: usize, block_size: usize, size: usize) -> bool
     size <= block_size
 }
 
-// The fit question, with what was found on the way: 18, 1, 2, 3, 4. Nothing is written.
+// The fit question, with what was found on the way: 18, 1, 2, 3, 4. Of the value its length is enough, and nothing is written.
 fn plan_row(
     s: State,
     last_key: &[u8],
     data_len: usize,
     places_len: usize,
     key: &[u8],
-    value: &[u8],
+    value_len: usize,
     row: RowFields,
 ) -> Planned
     requires { ⌜ length (now «last_key») ≡ maxKey ⌝ }
-    ensures { λ r. ⌜ saysPlanned r ≡ fitted (viewFrom s (now («last_key» .entry))) «data_len» «places_len» (now (key .entry)) (fieldsFrom row (now (value .entry))) ⌝ }
+    ensures { λ r. ⌜ Plans (fitted (viewFrom s (now («last_key» .entry))) «data_len» «places_len» (now (key .entry))) row «value_len» r ⌝ }
 {
     if is_bad_state(s, data_len, places_len) {
         return Planned::Refused(Refusal::BadState);
     }
     let restart = is_restart_point(s.counter, s.restart_interval);
     let shared = shared_bytes(restart, last_key, s.last_key_len, key);
-    let entry_size = entry_encoded_size(shared, key, value, row);
+    let entry_size = entry_encoded_size(shared, key.len(), value_len, row);
     let Sized::Bytes(n) = entry_size else {
         return Planned::Refused(row_size_v2::size_refusal(entry_size));
     };
@@ -242,7 +234,7 @@ pub fn would_fit_in_place(
     if last_key.len() != types::MAX_KEY {
         return Fit::Refused(Refusal::BadState);
     }
-    let planned = plan_row(s, last_key, data_len, places_len, key, value, row);
+    let planned = plan_row(s, last_key, data_len, places_len, key, value.len(), row);
     match planned {
         Planned::Row { .. } => Fit::Yes,
         Planned::Refused(refusal) => Fit::Refused(refusal),
@@ -274,13 +266,13 @@ fn accept_row(
     data_len: usize,
     places_len: usize,
     key: &[u8],
-    value: &[u8],
+    value_len: usize,
     row: RowFields,
 ) -> Planned
     requires { ⌜ length (now «last_key») ≡ maxKey ⌝ }
-    ensures { λ r. ⌜ saysPlanned r ≡ accepted (viewFrom s (now («last_key» .entry))) «data_len» «places_len» (now (key .entry)) (fieldsFrom row (now (value .entry))) ⌝ }
+    ensures { λ r. ⌜ Plans (accepted (viewFrom s (now («last_key» .entry))) «data_len» «places_len» (now (key .entry))) row «value_len» r ⌝ }
 {
-    let planned = plan_row(s, last_key, data_len, places_len, key, value, row);
+    let planned = plan_row(s, last_key, data_len, places_len, key, value_len, row);
     let Planned::Row {
         shared: _,
         size,
@@ -397,7 +389,15 @@ pub fn add_in_place(
     if last_key.len() != types::MAX_KEY {
         return Grown::Refused(Refusal::BadState);
     }
-    let planned = accept_row(s, last_key, data.len(), restarts.len(), key, value, row);
+    let planned = accept_row(
+        s,
+        last_key,
+        data.len(),
+        restarts.len(),
+        key,
+        value.len(),
+        row,
+    );
     let Planned::Row {
         shared,
         size: _,

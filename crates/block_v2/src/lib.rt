@@ -143,7 +143,15 @@ impl BlockBuilderV2 {
     ) -> Fit
         ensures { λ r. ⌜ Fits self «data_len» «places_len» (now (key .entry)) (now (value .entry)) row r ⌝ }
     {
-        let s = state_of(self);
+        // By hand, not by `state_of`, which would take the last key's array along.
+        let s = State {
+            block_size: self.block_size,
+            restart_interval: self.restart_interval,
+            used: self.used,
+            restarts: self.restarts,
+            counter: self.counter,
+            last_key_len: self.last_key_len,
+        };
         block_grow_v2::would_fit_in_place(&self.last_key, s, data_len, places_len, key, value, row)
     }
 

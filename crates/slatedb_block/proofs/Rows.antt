@@ -6,7 +6,7 @@ use mathlib.Core.List.{List, []}
 use lib.ListN.{length}
 use borrow.Author.Tests.{eq-eqb, ne-eqb}
 use Rattle.layout.specs.Answer.{Res, ok, refuse, bind}
-use Rattle.layout.specs.Builder.{Builder}
+use Rattle.layout.specs.Builder.{Builder, wouldFit}
 use Rattle.layout.specs.Limits.{maxKey}
 use Rattle.layout.specs.Row.{encodeRow, written}
 use Rattle.layout.specs.RowRead.{decodeRow}
@@ -25,10 +25,9 @@ use Rattle.row_decode_v2.specs.declared.Row.{Row}
 use Rattle.row_size_v2.specs.declared.RowFields.{RowFields}
 use Rattle.row_decode_v2.specs.declared.RowRead.{RowRead}
 use Rattle.row_decode_v2.specs.declared.RowRead.the-variants.{Read as ReadRow, Refused as RowRefused}
-use Rattle.block_v2.specs.Promise.{Fits}
-use Rattle.block_grow_v2.specs.Promise.{AddsInPlace, lastAfter}
+use Rattle.block_grow_v2.proofs.Writes.{entered-is}
+use Rattle.block_grow_v2.specs.Promise.{FitsInPlace, AddsInPlace, lastAfter}
 use Rattle.block_grow_v2.specs.Says.{stateFrom, viewFrom, saysFit, saysGrown}
-use Rattle.block_v2.specs.Says.{builderFrom as builderOver}
 use Rattle.block_grow_v2.specs.declared.Fit.{Fit}
 use Rattle.block_grow_v2.specs.declared.Fit.the-variants.{Yes, Refused as FitRefused}
 use Rattle.block_grow_v2.specs.declared.Grown.{Grown}
@@ -91,12 +90,16 @@ module _ (ws last : List ℕ) (dataLen placesLen : ℕ) (key value fs : List ℕ
   fits-bad h k e = rw (eq-eqb (length ws) builderCount h, eq-eqb (length last) maxKey k, e) refl
 
   module _ (f : RowFields) (a : Fit) (h : length ws ≡ builderCount) (k : length last ≡ maxKey) (is : fieldsIn fs value ≡ ok (fieldsFrom f value))
-      (p : Fits (builderOver (stateIn ws) last) dataLen placesLen key value f a) where
+      (p : FitsInPlace (stateIn ws) last dataLen placesLen key value f a) where
+    -- the lent bytes are as many as they must be, so none are refused for that
+    said : saysFit a ≡ wouldFit (builderFrom ws last) dataLen placesLen key (fieldsFrom f value)
+    said = rw (entered-is (stateIn ws) last k) at p
+
     pub fits-yes : a ≡ Yes → FitsFlat ws last dataLen placesLen key value fs 0
-    fits-yes e = rw (eq-eqb (length ws) builderCount h, eq-eqb (length last) maxKey k, is) (sym (ap codeOf (yes saysFit p e)))
+    fits-yes e = rw (eq-eqb (length ws) builderCount h, eq-eqb (length last) maxKey k, is) (sym (ap codeOf (yes saysFit said e)))
 
     pub fits-refused : {x : Refusal} {code : ℕ} → a ≡ FitRefused x → code ≡ number x → FitsFlat ws last dataLen placesLen key value fs code
-    fits-refused {x} e q = rw (eq-eqb (length ws) builderCount h, eq-eqb (length last) maxKey k, is) (q ∙ sym (ap codeOf (yes saysFit p e)))
+    fits-refused {x} e q = rw (eq-eqb (length ws) builderCount h, eq-eqb (length last) maxKey k, is) (q ∙ sym (ap codeOf (yes saysFit said e)))
 
 -- ---- adding a row in place
 

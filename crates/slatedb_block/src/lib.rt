@@ -136,8 +136,15 @@ pub extern "C" fn slatedb_builder_would_fit(
     let FieldsRead::Is(row) = loaded else {
         return block_words::BAD_WORDS;
     };
-    let b = block_words::builder_over(s, last_key);
-    let fit = b.would_fit(data_len, restarts_len, key, value, row);
+    let fit = block_grow_v2::would_fit_in_place(
+        last_key,
+        s,
+        data_len,
+        restarts_len,
+        key,
+        value,
+        row,
+    );
     match fit {
         Fit::Yes => block_words::GOOD,
         Fit::Refused(refusal) => types::number(refusal),

@@ -27,10 +27,10 @@ same-length : tie.Need-same-length
 same-length c = search needs
 
 returns-2 : tie.Need-returns-2
-returns-2 c = grows-refused _ _ _ _ _ _ (c .before .before .before .before .before .if1 .left) (no saysPlanned plannedRefusal (c .before .before .before .accept-row .ensures) (c .before .enum-told .given .1) refl (c .planned-refusal .ensures))
+returns-2 c = grows-refused _ _ _ _ _ _ (c .before .before .before .before .before .if1 .left) (no saysPlanned plannedRefusal (c .before .before .before .accept-row .ensures _ refl) (c .before .enum-told .given .1) refl (c .planned-refusal .ensures))
 
 grow-requires : tie.Need-grow-requires
-grow-requires c κs = (c .before .before .before .before .before .before .before .before .if1 .left, tested-is _ _ _ _ _ (yes saysPlanned (c .before .before .before .before .before .before .accept-row .ensures) (c .before .before .before .before .planned .given .1)))
+grow-requires c κs = (c .before .before .before .before .before .before .before .before .if1 .left, tested-is _ _ _ _ _ (yes saysPlanned (c .before .before .before .before .before .before .accept-row .ensures _ refl) (c .before .before .before .before .planned .given .1)))
 
 same-length-2 : tie.Need-same-length-2
 same-length-2 c = search needs
@@ -42,7 +42,7 @@ same-length-4 : tie.Need-same-length-4
 same-length-4 c = search needs
 
 returns-3 : tie.Need-returns-3
-returns-3 c = grows _ _ _ _ _ _ (c .before .before .before .before .before .before .before .before .before .before .before .before .before .before .before .if1 .left) (tested-is _ _ _ _ _ (yes saysPlanned (c .before .before .before .before .before .before .before .before .before .before .before .before .before .accept-row .ensures) (c .before .before .before .before .before .before .before .before .before .before .before .planned .given .1))) (c .before .before .before .before .before .before .grow .ensures)
+returns-3 c = grows _ _ _ _ _ _ (c .before .before .before .before .before .before .before .before .before .before .before .before .before .before .before .if1 .left) (tested-is _ _ _ _ _ (yes saysPlanned (c .before .before .before .before .before .before .before .before .before .before .before .before .before .accept-row .ensures _ refl) (c .before .before .before .before .before .before .before .before .before .before .before .planned .given .1))) (c .before .before .before .before .before .before .grow .ensures)
 
 pub add-in-place-spec : {M : Type 1} → statement M
 add-in-place-spec =

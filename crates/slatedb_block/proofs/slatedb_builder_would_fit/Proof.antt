@@ -1,4 +1,4 @@
--- The fit question keeps its promise: the words that mean nothing first, then what `would_fit` promised of the builder in the words.
+-- The fit question keeps its promise: the words that mean nothing first, then what `would_fit_in_place` promised of the builder in the words.
 -- Each exit is one law of `Rows`.
 use mathlib.Core.Path.{_≡_}
 use lib.ListN.{length}
@@ -7,7 +7,9 @@ use Rattle.types.specs.Answers.{yes}
 use Rattle.row_size_v2.specs.Says.{fieldsFrom}
 use Rattle.row_words.specs.Words.{fieldsIn, builderCount}
 use Rattle.row_words.specs.Says.{saysFields}
-use Rattle.block_words.proofs.Laws.{state-none, state-counts, state-is, over-whole}
+use Rattle.block_grow_v2.specs.Promise.{FitsInPlace}
+use Rattle.block_words.specs.Says.{stateIn}
+use Rattle.block_words.proofs.Laws.{state-none, state-counts, state-is}
 use Rattle.slatedb_block.proofs.Rows.{fits-short, fits-no-key, fits-bad, fits-yes, fits-refused}
 use borrow.Author.Needs.{needs}
 use Rattle.slatedb_block.proofs.slatedb_builder_would_fit.Statement.{statement}
@@ -63,11 +65,8 @@ returns-3 c =
     let start = entry (words .before .before) in
     fits-bad (start .args .builder .now) (start .args .last-key .now) (start .args .data-len) (start .args .restarts-len) (start .args .key .now) (start .args .value .now) (start .args .fields .now) (six-words words) (c .before .before .before .if1 .left) (yes (saysFields (start .args .value .now)) (c .before .before .fields-in .ensures (start .args .value .now)) (c .enum-told2 .given .1))
 
-builder-over-requires : tie.Need-builder-over-requires
-builder-over-requires c κs = search needs
-
-would-fit-requires : tie.Need-would-fit-requires
-would-fit-requires c κs = search needs
+would-fit-in-place-requires : tie.Need-would-fit-in-place-requires
+would-fit-in-place-requires c κs = search needs
 
 enum-told-3 : tie.Need-enum-told-3
 enum-told-3 c = search needs
@@ -78,20 +77,23 @@ enum-known-fit c = search needs
 number-requires : tie.Need-number-requires
 number-requires c κs = search needs
 
+-- what the function below promised of the builder in the words
+asked : (k : tie.After-would-fit-in-place) → FitsInPlace (stateIn (start-of (k .before .before) .args .builder .now)) (start-of (k .before .before) .args .last-key .now) (start-of (k .before .before) .args .data-len) (start-of (k .before .before) .args .restarts-len) (start-of (k .before .before) .args .key .now) (start-of (k .before .before) .args .value .now) (k .before .before .loaded .given .0 .0) (k .would-fit-in-place .result)
+asked k = rw (state-is (start-of (k .before .before) .args .builder .now) (loaded-words (k .before .before) .before .before .state-in .ensures) (loaded-words (k .before .before) .words .given .1)) at (k .would-fit-in-place .ensures)
+
 returns-4 : tie.Need-returns-4
 returns-4 c =
-    let known = c .before .before .before .before .before in
+    let known = c .before .before .before .before in
     let words = loaded-words known in
     let start = start-of known in
-    fits-yes (start .args .builder .now) (start .args .last-key .now) (start .args .data-len) (start .args .restarts-len) (start .args .key .now) (start .args .value .now) (start .args .fields .now) (known .loaded .given .0 .0) _ (six-words words) (known .before .before .before .if1 .left) (fields-read known) (rw (over-whole (start .args .last-key .now) (known .before .before .before .if1 .left) (state-is (start .args .builder .now) (words .before .before .state-in .ensures) (words .words .given .1)) (c .before .before .before .builder-over .ensures)) at (c .before .before .would-fit .ensures)) (c .enum-told3 .given .1)
+    fits-yes (start .args .builder .now) (start .args .last-key .now) (start .args .data-len) (start .args .restarts-len) (start .args .key .now) (start .args .value .now) (start .args .fields .now) (known .loaded .given .0 .0) _ (six-words words) (known .before .before .before .if1 .left) (fields-read known) (asked (c .before .before)) (c .enum-told3 .given .1)
 
 returns-5 : tie.Need-returns-5
 returns-5 c =
-    let after-builder-over = c .before .before .before .before .before in
-    let known = after-builder-over .before .before in
+    let known = c .before .before .before .before .before .before in
     let words = loaded-words known in
     let start = start-of known in
-    fits-refused (start .args .builder .now) (start .args .last-key .now) (start .args .data-len) (start .args .restarts-len) (start .args .key .now) (start .args .value .now) (start .args .fields .now) (known .loaded .given .0 .0) _ (six-words words) (known .before .before .before .if1 .left) (fields-read known) (rw (over-whole (start .args .last-key .now) (known .before .before .before .if1 .left) (state-is (start .args .builder .now) (words .before .before .state-in .ensures) (words .words .given .1)) (after-builder-over .builder-over .ensures)) at (c .before .before .before .before .would-fit .ensures)) (c .before .before .fit .given .1) (c .number .ensures)
+    fits-refused (start .args .builder .now) (start .args .last-key .now) (start .args .data-len) (start .args .restarts-len) (start .args .key .now) (start .args .value .now) (start .args .fields .now) (known .loaded .given .0 .0) _ (six-words words) (known .before .before .before .if1 .left) (fields-read known) (asked (c .before .before .before .before)) (c .before .before .fit .given .1) (c .number .ensures)
 
 pub slatedb-builder-would-fit-spec : {M : Type 1} → statement M
 slatedb-builder-would-fit-spec =
@@ -106,8 +108,7 @@ slatedb-builder-would-fit-spec =
     enum-known-loaded
     enum-told-2
     returns-3
-    builder-over-requires
-    would-fit-requires
+    would-fit-in-place-requires
     enum-told-3
     enum-known-fit
     number-requires
