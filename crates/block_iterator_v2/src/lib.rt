@@ -273,7 +273,7 @@ impl BlockIteratorV2 {
                     answer: SeekAnswer::Refused(block::region_refusal(read)),
                 };
             };
-            let walked = block_regions_v2::walk_region(&block[..size], region, target);
+            let walked = region_match_v2::walk_region(&block[..size], region, target);
             let stop = walked.answer;
             if let WalkAnswer::Refused(refusal) = stop {
                 return Sought {
@@ -310,7 +310,7 @@ impl BlockIteratorV2 {
                     answer: SeekAnswer::Refused(block::region_refusal(read)),
                 };
             };
-            let last = block_regions_v2::last_at_or_below(&block[..size], region, target);
+            let last = region_match_v2::last_at_or_below(&block[..size], region, target);
             let LastRead::Ends(end) = last else {
                 return Sought {
                     iterator: self,

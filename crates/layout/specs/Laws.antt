@@ -6,9 +6,12 @@ pub mod Splice
 pub mod Byte
 pub mod Key
 pub mod Compare
+pub mod Match
+pub mod Words
 pub mod Row
 pub mod Tells
 pub mod RowExits
+pub mod Plain
 pub mod RowWrite
 pub mod Single
 pub mod Local
@@ -25,6 +28,8 @@ pub mod Parts
 pub mod Check
 pub mod Cursor
 pub mod Seek
+pub mod MatchWalk
+pub mod Rebuild
 pub mod Refusals
 pub mod Given
 pub mod Restart

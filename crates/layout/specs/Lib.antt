@@ -6,6 +6,7 @@ pub mod Place
 pub mod Key
 pub mod Row
 pub mod RowRead
+pub mod Plain
 pub mod Block
 pub mod Trailer
 pub mod Builder
