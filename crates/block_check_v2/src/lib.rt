@@ -13,7 +13,6 @@ use block::RegionRead;
 use block::Tested;
 use block::Trailer;
 use block::TrailerRead;
-use row_decode_v2::RowRead;
 use types::Refusal;
 
 // How many rows the block has, or why it is refused.
@@ -53,10 +52,11 @@ fn check_region(block: &[u8], t: Trailer, key: &mut [u8], p: Passed) -> Walked
     let mut key_len = p.key_len;
     let mut rows = p.rows;
     while at < g.end {
-        let read = row_decode_v2::decode_at(data, at, g.end, key_len, at == g.start);
-        let RowRead::Read(row) = read else {
-            return Walked::Refused(row_decode_v2::row_refusal(read));
-        };
+        let restart = at == g.start;
+        let row = row_span_v2::span_at(data, at, g.end, key_len, restart);
+        if row.next == 0 {
+            return Walked::Refused(row_span_v2::refusal_at(data, at, g.end, key_len, restart));
+        }
         let shared = row.shared;
         let from = row.suffix_at;
         let to = from + row.suffix_len;

@@ -10,6 +10,7 @@ use lib.ListN.{length, length-take}
 use lib.Seq.{length-take-le}
 use borrow.Author.Needs.{needs}
 use Rattle.layout.specs.Answer.{ok}
+use Rattle.layout.specs.Plain.{RowSpan}
 use Rattle.layout.specs.RowRead.{readRow, RowRead as RowReadL}
 use Rattle.layout.specs.Trailer.{Trailer, trailerOf, dataOf, regionOf}
 use Rattle.layout.specs.Laws.Tells.{RowEnds, readRow-ends, row-shares}
@@ -19,7 +20,8 @@ use Rattle.buf_mut.proofs.Laws.{copied}
 use Rattle.block.specs.declared.Region.{Region}
 use Rattle.block.specs.Laws.{region-used}
 use Rattle.block.specs.Says.{trailerFrom, regionFrom, saysRegion, refusalOfRegion}
-use Rattle.row_decode_v2.specs.Says.{rowFrom, saysRow, refusalOfRow}
+use Rattle.row_span_v2.specs.Laws.{spanned, span-known, span-refusal}
+use Rattle.row_span_v2.specs.Promise.{spanFrom}
 use Rattle.block_check_v2.specs.Laws.{Walks, stands-no, stands-inside, stands-walks, walks-over, walks-no, walks-room, walks-falls, walks-more, the-trailer}
 use Rattle.block_check_v2.proofs.check_region.Statement.{statement}
 use Rattle.block_check_v2.proofs.check_region.Tie as tie
@@ -60,18 +62,24 @@ module _ (l : tie.At-loop Inv-loop μ-loop) where
   kept = walk .checking .holds .whole ∙ sym (began .pre .1 .1 .checking .holds .whole)
 
 -- the row that was read in a turn
-module _ (n : tie.After-known-told2 Inv-loop μ-loop) where
+module _ (n : tie.Else2 Inv-loop μ-loop) where
   abbrev turn : tie.At-loop Inv-loop μ-loop
-  turn = n .before .before .before .before .before .before .before
+  turn = n .before .before .before .before .before .before
 
   abbrev rows : List ℕ
   rows = dataOf (began turn .args .block .now) (trailerFrom (began turn .args .t))
 
+  abbrev span : RowSpan
+  span = spanFrom (n .before .before .span-at .result)
+
+  known : (r : RowReadL) × (readRow rows (turn .loop .at) (g turn .end) (turn .loop .key-len) (eqb (turn .loop .at) (g turn .start)) ≡ ok (spanned r span))
+  known = span-known _ _ _ _ _ span (n .before .before .span-at .ensures) (n .if2 .left)
+
   abbrev row : RowReadL
-  row = rowFrom (n .before .read .given .0 .0)
+  row = spanned (known .0) span
 
   read : readRow rows (turn .loop .at) (g turn .end) (turn .loop .key-len) (eqb (turn .loop .at) (g turn .start)) ≡ ok row
-  read = yes saysRow (n .before .before .before .decode-at .ensures) (n .before .read .given .1)
+  read = known .1
 
   told : RowEnds rows (turn .loop .at) (g turn .end) (turn .loop .key-len) (eqb (turn .loop .at) (g turn .start)) row
   told = readRow-ends _ _ _ _ _ _ read
@@ -106,17 +114,11 @@ loop-holds c =
     let s = c .before .before .before .before .before .before .before in
     the-trailer _ _ _ (s .pre .0) (stands-walks _ _ _ _ (s .pre .1 .1) (s .pre .1 .0) _ (used (c .before)))
 
-decode-at-requires : tie.Need-decode-at-requires Inv-loop μ-loop
-decode-at-requires c κs = search needs
+span-at-requires : tie.Need-span-at-requires Inv-loop μ-loop
+span-at-requires c κs = search needs
 
-enum-known-read : tie.Need-enum-known-read Inv-loop μ-loop
-enum-known-read c = search needs
-
-enum-told-2 : tie.Need-enum-told-2 Inv-loop μ-loop
-enum-told-2 c = search needs
-
-row-refusal-requires : tie.Need-row-refusal-requires Inv-loop μ-loop
-row-refusal-requires c κs = search needs
+refusal-at-requires : tie.Need-refusal-at-requires Inv-loop μ-loop
+refusal-at-requires c κs = search needs
 
 same-length : tie.Need-same-length Inv-loop μ-loop
 same-length c = kept (c .before .before .before .before .before .before .before)
@@ -125,7 +127,7 @@ returns-2 : tie.Need-returns-2 Inv-loop μ-loop
 returns-2 c =
     let l = c .before .before .before .before .before .before .before in
     walks-no _ _ _ _ (used (l .before .before)) _ _ _ _ (walk l) (c .before .before .before .before .before .if1 .taken)
-    (no saysRow refusalOfRow (c .before .before .before .decode-at .ensures) (c .before .enum-told2 .given .1) refl (c .row-refusal .ensures))
+    (span-refusal _ _ _ _ _ (spanFrom (c .before .before .before .span-at .result)) (c .before .before .before .span-at .ensures) (c .before .if2 .taken) (c .refusal-at .ensures))
 
 add-to : tie.Need-add-to Inv-loop μ-loop
 add-to c =
@@ -159,7 +161,7 @@ same-length-2 c = kept (turn (c .before .before .before .before .before .before)
 returns-3 : tie.Need-returns-3 Inv-loop μ-loop
 returns-3 c =
     let n = c .before .before .before .before .before .before in
-    walks-falls _ _ _ _ (used (turn n .before .before)) _ _ _ _ (walk (turn n)) (n .before .before .before .before .before .if1 .taken) _ (read n) (sym (c .before .is-below .ensures) ∙ c .if2 .taken)
+    walks-falls _ _ _ _ (used (turn n .before .before)) _ _ _ _ (walk (turn n)) (n .before .before .before .before .if1 .taken) _ (read n) (sym (c .before .is-below .ensures) ∙ c .if3 .taken)
 
 sub-copy-in : tie.Need-sub-copy-in Inv-loop μ-loop
 sub-copy-in c = omega arith
@@ -187,9 +189,9 @@ loop-again c =
     let n = c .before .before .before .before .before .before .before .before .before .before .before .before in
     let l = turn n in
     let u = used (l .before .before) in
-    let t = n .before .before .before .before .before .if1 .taken in
+    let t = n .before .before .before .before .if1 .taken in
     the-trailer _ _ _ (began l .pre .0)
-    (walks-more _ _ _ _ u _ _ _ _ (walk l) t _ (read n) (sym (c .before .before .before .before .before .before .before .is-below .ensures) ∙ c .before .before .before .before .before .before .if2 .left) _
+    (walks-more _ _ _ _ u _ _ _ _ (walk l) t _ (read n) (sym (c .before .before .before .before .before .before .before .is-below .ensures) ∙ c .before .before .before .before .before .before .if3 .left) _
     (copied (walks-room _ _ _ _ u _ _ _ _ (walk l) t _ (read n)) (c .before .before .before .copy-in .ensures)))
 
 add-t37 : tie.Need-add-t37 Inv-loop μ-loop
@@ -218,10 +220,8 @@ check-region-spec =
     returns
     slice-aggregate-data
     loop-holds
-    decode-at-requires
-    enum-known-read
-    enum-told-2
-    row-refusal-requires
+    span-at-requires
+    refusal-at-requires
     same-length
     returns-2
     add-to

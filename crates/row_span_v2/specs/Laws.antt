@@ -1,0 +1,36 @@
+-- What a span tells its caller: with an end, the row that was read, with these four numbers; with none, that the row is refused, and by which number.
+use Prim.Native.Nat.{ℕ}
+use mathlib.Core.Path.{_≡_, refl, ap, sym, _∙_}
+use mathlib.Core.Bool.{Bool}
+use mathlib.Core.List.{List}
+use Rattle.layout.specs.Answer.{Res, ok, refuse}
+use Rattle.layout.specs.Plain.{RowSpan, spanOf}
+use Rattle.layout.specs.RowRead.{RowRead, readRow}
+use Rattle.layout.specs.Laws.Plain.{span-row, span-no}
+use Rattle.row_span_v2.specs.Promise.{refusedWith}
+
+-- a row with the numbers of a span
+abbrev pub spanned : RowRead → RowSpan → RowRead
+spanned r p =
+    record {
+      start = r .start;
+      next = p .next;
+      shared = p .shared;
+      suffixAt = p .suffixAt;
+      suffixLen = p .suffixLen;
+      held = r .held;
+      seq = r .seq;
+      expire = r .expire;
+      create = r .create;
+    }
+
+module _ (d : List ℕ) (at end prevLen : ℕ) (restart : Bool) (p : RowSpan) (e : p ≡ spanOf (readRow d at end prevLen restart)) where
+  pub span-known : (p .next ≡ 0 → ⊥) → (r : RowRead) × (readRow d at end prevLen restart ≡ ok (spanned r p))
+  span-known z = span-row d at end prevLen restart p e z λ r q is. (r, q ∙ ap (λ (x : RowSpan). ok (spanned r x)) is)
+
+  pub span-refusal : p .next ≡ 0 → {n : ℕ} → n ≡ refusedWith (readRow d at end prevLen restart) → readRow d at end prevLen restart ≡ refuse n
+  span-refusal z {n} f = go (readRow d at end prevLen restart) refl f
+    where
+      go : (x : Res RowRead) → readRow d at end prevLen restart ≡ x → n ≡ refusedWith x → x ≡ refuse n
+      go (ok r) q f = absurd (span-no d at end prevLen restart p e z r q)
+      go (refuse m) q f = ap refuse (sym f)
