@@ -27,6 +27,7 @@ pub mod Carry
 pub mod Parts
 pub mod Check
 pub mod Cursor
+pub mod PlainStep
 pub mod Seek
 pub mod MatchWalk
 pub mod Rebuild
