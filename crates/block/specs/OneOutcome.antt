@@ -6,10 +6,14 @@ use mathlib.Core.List.{List}
 use Rattle.types.specs.declared.Refusal.{Refusal}
 use Rattle.block.specs.declared.Trailer.{Trailer}
 use Rattle.block.specs.declared.TrailerRead.{TrailerRead}
+use Rattle.block.specs.declared.Region.{Region}
 use Rattle.block.specs.declared.RegionRead.{RegionRead}
 use Rattle.block.specs.declared.Tested.{Tested}
-use Rattle.block.specs.Promise.{ReadsTrailer, TestsTrailer, TrailerRefusal, ReadsRegion, RegionRefusal, TestsOffsets}
-use Rattle.block.specs.Says.{saysTrailer-one, saysRegion-one, saysTested-one}
+use Rattle.block.specs.Promise.{PlainTrailer, ReadsTrailer, TestsTrailer, TrailerRefusal, PlainRegion, ReadsRegion, RegionRefusal, TestsOffsets}
+use Rattle.block.specs.Says.{trailerFrom-one, saysTrailer-one, regionFrom-one, saysRegion-one, saysTested-one}
+
+pub plain-trailer-settled : (b : List ℕ) (r q : Trailer) → PlainTrailer b r → PlainTrailer b q → r ≡ q
+plain-trailer-settled b r q m n = trailerFrom-one r q (m ∙ sym n)
 
 pub trailer-of-settled : (b : List ℕ) (r q : TrailerRead) → ReadsTrailer b r → ReadsTrailer b q → r ≡ q
 trailer-of-settled b r q m n = saysTrailer-one r q (m ∙ sym n)
@@ -19,6 +23,9 @@ belongs-to-settled t len r q m n = m ∙ sym n
 
 pub trailer-refusal-settled : (a : TrailerRead) (r q : Refusal) → TrailerRefusal a r → TrailerRefusal a q → r ≡ q
 trailer-refusal-settled a r q m n = m ∙ sym n
+
+pub plain-region-settled : (b : List ℕ) (t : Trailer) (i : ℕ) (r q : Region) → PlainRegion b t i r → PlainRegion b t i q → r ≡ q
+plain-region-settled b t i r q m n = regionFrom-one r q (m ∙ sym n)
 
 pub region-of-settled : (b : List ℕ) (t : Trailer) (i : ℕ) (r q : RegionRead) → ReadsRegion b t i r → ReadsRegion b t i q → r ≡ q
 region-of-settled b t i r q m n = saysRegion-one r q (m ∙ sym n)

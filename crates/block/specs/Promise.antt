@@ -7,10 +7,15 @@ use Rattle.layout.specs.Trailer.{trailerOf}
 use Rattle.types.specs.declared.Refusal.{Refusal}
 use Rattle.block.specs.declared.Trailer.{Trailer}
 use Rattle.block.specs.declared.TrailerRead.{TrailerRead}
+use Rattle.block.specs.declared.Region.{Region}
 use Rattle.block.specs.declared.RegionRead.{RegionRead}
 use Rattle.block.specs.declared.Tested.{Tested}
 use Rattle.block.specs.Handed.{belongs, regionAt, offsetsAt}
-use Rattle.block.specs.Says.{trailerFrom, saysTrailer, saysRegion, saysTested, refusalOfTrailer, refusalOfRegion}
+use Rattle.block.specs.Plain.{trailerOr, regionOr}
+use Rattle.block.specs.Says.{trailerFrom, saysTrailer, regionFrom, saysRegion, saysTested, refusalOfTrailer, refusalOfRegion}
+
+abbrev pub PlainTrailer : List ℕ → Trailer → Type 0
+PlainTrailer b t = trailerFrom t ≡ trailerOr (trailerOf b)
 
 abbrev pub ReadsTrailer : List ℕ → TrailerRead → Type 0
 ReadsTrailer b a = saysTrailer a ≡ trailerOf b
@@ -21,6 +26,9 @@ TestsTrailer t len r = r ≡ belongs len (trailerFrom t)
 
 abbrev pub TrailerRefusal : TrailerRead → Refusal → Type 0
 TrailerRefusal a r = r ≡ refusalOfTrailer a
+
+abbrev pub PlainRegion : List ℕ → Trailer → ℕ → Region → Type 0
+PlainRegion b t r g = regionFrom g ≡ regionOr (regionAt b (trailerFrom t) r)
 
 abbrev pub ReadsRegion : List ℕ → Trailer → ℕ → RegionRead → Type 0
 ReadsRegion b t r a = saysRegion a ≡ regionAt b (trailerFrom t) r

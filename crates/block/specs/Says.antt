@@ -46,14 +46,20 @@ refusalOfRegion (RegionRefused r) = r
 
 -- ---- one to one
 
+pub trailerFrom-one : (t u : Trailer) → trailerFrom t ≡ trailerFrom u → t ≡ u
+trailerFrom-one t u e = ap (λ (x : TrailerL). record { count = x .count; size = x .size }) e
+
+pub regionFrom-one : (g h : Region) → regionFrom g ≡ regionFrom h → g ≡ h
+regionFrom-one g h e = ap (λ (x : RegionL). record { start = x .start; end = x .end; reach = x .reach }) e
+
 pub saysTrailer-one : (a b : TrailerRead) → saysTrailer a ≡ saysTrailer b → a ≡ b
-saysTrailer-one (GoodTrailer t) (GoodTrailer u) e = ap (λ (x : TrailerL). GoodTrailer (record { count = x .count; size = x .size })) (ok-inj e)
+saysTrailer-one (GoodTrailer t) (GoodTrailer u) e = ap GoodTrailer (trailerFrom-one t u (ok-inj e))
 saysTrailer-one (GoodTrailer t) (TrailerRefused r) e = absurd (apart e)
 saysTrailer-one (TrailerRefused r) (GoodTrailer t) e = absurd (apart (sym e))
 saysTrailer-one (TrailerRefused r) (TrailerRefused q) e = ap TrailerRefused (refused-one e)
 
 pub saysRegion-one : (a b : RegionRead) → saysRegion a ≡ saysRegion b → a ≡ b
-saysRegion-one (GoodRegion g) (GoodRegion h) e = ap (λ (x : RegionL). GoodRegion (record { start = x .start; end = x .end; reach = x .reach })) (ok-inj e)
+saysRegion-one (GoodRegion g) (GoodRegion h) e = ap GoodRegion (regionFrom-one g h (ok-inj e))
 saysRegion-one (GoodRegion g) (RegionRefused r) e = absurd (apart e)
 saysRegion-one (RegionRefused r) (GoodRegion g) e = absurd (apart (sym e))
 saysRegion-one (RegionRefused r) (RegionRefused q) e = ap RegionRefused (refused-one e)

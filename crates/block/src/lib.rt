@@ -1,13 +1,14 @@
 // The trailer of a block, read: the restarts' offsets and their count; and the restart regions that the offsets bound.
 // Follows slatedb 0.16.0, src/format/block.rs, and `restart_region_end` of src/block_iterator_v2.rs (Apache License 2.0), and is
 // changed: offsets are read where they stand, each when it is used, and what a block's bytes can break is a refusal.
+ghost use mathlib.Core.Bool.{cond};
 ghost use mathlib.Core.Path.{_≡_};
 ghost use Prim.Native.Nat.{_≤_, _<_, _+_, _*_};
 ghost use lib.ListN.{length};
 ghost use Rattle.layout.specs.Trailer.{shortAt, firstOf, regionOf, allOffsets};
-ghost use Rattle.block.specs.Says.{trailerFrom, saysRegion, saysTested};
-ghost use Rattle.block.specs.Promise.{ReadsTrailer, TestsTrailer, TrailerRefusal, ReadsRegion, RegionRefusal, TestsOffsets};
-use buf::ShortRead;
+ghost use Rattle.block.specs.Plain.{noTrailer, noRegion, regionOr};
+ghost use Rattle.block.specs.Says.{trailerFrom, regionFrom, saysTested};
+ghost use Rattle.block.specs.Promise.{PlainTrailer, ReadsTrailer, TestsTrailer, TrailerRefusal, PlainRegion, ReadsRegion, RegionRefusal, TestsOffsets};
 use types::Refusal;
 
 // How many restarts there are, and how many bytes of rows.
@@ -39,38 +40,57 @@ pub enum Tested {
     Refused(Refusal),
 }
 
+// A byte as a wider number, with its bound said once for all sums of bytes.
+fn wide(x: u8) -> usize
+    ensures { λ r. ⌜ (r ≡ x) × (r < 256) ⌝ }
+{
+    x as usize
+}
+
 // The two bytes at `at`, high byte first.
 fn short_at(block: &[u8], at: usize) -> usize
     requires { ⌜ at + 2 ≤ length (now block) ⌝ }
     ensures { λ r. ⌜ (r ≡ shortAt (now (block .entry)) at) × (r < 65536) ⌝ }
 {
-    let a = buf::get_u16(block, at);
-    // Never taken: the bytes are there.
-    let ShortRead::Short { value, next: _ } = a else {
-        return 0;
-    };
-    value as usize
+    let high = wide(block[at]);
+    let low = wide(block[at + 1]);
+    high * 256 + low
+}
+
+fn no_trailer() -> Trailer
+    ensures { λ r. ⌜ trailerFrom r ≡ noTrailer ⌝ }
+{
+    Trailer { count: 0, size: 0 }
+}
+
+// The trailer as numbers: all 0 where `trailer_of` refuses. A good one counts at least one restart.
+pub fn plain_trailer(block: &[u8]) -> Trailer
+    ensures { λ r. ⌜ PlainTrailer (now (block .entry)) r ⌝ }
+{
+    let len = block.len();
+    if len < 2 {
+        return no_trailer();
+    }
+    let count = short_at(block, len - 2);
+    let taken = 2 + 2 * count;
+    if (count == 0) | (len < taken) {
+        return no_trailer();
+    }
+    Trailer {
+        count,
+        size: len - taken,
+    }
 }
 
 // Reads the count and tests it against the block: 14.
 pub fn trailer_of(block: &[u8]) -> TrailerRead
     ensures { λ r. ⌜ ReadsTrailer (now (block .entry)) r ⌝ }
 {
-    if block.len() < 2 {
-        return TrailerRead::Refused(Refusal::BadTrailer);
+    let t = plain_trailer(block);
+    if 0 < t.count {
+        return TrailerRead::Good(t);
     }
-    let count = short_at(block, block.len() - 2);
-    if count == 0 {
-        return TrailerRead::Refused(Refusal::BadTrailer);
-    }
-    let taken = 2 + 2 * count;
-    if block.len() < taken {
-        return TrailerRead::Refused(Refusal::BadTrailer);
-    }
-    TrailerRead::Good(Trailer {
-        count,
-        size: block.len() - taken,
-    })
+    TrailerRead::Refused(Refusal::BadTrailer)
 }
 
 // Whether these numbers are those of a block of `len` bytes. They may be any, so no sum is made of them that may wrap.
@@ -94,37 +114,53 @@ fn first_of(r: usize, offset: usize) -> usize
     if r == 0 { offset } else { 0 }
 }
 
-fn region_in(block: &[u8], t: Trailer, r: usize) -> RegionRead
+// One of two numbers, with no branch.
+fn pick(first: bool, a: usize, b: usize) -> usize
+    ensures { λ r. ⌜ r ≡ cond first a b ⌝ }
+{
+    if first { a } else { b }
+}
+
+fn no_region() -> Region
+    ensures { λ g. ⌜ regionFrom g ≡ noRegion ⌝ }
+{
+    Region {
+        start: 0,
+        end: 0,
+        reach: 0,
+    }
+}
+
+// Region `r` of a trailer that is the block's, as numbers. The two bytes after the last offset are the count's, so that the next offset can be read before
+// it is known whether there is one.
+fn region_in(block: &[u8], t: Trailer, r: usize) -> Region
     requires { ⌜ (t .size + (2 + 2 * t .count) ≡ length (now block)) × (r < t .count) ⌝ }
-    ensures { λ a. ⌜ saysRegion a ≡ regionOf (now (block .entry)) (trailerFrom t) r ⌝ }
+    ensures { λ g. ⌜ regionFrom g ≡ regionOr (regionOf (now (block .entry)) (trailerFrom t) r) ⌝ }
 {
     let size = t.size;
     let start = short_at(block, size + 2 * r);
-    if 0 < first_of(r, start) {
-        return RegionRead::Refused(Refusal::BadOffset);
+    let next = short_at(block, size + 2 * (r + 1));
+    let last = t.count <= r + 1;
+    let end = pick(last, size, next);
+    let limit = pick(last, size + 1, size);
+    if (0 < first_of(r, start)) | (end <= start) | (limit <= end) {
+        return no_region();
     }
-    if size <= start {
-        return RegionRead::Refused(Refusal::BadOffset);
-    }
-    if r + 1 < t.count {
-        let end = short_at(block, size + 2 * (r + 1));
-        if end <= start {
-            return RegionRead::Refused(Refusal::BadOffset);
-        }
-        if size <= end {
-            return RegionRead::Refused(Refusal::BadOffset);
-        }
-        return RegionRead::Good(Region {
-            start,
-            end,
-            reach: end - 1,
-        });
-    }
-    RegionRead::Good(Region {
+    Region {
         start,
-        end: size,
-        reach: size,
-    })
+        end,
+        reach: pick(last, end, end - 1),
+    }
+}
+
+// Region `r` as numbers: all 0 where `region_of` refuses. A good one ends past 0.
+pub fn plain_region(block: &[u8], t: Trailer, r: usize) -> Region
+    ensures { λ g. ⌜ PlainRegion (now (block .entry)) t r g ⌝ }
+{
+    if !belongs_to(t, block.len()) | (t.count <= r) {
+        return no_region();
+    }
+    region_in(block, t, r)
 }
 
 // Region `r`, with its offset and the next tested: 15. No other offset is looked at. (`restart_region_end` in the Rust.)
@@ -137,7 +173,11 @@ pub fn region_of(block: &[u8], t: Trailer, r: usize) -> RegionRead
     if t.count <= r {
         return RegionRead::Refused(Refusal::BadState);
     }
-    region_in(block, t, r)
+    let region = region_in(block, t, r);
+    if region.end == 0 {
+        return RegionRead::Refused(Refusal::BadOffset);
+    }
+    RegionRead::Good(region)
 }
 
 fn offsets_rise(block: &[u8], t: Trailer) -> Tested

@@ -1,33 +1,46 @@
 -- `short_at` keeps its promise: the two bytes that its caller knows to be there.
--- With both there `get_u16` refuses nothing, and what it reads is the definition's number.
-use mathlib.Core.Path.{_∙_}
-use borrow.Author.Needs.{needs}
+-- Both are bytes, so that no sum of them wraps, and the number that they make is the definition's.
+use mathlib.Core.Path.{sym}
 use Rattle.layout.specs.Laws.Place.{fixedAt-two}
 use Rattle.layout.specs.Laws.Trailer.{short-read}
-use Rattle.types.specs.Answers.{yes, apart}
-use Rattle.buf.specs.Says.{saysShort}
+use borrow.Author.Needs.{needs}
 use Rattle.block.proofs.short_at.Statement.{statement}
 use Rattle.block.proofs.short_at.Tie as tie
 
-get-u16-requires : tie.Need-get-u16-requires
-get-u16-requires c κs = search needs
+shared-slice-read-wide : tie.Need-shared-slice-read-wide
+shared-slice-read-wide c = search needs
 
-enum-known-a : tie.Need-enum-known-a
-enum-known-a c = search needs
+wide-requires : tie.Need-wide-requires
+wide-requires c κs = search needs
 
-enum-told : tie.Need-enum-told
-enum-told c = search needs
+add-wide : tie.Need-add-wide
+add-wide c = search needs
+
+shared-slice-read-wide-2 : tie.Need-shared-slice-read-wide-2
+shared-slice-read-wide-2 c = search needs
+
+wide-requires-2 : tie.Need-wide-requires-2
+wide-requires-2 c κs = search needs
+
+mul-result : tie.Need-mul-result
+mul-result c = search needs
+
+add-result : tie.Need-add-result
+add-result c = search needs
 
 returns : tie.Need-returns
-returns c =
-    let s = c .before .before .before .before in
-    absurd (apart (fixedAt-two (s .args .block .now) (s .args .at) (s .pre) ∙ yes saysShort (c .before .before .get-u16 .ensures) (c .enum-told .given .1)))
-
-cast-result : tie.Need-cast-result
-cast-result c = search needs
-
-returns-2 : tie.Need-returns-2
-returns-2 c = (short-read _ _ _ (yes saysShort (c .before .before .before .get-u16 .ensures) (c .before .a .given .1)), search needs)
+returns c = let s = c .before .before .before .before .before in
+    (rw (c .before .before .wide .ensures .0, c .wide2 .ensures .0) (short-read _ _ _ (sym (fixedAt-two (s .args .block .now) (s .args .at) (s .pre)))), search needs)
 
 pub short-at-spec : {M : Type 1} → statement M
-short-at-spec = tie.close (tie.spec get-u16-requires enum-known-a enum-told returns cast-result returns-2)
+short-at-spec =
+    tie.close
+    (tie.spec
+    shared-slice-read-wide
+    wide-requires
+    add-wide
+    shared-slice-read-wide-2
+    wide-requires-2
+    mul-result
+    add-result
+    returns)
