@@ -1,6 +1,7 @@
-/* How deep a stack each function of the libraries uses: it is run on a stack of its own that is painted before, over blocks with short keys and with
- * the longest, with the most restarts and with the deepest search among them, both ways, and the lowest byte that lost its paint is looked for. The
- * most of all runs is printed, and must be at most 16 KiB. */
+/* How deep a stack each function of the libraries uses: it is run on a stack of its own that is painted before,
+ * over blocks with short keys and with the longest, with the most restarts and with the deepest search among them,
+ * both ways, and the lowest byte that lost its paint is looked for. The most of all runs is printed. It must be at
+ * most 4 KiB for a function of slatedb_block, and 16 KiB for one of a library that is there for comparing. */
 #define _GNU_SOURCE
 #include "slatedb_by_value.h"
 #include "slatedb_parts.h"
@@ -10,7 +11,10 @@
 #include <string.h>
 #include <ucontext.h>
 
-enum { STACK = 256 * 1024, LIMIT = 16 * 1024, DATA = 65536, PLACES = 64, PAINT = 0xA5 };
+enum { STACK = 256 * 1024, DATA = 65536, PLACES = 64, PAINT = 0xA5 };
+
+/* The limits. */
+enum { OF_BLOCK = 4 * 1024, FOR_COMPARING = 16 * 1024 };
 
 /* The least row of a restart, its bytes up to its key, and how many such restarts a block can have whose rows are whole. */
 enum { ROW = 13, KEY_END = 4, MOST_RESTARTS = 5042 };
@@ -150,28 +154,29 @@ static void call_decode_key(void) {
 static struct {
     const char *name;
     void (*call)(void);
+    size_t limit;
     size_t most;
     unsigned good;
 } functions[] = {
-    {"slatedb_encode", call_encode, 0, 0},
-    {"slatedb_decode", call_decode, 0, 0},
-    {"slatedb_builder_new", call_builder_new, 0, 0},
-    {"slatedb_builder_would_fit", call_builder_would_fit, 0, 0},
-    {"slatedb_builder_add", call_builder_add, 0, 0},
-    {"slatedb_builder_is_empty", call_builder_is_empty, 0, 0},
-    {"slatedb_builder_build", call_builder_build, 0, 0},
-    {"slatedb_check", call_check, 0, 0},
-    {"slatedb_open", call_open, 0, 0},
-    {"slatedb_next", call_next, 0, 0},
-    {"slatedb_seek", call_seek, 0, 0},
-    {"slatedb_is_empty", call_is_empty, 0, 0},
-    {"slatedb_builder_add_by_value", call_builder_add_by_value, 0, 0},
-    {"slatedb_next_by_value", call_next_by_value, 0, 0},
-    {"slatedb_walk_by_value", call_walk_by_value, 0, 0},
-    {"slatedb_walk_in_place", call_walk_in_place, 0, 0},
-    {"slatedb_varint_put", call_varint_put, 0, 0},
-    {"slatedb_varint_get", call_varint_get, 0, 0},
-    {"slatedb_decode_key", call_decode_key, 0, 0},
+    {"slatedb_encode", call_encode, OF_BLOCK, 0, 0},
+    {"slatedb_decode", call_decode, OF_BLOCK, 0, 0},
+    {"slatedb_builder_new", call_builder_new, OF_BLOCK, 0, 0},
+    {"slatedb_builder_would_fit", call_builder_would_fit, OF_BLOCK, 0, 0},
+    {"slatedb_builder_add", call_builder_add, OF_BLOCK, 0, 0},
+    {"slatedb_builder_is_empty", call_builder_is_empty, OF_BLOCK, 0, 0},
+    {"slatedb_builder_build", call_builder_build, OF_BLOCK, 0, 0},
+    {"slatedb_check", call_check, OF_BLOCK, 0, 0},
+    {"slatedb_open", call_open, OF_BLOCK, 0, 0},
+    {"slatedb_next", call_next, OF_BLOCK, 0, 0},
+    {"slatedb_seek", call_seek, OF_BLOCK, 0, 0},
+    {"slatedb_is_empty", call_is_empty, OF_BLOCK, 0, 0},
+    {"slatedb_builder_add_by_value", call_builder_add_by_value, FOR_COMPARING, 0, 0},
+    {"slatedb_next_by_value", call_next_by_value, FOR_COMPARING, 0, 0},
+    {"slatedb_walk_by_value", call_walk_by_value, FOR_COMPARING, 0, 0},
+    {"slatedb_walk_in_place", call_walk_in_place, FOR_COMPARING, 0, 0},
+    {"slatedb_varint_put", call_varint_put, FOR_COMPARING, 0, 0},
+    {"slatedb_varint_get", call_varint_get, FOR_COMPARING, 0, 0},
+    {"slatedb_decode_key", call_decode_key, FOR_COMPARING, 0, 0},
 };
 
 enum { FUNCTIONS = sizeof functions / sizeof *functions };
@@ -310,18 +315,29 @@ static uint64_t over_many_restarts(void) {
     return seek_letter('a', reads);
 }
 
+/* Each function of one limit, and the deepest of them. 1 if one is deeper, or never answered well. */
+static int print_within(size_t limit, size_t base, const char *where) {
+    size_t deepest = 0;
+    int failed = 0;
+    for (size_t i = 0; i < FUNCTIONS; i++) {
+        if (functions[i].limit == limit) {
+            size_t deep = functions[i].most - base;
+            printf("%-28s %6zu bytes of stack\n", functions[i].name, deep);
+            deepest = deepest < deep ? deep : deepest;
+            failed |= limit < deep || functions[i].good == 0;
+        }
+    }
+    printf("the deepest of %s: %zu of %zu bytes\n", where, deepest, limit);
+    return failed;
+}
+
 int main(void) {
-    size_t base = depth(nothing), most = 0;
+    size_t base = depth(nothing);
     over_keys_of(16, 200);
     over_keys_of(SLATEDB_KEY_BYTES, 50);
     uint64_t reads = over_many_restarts();
-    int failed = reads != DEEPEST;
-    for (size_t i = 0; i < FUNCTIONS; i++) {
-        size_t deep = functions[i].most - base;
-        printf("%-28s %6zu bytes of stack\n", functions[i].name, deep);
-        most = most < deep ? deep : most;
-        failed |= LIMIT < deep || functions[i].good == 0;
-    }
-    printf("the deepest: %zu of %d bytes; the longest search read %llu restart keys\n", most, LIMIT, (unsigned long long)reads);
-    return failed;
+    int failed = print_within(OF_BLOCK, base, "slatedb_block");
+    failed |= print_within(FOR_COMPARING, base, "the others");
+    printf("the longest search read %llu restart keys\n", (unsigned long long)reads);
+    return failed || reads != DEEPEST;
 }
