@@ -19,7 +19,6 @@ fn main() {
     write("slatedb.rs", module_tree(&source, &out, &here));
     // BlockBuilderV2::new_with_restart_interval is #[cfg(test)] in the source
     println!("cargo:rustc-cfg=test");
-    link_second_implementation();
 }
 
 /// A comparison with a changed source would say nothing of slatedb.
@@ -128,17 +127,4 @@ fn module_tree(source: &str, out: &str, here: &str) -> String {
         "}\n".into(),
     ]
     .concat()
-}
-
-/// For the bench: the static library that the feature `ffi` is about.
-fn link_second_implementation() {
-    if env::var("CARGO_FEATURE_FFI").is_ok() {
-        println!("cargo:rerun-if-env-changed=ORACLE_FFI_DIR");
-        println!("cargo:rerun-if-env-changed=ORACLE_FFI_LIB");
-        let dir = env::var("ORACLE_FFI_DIR").expect("ORACLE_FFI_DIR = folder of the static library");
-        let lib = env::var("ORACLE_FFI_LIB").expect("ORACLE_FFI_LIB = name without lib and .a");
-        println!("cargo:rustc-link-search=native={dir}");
-        println!("cargo:rustc-link-lib=static={lib}");
-        println!("cargo:rerun-if-changed={dir}/lib{lib}.a");
-    }
 }

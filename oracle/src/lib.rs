@@ -2,4 +2,5 @@
 #![allow(explicit_builtin_cfgs_in_flags)] // build.rs sets cfg(test), see there
 #![allow(dead_code, unused_imports)]
 include!(concat!(env!("OUT_DIR"), "/slatedb.rs"));
+pub mod rng;
 pub use format::{direct, driver, timing};

@@ -2,7 +2,7 @@
 //! the check accepts, so that the Rust and the proved code must answer the same.
 #![allow(explicit_builtin_cfgs_in_flags)]
 use slate_oracle::driver::{command, hex};
-use slate_oracle::timing::Rng;
+use slate_oracle::rng::Rng;
 
 struct Row {
     key: Vec<u8>,

@@ -1,6 +1,6 @@
 //! Inputs by chance, around every limit; blocks as they are built, blocks that no builder writes, and damage to both.
 use slate_oracle::direct::Row;
-use slate_oracle::timing::Rng;
+use slate_oracle::rng::Rng;
 
 pub fn below(rng: &mut Rng, bound: usize) -> usize {
     (rng.next() % bound as u64) as usize

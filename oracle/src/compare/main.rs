@@ -18,7 +18,7 @@ mod tally;
 
 use calls::{Arg, Call, Expected, Function};
 use guest::Guest;
-use slate_oracle::timing::Rng;
+use slate_oracle::rng::Rng;
 use tally::Tally;
 
 pub struct Run {
