@@ -1,94 +1,32 @@
--- `copy_in` keeps its promise: the bytes of `src`, or 6 and an untouched buffer.
--- The loop's invariant: what is left of `src`, stored from `at + i` on, makes the buffer that is wanted.
-use Prim.Native.Nat.{ℕ, suc, _+_, _-_, _≤_}
-use mathlib.Core.Path.{_≡_, refl, ap, _∙_}
+-- `copy_in` keeps its promise: the bytes of `src`, or 6 and an untouched buffer. The room is tested first, without a sum, and then all of it is copied.
+use mathlib.Core.Path.{refl}
 use native.Mathlib.Omega.{arith}
-use lib.ListN.{length, drop, length-set, drop-of-length-le}
-use lib.Seq.{sets, drop-cons}
-use Rattle.layout.specs.Laws.Splice.{sets-splice}
+use borrow.Author.Needs.{needs}
 use Rattle.buf_mut.proofs.Laws.{puts-short, puts-wrote}
 use Rattle.buf_mut.proofs.copy_in.Statement.{statement}
 use Rattle.buf_mut.proofs.copy_in.Tie as tie
 
-abbrev Inv-loop : tie.InvT-loop
-Inv-loop buf₀ at src i₀ buf i = (i ≤ length src) × (sets buf (at + i) (drop i src) ≡ sets buf₀ at src) × (length buf ≡ length buf₀)
-
-abbrev μ-loop : tie.MeasureT-loop
-μ-loop buf₀ at src i₀ buf i = length src - i
-
-returns : tie.Need-returns Inv-loop μ-loop
+returns : tie.Need-returns
 returns c = puts-short _ _ _ (omega arith)
 
-sub-if2 : tie.Need-sub-if2 Inv-loop μ-loop
-sub-if2 c = omega arith
+sub-if2 : tie.Need-sub-if2
+sub-if2 c = search needs
 
-returns-2 : tie.Need-returns-2 Inv-loop μ-loop
+returns-2 : tie.Need-returns-2
 returns-2 c = puts-short _ _ _ (omega arith)
 
-loop-holds : tie.Need-loop-holds Inv-loop μ-loop
-loop-holds c =
-    let a = c .before .before .args in
-    (omega arith, ap (λ (k : ℕ). sets (a .buf .now) k (a .src .now)) (omega arith), refl)
+copy-all-requires : tie.Need-copy-all-requires
+copy-all-requires c κs = search needs
 
-shared-slice-read-buf : tie.Need-shared-slice-read-buf Inv-loop μ-loop
-shared-slice-read-buf c = omega arith
+add-t7 : tie.Need-add-t7
+add-t7 c = search needs
 
-add-buf : tie.Need-add-buf Inv-loop μ-loop
-add-buf c = omega arith
+same-length : tie.Need-same-length
+same-length c = search needs
 
-slice-write-buf : tie.Need-slice-write-buf Inv-loop μ-loop
-slice-write-buf c = omega arith
-
-add-i : tie.Need-add-i Inv-loop μ-loop
-add-i c = omega arith
-
-loop-less : tie.Need-loop-less Inv-loop μ-loop
-loop-less c = omega arith
-
-loop-again : tie.Need-loop-again Inv-loop μ-loop
-loop-again c =
-    let l = c .before .before .loop in
-    let a = c .before .before .before .before .before .args in
-    let next : a .at + (l .i + 1) ≡ suc (a .at + l .i) = omega arith in
-    let one : l .i + 1 ≡ suc (l .i) = omega arith in (
-      omega arith,
-      rw (next, one) (rw (drop-cons (a .src .now) (l .i) 0 (c .before .loop-test .taken)) at (l .inv .1)),
-      rw length-set (l .inv .2),
-    )
-
-add-t5 : tie.Need-add-t5 Inv-loop μ-loop
-add-t5 c = omega arith
-
-same-length : tie.Need-same-length Inv-loop μ-loop
-same-length c = c .before .loop .inv .2
-
-returns-3 : tie.Need-returns-3 Inv-loop μ-loop
-returns-3 c =
-    let l = c .before .loop in
-    let a = c .before .before .before .before .args in
-    let fits : a .at + length (a .src .now) ≤ length (a .buf .now) = omega arith in
-    puts-wrote (record {
-      is = (rw (drop-of-length-le (a .src .now) (c .loop-test .left)) at (l .inv .1)) ∙ sets-splice (a .buf .now) (a .at) (a .src .now) fits;
-      next = omega arith;
-      room = omega arith;
-    })
+returns-3 : tie.Need-returns-3
+returns-3 c = puts-wrote (record { is = c .before .before .copy-all .ensures; next = refl; room = omega arith })
 
 pub copy-in-spec : {M : Type 1} → statement M
 copy-in-spec =
-    tie.close
-    (tie.spec
-    Inv-loop
-    μ-loop
-    returns
-    sub-if2
-    returns-2
-    loop-holds
-    shared-slice-read-buf
-    add-buf
-    slice-write-buf
-    add-i
-    loop-less
-    loop-again
-    add-t5
-    same-length
-    returns-3)
+    tie.close (tie.spec returns sub-if2 returns-2 copy-all-requires add-t7 same-length returns-3)
