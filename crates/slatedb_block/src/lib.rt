@@ -4,6 +4,7 @@
 ghost use mathlib.Core.Path.{_≡_};
 ghost use lib.ListN.{length};
 ghost use Rattle.block_v2.specs.Promise.{Makes};
+ghost use Rattle.block_rows_v2.specs.Promise.{RowsFlat};
 ghost use Rattle.block_words.specs.Exports.{AddsFlat, StepsFlat};
 ghost use Rattle.block_words.specs.Says.{builderAlone, iteratorFrom};
 ghost use Rattle.row_words.specs.Words.{builderCount, cursorCount, rowCount};
@@ -365,6 +366,22 @@ pub extern "C" fn slatedb_next(
     };
     let moved = block_step_v2::next_in_place(key, p, block, out);
     put_moved(cursor, row, moved)
+}
+
+// Many steps, in place, as many as `rows` has whole rows' words for: 254, then what the first step answers, unless it finds a row. Good gives `count` rows, their
+// keys one after another from the start of `keys`; a step that finds no row, or a key that does not fit what is left of `keys`, ends the call before it.
+#[no_mangle]
+pub extern "C" fn slatedb_next_rows(
+    block: &[u8],
+    cursor: &mut [u64],
+    key: &mut [u8],
+    keys: &mut [u8],
+    rows: &mut [u64],
+    count: &mut u64,
+) -> u8
+    ensures { λ r. ⌜ RowsFlat (now (block .entry)) (now (cursor .entry)) (now (key .entry)) (now (keys .entry)) (now (rows .entry)) (now (count .entry)) r (now (cursor .exit)) (now (key .exit)) (now (keys .exit)) (now (rows .exit)) (now (count .exit)) ⌝ }
+{
+    block_rows_v2::next_rows(block, cursor, key, keys, rows, count)
 }
 
 // Tells how a seek ended, and how many restart keys it read.

@@ -1,26 +1,20 @@
 -- What a step that finds a row tells a walk: the key has a byte, fits the buffer of 1,024 and stands whole at its start.
--- The step's definition is taken apart; ascending and descending, the key comes from one read of a row.
-use Prim.Native.Nat.{ℕ, zero, suc, _+_, _-_, _≤_}
+-- What the step tells of its key is `next-given`; the buffer begins with the key that was put there.
+use Prim.Native.Nat.{ℕ, _+_, _≤_}
 use mathlib.Core.Path.{_≡_, refl, ap, sym, _∙_}
-use mathlib.Core.List.{List, []}
-use mathlib.Core.Logic.{⊎-elim}
+use mathlib.Core.List.{List}
 use native.Mathlib.Omega.{arith}
-use lib.Dec.{ltb, leb, eqb}
 use lib.ListN.{length, take}
 use lib.Seq.{length-take-le}
-use borrow.Author.Tests.{ltb-false}
 use Rattle.layout.specs.Answer.{Res, ok, refuse, bind}
 use Rattle.layout.specs.Limits.{maxKey}
 use Rattle.layout.specs.Key.{Key}
 use Rattle.layout.specs.Place.{splice}
-use Rattle.layout.specs.RowRead.{RowRead, readRow, keyLength, keyOf}
-use Rattle.layout.specs.Trailer.{Trailer, trailerOf, dataOf, Region, regionOf}
-use Rattle.layout.specs.Cursor.{Direction, ascending, descending, Cursor, Answer, found, done, Step, stepIs, stepUp, Keyed, keyed, rowEndingAt, stepBackIn, stepDown, stepAlong, next, cursorAfter, keyAfter}
-use Rattle.layout.specs.Laws.Answer.{bind-then, guard-then, cond-ok, ok-inj}
-use Rattle.layout.specs.Laws.Carry.{keyOf-length}
-use Rattle.layout.specs.Laws.Cursor.{ended}
+use Rattle.layout.specs.RowRead.{RowRead, keyLength}
+use Rattle.layout.specs.Cursor.{Cursor, Answer, found, done, Step, stepIs, next, cursorAfter, keyAfter}
+use Rattle.layout.specs.Laws.Answer.{ok-inj}
 use Rattle.layout.specs.Laws.Splice.{take-past-splice}
-use Rattle.layout.specs.Laws.Tells.{readRow-ends}
+use Rattle.region_rows_v2.specs.StepKey.{KeyedWell, next-given}
 use Rattle.types.specs.Answers.{apart, yes}
 use Rattle.types.specs.Number.{number}
 use Rattle.types.specs.declared.Refusal.{Refusal}
@@ -33,91 +27,6 @@ use Rattle.block_step_v2.specs.declared.Moved.{Moved}
 use Rattle.block_step_v2.specs.declared.Moved.the-variants.{Found, Done, Refused}
 use Rattle.block_step_v2.specs.declared.Place.{Place}
 
--- ---- the key that a step gives
-
-record Keyed-well (r : RowRead) (key : Key) : Type 0 where
-  some : 1 ≤ keyLength r
-  fits : keyLength r ≤ maxKey
-  whole : length key ≡ keyLength r
-
-abbrev Given : Answer → Type 0
-Given (found r key) = Keyed-well r key
-Given done = Unit {0}
-
-ended-some : (left : ℕ) (d : List ℕ) (g : Region) (stop at : ℕ) (before : Key) (k : Keyed) → rowEndingAt left d g stop at before ≡ ok k → 1 ≤ keyLength (k .row)
-unfolding rowEndingAt
-ended-some zero d g stop at before k e = absurd (apart (sym e))
-ended-some (suc left) d g stop at before k e =
-    bind-then (readRow d at (g .end) (length before) (eqb at (g .start))) _ k e λ r p q.
-    ⊎-elim
-    (λ t. ended-some left d g stop (r .next) (keyOf d before r) k (t .1))
-    (λ t.
-    guard-then (ltb stop (r .next)) 18 _ k (t .1) λ _ v.
-    let is : keyed r (keyOf d before r) ≡ k = ok-inj v in
-    rw (← is) (readRow-ends d at (g .end) (length before) (eqb at (g .start)) r p .some))
-    (cond-ok (ltb (r .next) stop) _ _ k q)
-
-module _ (c : Cursor) (s : Step) where
-  given-of : {d : Cursor} {a : Answer} → ok (stepIs d a) ≡ ok s → Given a → Given (s .answer)
-  given-of e g = rw (← ap (λ (x : Step). x .answer) (ok-inj e)) g
-
-  module _ (b : List ℕ) (t : Trailer) (room : ℕ) where
-    up-given : length (c .key) ≡ c .keyLen → stepUp c b t room ≡ ok s → Given (s .answer)
-    unfolding stepUp
-    up-given long e =
-        bind-then (regionOf b t (c .region)) _ s e λ g _ f.
-        guard-then (ltb (c .at) (g .start)) 18 _ s f λ _ f.
-        guard-then (ltb (g .reach) (c .at)) 18 _ s f λ _ f.
-        ⊎-elim (λ w. given-of (w .1) tt)
-        (λ w.
-        bind-then (readRow (dataOf b t) (c .at) (g .end) (c .keyLen) (eqb (c .at) (g .start))) _ s (w .1) λ r p f.
-        guard-then (ltb room (keyLength r)) 19 _ s f λ _ f. given-of f (keyed-up g r p))
-        (cond-ok (eqb (c .at) (g .end)) _ _ s f)
-      where
-        keyed-up : (g : Region) (r : RowRead) → readRow (dataOf b t) (c .at) (g .end) (c .keyLen) (eqb (c .at) (g .start)) ≡ ok r → Keyed-well r (keyOf (dataOf b t) (c .key) r)
-        keyed-up g r p =
-            let w = readRow-ends (dataOf b t) (c .at) (g .end) (c .keyLen) (eqb (c .at) (g .start)) r p in
-            record {
-              some = w .some;
-              fits = w .fits;
-              whole = keyOf-length (dataOf b t) (c .at) (g .end) (c .key) (eqb (c .at) (g .start)) r (ap (λ (n : ℕ). readRow (dataOf b t) (c .at) (g .end) n (eqb (c .at) (g .start))) long ∙ p);
-            }
-
-    back-given : (region : ℕ) (g : Region) → stepBackIn c b t room region g ≡ ok s → Given (s .answer)
-    unfolding stepBackIn
-    back-given region g e =
-        bind-then (rowEndingAt (c .at) (dataOf b t) g (c .at) (g .start) []) _ s e λ k p f.
-        guard-then (ltb room (keyLength (k .row))) 19 _ s f λ _ f.
-        let w = ended (c .at) (dataOf b t) g (c .at) (g .start) [] k p in
-        given-of f (record { some = ended-some (c .at) (dataOf b t) g (c .at) (g .start) [] k p; fits = w .fits; whole = w .whole })
-
-    down-given : stepDown c b t room ≡ ok s → Given (s .answer)
-    unfolding stepDown
-    down-given e =
-        bind-then (regionOf b t (c .region)) _ s e λ g _ f.
-        guard-then (ltb (c .at) (g .start)) 18 _ s f λ _ f.
-        guard-then (ltb (g .end) (c .at)) 18 _ s f λ _ f.
-        ⊎-elim
-        (λ w.
-        ⊎-elim (λ v. given-of (v .1) tt) (λ v. bind-then (regionOf b t (c .region - 1)) _ s (v .1) λ h _ f. back-given (c .region - 1) h f)
-        (cond-ok (eqb (c .region) 0) _ _ s (w .1)))
-        (λ w. back-given (c .region) g (w .1))
-        (cond-ok (eqb (c .at) (g .start)) _ _ s f)
-
-    along-given : (d : Direction) → length (c .key) ≡ c .keyLen → stepAlong d c b t room ≡ ok s → Given (s .answer)
-    along-given ascending long e = up-given long e
-    along-given descending long e = down-given e
-
-  -- a cursor whose key is as long as it says, unless that is too long
-  next-given : (b : List ℕ) (room : ℕ) → (c .keyLen ≤ maxKey → length (c .key) ≡ c .keyLen) → next c b room ≡ ok s → Given (s .answer)
-  unfolding next
-  next-given b room long e =
-      bind-then (trailerOf b) _ s e λ t _ f.
-      guard-then (leb (t .count) (c .region)) 18 _ s f λ _ f.
-      guard-then (ltb maxKey (c .keyLen)) 18 _ s f λ few f.
-      ⊎-elim (λ w. given-of (w .1) tt) (λ w. along-given b t room (c .direction) (long (ltb-false maxKey (c .keyLen) few)) (w .1))
-      (cond-ok (c .mark) _ _ s f)
-
 -- ---- a row found: the step from c to d, whose key stands at the start of what the buffer then holds
 
 pub record Finds (b : List ℕ) (c d : Cursor) (r : RowRead) (out′ : List ℕ) : Type 0 where
@@ -125,7 +34,7 @@ pub record Finds (b : List ℕ) (c d : Cursor) (r : RowRead) (out′ : List ℕ)
   pub some : 1 ≤ keyLength r
   pub fits : keyLength r ≤ maxKey
 
-stands : (r : RowRead) (key out : List ℕ) → Keyed-well r key → length out ≡ maxKey → take (keyLength r) (splice out 0 key) ≡ key
+stands : (r : RowRead) (key out : List ℕ) → KeyedWell maxKey r key → length out ≡ maxKey → take (keyLength r) (splice out 0 key) ≡ key
 stands r key out w h =
     let long : keyLength r ≡ 0 + length key = omega (arith, w .whole) in
     ap (λ (n : ℕ). take n (splice out 0 key)) long ∙ take-past-splice out 0 key (omega (arith, w .whole, w .fits))

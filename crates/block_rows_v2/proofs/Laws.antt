@@ -1,0 +1,179 @@
+-- The exits of the loop and of the call: what each answers and leaves.
+-- A run that is wanted is met by its rows, its cursor and its count; where the first step finds no row, nothing is written.
+use Prim.Native.Nat.{ℕ, _+_, _-_, _*_, _<_, _≤_}
+use mathlib.Core.Path.{_≡_, refl, ap, ap₂, sym, _∙_}
+use mathlib.Core.Bool.{Bool, true, false, cond}
+use mathlib.Core.List.{List, [], _∷_, append-nil}
+use native.Mathlib.Nat.{add-zero}
+use native.Mathlib.Omega.{arith}
+use lib.ListN.{length, take, drop-of-length-le}
+use lib.Seq.{length-take-le}
+use borrow.Author.Tests.{eq-eqb, ne-eqb}
+use borrow.Rule.Slice.PartMut.{midOf, putMid, mid-len, put-same}
+use Rattle.layout.specs.Answer.{Res, ok, refuse}
+use Rattle.layout.specs.Limits.{maxKey}
+use Rattle.layout.specs.Place.{splice}
+use Rattle.layout.specs.Row.{Time, Absent, At}
+use Rattle.layout.specs.RowRead.{Held, holds, gone, merges, RowRead, keyLength}
+use Rattle.layout.specs.Cursor.{Cursor, done, Step, stepIs, Keyed, next}
+use Rattle.layout.specs.Laws.Answer.{ok-inj}
+use Rattle.layout.specs.Laws.Splice.{Wrote, wrote-rest, splice-lent, splice-none}
+use Rattle.types.specs.Answers.{apart}
+use Rattle.types.specs.Number.{number}
+use Rattle.types.specs.Says.{saysOrder}
+use Rattle.types.specs.declared.Refusal.{Refusal}
+use Rattle.block_step_v2.specs.Says.{viewIn}
+use Rattle.block_step_v2.specs.declared.Place.{Place}
+use Rattle.row_words.specs.Words.{badWords, doneCode, codeOf, cursorIn, cursorWords, heldWords, timeWords, rowWords, rowCount}
+use Rattle.row_words.specs.Promise.{Stores}
+use Rattle.row_words.proofs.Laws.{stored}
+use Rattle.region_rows_v2.specs.Found.{Finds}
+use Rattle.region_rows_v2.specs.StepKey.{next-given}
+use Rattle.block_rows_v2.specs.declared.Gave.{Gave}
+use Rattle.block_rows_v2.specs.declared.Gave.the-variants.{Rows, Refused}
+use Rattle.block_rows_v2.specs.Rows.{Run, runIs, nextRows, keysOf, wordsOf}
+use Rattle.block_rows_v2.specs.Chain.{Gone, gone-more, gone-full, gone-stop, gone-first, Stops, rows-refused, rows-done}
+use Rattle.block_rows_v2.specs.Promise.{RowsAs, mostRows, RowsFlat}
+use Rattle.block_rows_v2.specs.Says.{End, endIs, Gives, PutsGave}
+
+-- ---- the words of one row, in their place
+
+held-count : (h : Held) (rest : List ℕ) → length (heldWords h rest) ≡ 3 + length rest
+held-count (holds at n) rest = omega arith
+held-count gone rest = omega arith
+held-count (merges at n) rest = omega arith
+
+time-count : (t : Time) (rest : List ℕ) → length (timeWords t rest) ≡ 2 + length rest
+time-count Absent rest = omega arith
+time-count (At z) rest = omega arith
+
+words-count : (r : RowRead) → length (rowWords r) ≡ rowCount
+words-count r =
+    omega (arith, held-count (r .held) (r .seq ∷ timeWords (r .expire) (timeWords (r .create) [])), time-count (r .expire) (timeWords (r .create) []), time-count (r .create) [])
+
+all-put : (w xs : List ℕ) → length xs ≡ length w → splice xs 0 w ≡ w
+unfolding splice
+all-put w xs g = rw (drop-of-length-le xs {i = 0 + length w} (omega arith), append-nil w) refl
+
+-- a part that is all of w, put back
+put-part : (xs : List ℕ) (a k e : ℕ) (w part : List ℕ) → length (midOf a k xs) ≡ length w → e ≡ a + length w → e ≤ length xs → part ≡ w → Wrote xs a w (putMid a k xs part) e
+put-part xs a k e w part long q h is =
+    record {
+      is = ap (putMid a k xs) (is ∙ sym (all-put w (midOf a k xs) long)) ∙ splice-lent xs a k 0 w (omega (arith, long)) ∙ ap (λ (i : ℕ). splice xs i w) (add-zero a);
+      next = q;
+      room = h;
+    }
+
+pub put-words : (rows : List ℕ) (n : ℕ) (r : RowRead) (part : List ℕ) {t : Bool} → (n + 1) * rowCount ≤ length rows
+    → Stores rowCount (rowWords r) (midOf (n * rowCount) (n * rowCount + rowCount - n * rowCount) rows) t part
+    → Wrote rows (n * rowCount) (rowWords r) (putMid (n * rowCount) (n * rowCount + rowCount - n * rowCount) rows part) ((n + 1) * rowCount)
+put-words rows n r part h s =
+    let count : length (rowWords r) ≡ rowCount = words-count r in
+    let long : length (midOf (n * rowCount) (n * rowCount + rowCount - n * rowCount) rows) ≡ rowCount = mid-len (n * rowCount) (n * rowCount + rowCount) rows (omega arith) ∙ omega arith in
+    put-part rows (n * rowCount) (n * rowCount + rowCount - n * rowCount) ((n + 1) * rowCount) (rowWords r) part (long ∙ sym count) (omega (arith, count)) h (stored long s)
+
+-- ---- a run that is wanted
+
+gives-rows : {want : Res Run} {o : Bool} {c : Cursor} {ks : List Keyed} (key keys rows : List ℕ) {p : Place} {n : ℕ} {key′ keys′ rows′ : List ℕ} → want ≡ ok (runIs o c ks) → viewIn p key′ ≡ c
+    → n ≡ length ks → keys′ ≡ splice keys 0 (keysOf ks) → rows′ ≡ splice rows 0 (wordsOf ks) → Gives want key keys rows (Rows o p n) key′ keys′ rows′
+gives-rows {o = o} key keys rows e v m k w = rw e (record { answer = ap₂ (λ (x : Cursor) (y : ℕ). ok (endIs o x y)) v m; whole = tt; keys-given = k; row-words = w })
+
+-- ---- a turn of the loop: the row that was found, with its key and its words
+
+module _ {b keys₀ rows₀ : List ℕ} {c₀ c : Cursor} {keys rows : List ℕ} {used n : ℕ} (g : Gone b keys₀ rows₀ c₀ c keys rows used n) (long : length keys ≡ length keys₀) (inside : used ≤ length keys) where
+  abbrev rest : List ℕ
+  rest = midOf used (length keys - used) keys
+
+  rest-long : length rest ≡ length keys₀ - used
+  rest-long = mid-len used (length keys) keys (omega arith) ∙ omega arith
+
+  module _ {d : Cursor} {r : RowRead} {out′ : List ℕ} (f : Finds b c d r rest out′) where
+    pub key-fits : used + keyLength r ≤ length keys
+    key-fits = omega (arith, f .well .held, rest-long)
+
+    pub turn : {rows′ : List ℕ} → Wrote rows (n * rowCount) (rowWords r) rows′ ((n + 1) * rowCount)
+        → Gone b keys₀ rows₀ c₀ d (putMid used (length keys - used) keys out′) rows′ (used + keyLength r) (n + 1)
+    turn v =
+        gone-more g (length rest) d r (f .key) rest-long (f .is)
+        (wrote-rest keys used (used + keyLength r) (f .key) out′ (omega (arith, key-fits, f .well .whole)) (omega (arith, f .well .whole)) (f .lent)) v
+
+  -- ---- the exits: the rows so far; or, with none yet, what the first step answers
+
+  module _ (most : ℕ) (key : List ℕ) {out′ : List ℕ} (o : out′ ≡ rest) where
+    back : putMid used (length keys - used) keys out′ ≡ keys
+    back = ap (putMid used (length keys - used) keys) o ∙ put-same used (length keys - used) keys
+
+    pub stopped : {p : Place} {key′ : List ℕ} → n < most → (n ≡ 0 → ⊥) → Stops c b (length rest) → viewIn p key′ ≡ c
+        → Gives (nextRows most c₀ b (length keys₀)) key keys₀ rows₀ (Rows false p n) key′ (putMid used (length keys - used) keys out′) rows
+    stopped h some stop v = gives-rows key keys₀ rows₀ (gone-stop g most (length rest) h some rest-long stop) v (g .many) (back ∙ g .keys-are .is) (g .rows-are .is)
+
+    module _ (z : n ≡ 0) (h : n < most) where
+      first : (c ≡ c₀) × (keys ≡ keys₀) × (rows ≡ rows₀) × (used ≡ 0)
+      first = gone-first g z
+
+      from : {w : Res Step} → next c b (length rest) ≡ w → next c₀ b (length keys₀) ≡ w
+      from e =
+          let same : length rest ≡ length keys₀ = omega (arith, rest-long, first .3) in
+          rw (← first .0, ← same) e
+
+      pub first-done : {q : Place} {key′ : List ℕ} → next c b (length rest) ≡ ok (stepIs (viewIn q key′) done)
+          → Gives (nextRows most c₀ b (length keys₀)) key keys₀ rows₀ (Rows true q 0) key′ (putMid used (length keys - used) keys out′) rows
+      first-done e =
+          gives-rows key keys₀ rows₀ (rows-done c₀ b (length keys₀) most (omega arith) (from e)) refl refl
+          (back ∙ first .1 ∙ sym (splice-none keys₀ 0)) (first .2 ∙ sym (splice-none rows₀ 0))
+
+      pub first-refused : {x : Refusal} {key′ : List ℕ} → next c b (length rest) ≡ refuse (number x) → key′ ≡ key
+          → Gives (nextRows most c₀ b (length keys₀)) key keys₀ rows₀ (Refused x) key′ (putMid used (length keys - used) keys out′) rows
+      first-refused {x} e k =
+          rw (rows-refused c₀ b (length keys₀) most (omega arith) (from e))
+          (record { answer = refl; whole = k; keys-given = back ∙ first .1; row-words = first .2 })
+
+pub all-given : {b keys₀ rows₀ : List ℕ} {c₀ c : Cursor} {keys rows : List ℕ} {used n : ℕ} → Gone b keys₀ rows₀ c₀ c keys rows used n → (most : ℕ) (key : List ℕ) {p : Place} {key′ : List ℕ} → n ≡ most → viewIn p key′ ≡ c
+    → Gives (nextRows most c₀ b (length keys₀)) key keys₀ rows₀ (Rows false p n) key′ keys rows
+all-given {keys₀ = keys₀} {rows₀ = rows₀} g most key h v = gives-rows key keys₀ rows₀ (gone-full g most h) v (g .many) (g .keys-are .is) (g .rows-are .is)
+
+-- "done" leaves the carried key, so the cursor of the rows before stands
+pub done-stays : (b : List ℕ) (room : ℕ) (p q : Place) (key key′ : List ℕ) → length key ≡ maxKey → next (viewIn p key) b room ≡ ok (stepIs (viewIn q key′) done) → viewIn p key′ ≡ viewIn p key
+done-stays b room p q key key′ k e =
+    let w = next-given (viewIn p key) (stepIs (viewIn q key′) done) b room (λ few. length-take-le (p .«key_len») key (omega (arith, few, k))) e in
+    ap (λ (l : List ℕ). record { direction = saysOrder (p .order); region = p .region; at = p .at; keyLen = p .«key_len»; key = l; mark = p .done }) (ap (λ (m : ℕ). take m key′) (sym (w .0)) ∙ w .1)
+
+-- ---- the call
+
+module _ (b ws key keys rows : List ℕ) (n : ℕ) where
+  pub rows-no-key : (length key ≡ maxKey → ⊥) → RowsFlat b ws key keys rows n badWords ws key keys rows n
+  rows-no-key h = rw (ne-eqb (length key) maxKey h) (record { answer = refl; state = refl; key-bytes = refl; keys-given = refl; row-words = refl; number = refl })
+
+  module _ (k : length key ≡ maxKey) where
+    pub rows-no-cursor : cursorIn ws key ≡ refuse badWords → RowsFlat b ws key keys rows n badWords ws key keys rows n
+    rows-no-cursor e = rw (eq-eqb (length key) maxKey k, e) (record { answer = refl; state = refl; key-bytes = refl; keys-given = refl; row-words = refl; number = refl })
+
+    pub rows-asked : {c : Cursor} {code : ℕ} {ws′ key′ keys′ rows′ : List ℕ} {n′ : ℕ} → cursorIn ws key ≡ ok c
+        → RowsAs (nextRows (mostRows rows) c b (length keys)) ws key keys rows n code ws′ key′ keys′ rows′ n′ → RowsFlat b ws key keys rows n code ws′ key′ keys′ rows′ n′
+    rows-asked e r = rw (eq-eqb (length key) maxKey k, e) r
+
+-- whatever was given, and what `put_gave` left of it
+pub rows-put : (ws key keys rows : List ℕ) (n : ℕ) (want : Res Run) (r : Gave) {code : ℕ} {ws′ key′ keys′ rows′ : List ℕ} {n′ : ℕ} → Gives want key keys rows r key′ keys′ rows′ → PutsGave r ws n code ws′ n′
+    → RowsAs want ws key keys rows n code ws′ key′ keys′ rows′ n′
+rows-put ws key keys rows n (ok run) (Rows o p m) {key′ = key′} g q =
+    let e : endIs o (viewIn p key′) m ≡ endIs (run .over) (run .cursor) (length (run .rows)) = ok-inj (g .answer) in
+    let c : viewIn p key′ ≡ run .cursor = ap (λ (x : End). x .cursor) e in
+    record {
+      answer = q .answer ∙ ap (λ (x : End). cond (x .over) doneCode 0) e;
+      state = q .state ∙ ap cursorWords c;
+      key-bytes = ap (λ (x : Cursor). take (x .keyLen) key′) (sym c) ∙ ap (λ (x : Cursor). x .key) c;
+      keys-given = g .keys-given;
+      row-words = g .row-words;
+      number = q .number ∙ ap (λ (x : End). x .count) e;
+    }
+rows-put ws key keys rows n (ok run) (Refused x) g q = absurd (apart (sym (g .answer)))
+rows-put ws key keys rows n (refuse k) (Rows o p m) g q = absurd (apart (g .answer))
+rows-put ws key keys rows n (refuse k) (Refused x) g q =
+    record {
+      answer = q .answer ∙ ap codeOf (g .answer);
+      state = q .state;
+      key-bytes = g .whole;
+      keys-given = g .keys-given;
+      row-words = g .row-words;
+      number = q .number;
+    }

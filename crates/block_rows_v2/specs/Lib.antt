@@ -1,0 +1,5 @@
+pub mod Rows
+pub mod Promise
+pub mod OneOutcome
+pub mod Says
+pub mod Chain

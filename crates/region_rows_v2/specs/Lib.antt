@@ -1,0 +1,3 @@
+pub mod StepKey
+pub mod PlainStep
+pub mod Found

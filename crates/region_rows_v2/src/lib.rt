@@ -1,0 +1,1 @@
+// What the loops over many rows share.
