@@ -55,5 +55,8 @@ module _ (b : List ℕ) (t : Trailer) where
     pub region-used : (r : ℕ) → r < t .count → regionAt b t r ≡ regionOf b t r
     region-used r h = region-there r belongs-read h
 
+    pub region-past : (r : ℕ) → t .count ≤ r → refuse 18 ≡ regionAt b t r
+    region-past r h = region-beyond r belongs-read h
+
     pub offsets-used : offsetsAt b t ≡ allOffsets b t
     offsets-used = offsets-there belongs-read (λ e. absurd (omega (arith, trailerOf-tells b t read)))

@@ -8,13 +8,13 @@ use native.Mathlib.Omega.{arith}
 use lib.Dec.{ltb, leb, eqb}
 use lib.ListN.{length}
 use borrow.Author.Tests.{le-leb, lt-leb, leb-false, ltb-false, eqb-false}
-use Rattle.layout.specs.Answer.{Res, ok, refuse}
+use Rattle.layout.specs.Answer.{Res, ok, refuse, bind}
 use Rattle.layout.specs.Trailer.{countOf, Trailer, trailerIs, trailerOf, offsetAt, Region, regionIs, firstOf, regionOf}
-use Rattle.layout.specs.Laws.Answer.{ltb-cases, eqb-cases, bool-cases, clash}
+use Rattle.layout.specs.Laws.Answer.{ltb-cases, eqb-cases, bool-cases, clash, bind-then, guard-then}
 use Rattle.layout.specs.Laws.Plain.{or-false}
 use Rattle.layout.specs.Laws.Trailer.{trailer-short, trailer-none, trailer-long, trailer-good, trailerOf-tells, region-first, region-far, region-falls, region-next-far, region-inner, region-last, regionOf-tells}
 use Rattle.block.specs.Handed.{belongs, regionAt}
-use Rattle.block.specs.Laws.{belongs-is, region-strange, region-beyond, region-there}
+use Rattle.block.specs.Laws.{belongs-is, region-strange, region-beyond, region-there, region-used, region-past}
 
 abbrev pub noTrailer : Trailer
 noTrailer = trailerIs 0 0
@@ -29,6 +29,10 @@ noRegion = regionIs 0 0 0
 abbrev pub regionOr : Res Region → Region
 regionOr (ok g) = g
 regionOr (refuse n) = noRegion
+
+-- region r of the trailer that is read
+abbrev pub regionBy : List ℕ → ℕ → Res Region
+regionBy b r = bind (trailerOf b) λ t. regionAt b t r
 
 neither : {a b : Bool} → a ≡ false → b ≡ false → (a || b) ≡ false
 neither p q = rw (p, q)
@@ -178,3 +182,54 @@ module _ (b : List ℕ) (t : Trailer) (r : ℕ) where
 
     pub region-even : regionOf b t r ≡ regionAt b t r
     region-even = sym (region-there b t r (even .0) (even .1))
+
+-- ---- a region of the trailer that is read
+
+-- what a region that is good tells
+pub regionBy-tells : {A : Type 0} (b : List ℕ) (r : ℕ) (g : Region) → regionBy b r ≡ ok g → ((t : Trailer) → trailerOf b ≡ ok t → r < t .count → regionOf b t r ≡ ok g → A) → A
+unfolding regionAt
+regionBy-tells b r g e f =
+    bind-then (trailerOf b) _ g e λ t q e₁.
+    guard-then (not (belongs (length b) t)) 14 _ g e₁ λ _ e₂.
+    guard-then (leb (t .count) r) 18 _ g e₂ λ w e₃. f t q (leb-false (t .count) r w) e₃
+
+-- what a count that passed leaves
+pub by-inside : (n r len : ℕ) → (leb n r || ltb len (2 + 2 * n)) ≡ false → (r < n) × (2 + 2 * n ≤ len)
+by-inside n r len e =
+    let w = or-false {a = leb n r} {b = ltb len (2 + 2 * n)} e in
+    (leb-false n r (w .0), ltb-false len (2 + 2 * n) (w .1))
+
+module _ (b : List ℕ) (r : ℕ) where
+  by-not : {n : ℕ} → refuse n ≡ trailerOf b → noRegion ≡ regionOr (regionBy b r)
+  by-not e = rw (← e)
+
+  pub by-short : length b < 2 → noRegion ≡ regionOr (regionBy b r)
+  by-short h = by-not (trailer-short b h)
+
+  -- no such region, which it is where there is none; or a trailer longer than the block
+  abbrev pub badBy : Bool
+  badBy = leb (countOf b) r || ltb (length b) (2 + 2 * countOf b)
+
+  abbrev pub trailerBy : Trailer
+  trailerBy = trailerIs (countOf b) (length b - (2 + 2 * countOf b))
+
+  module _ (h : 2 ≤ length b) where
+    pub by-bad : badBy ≡ true → noRegion ≡ regionOr (regionBy b r)
+    by-bad e =
+        ⊎-elim (λ x. by-not (trailer-none b h (x .1)))
+        (λ x.
+        ⊎-elim (λ y. by-not (trailer-long b h (x .1) (y .1)))
+        (λ y.
+        ⊎-elim (λ z. absurd (clash e (neither (lt-leb (countOf b) r (z .1)) (y .0))))
+        (λ z.
+        let read : ok trailerBy ≡ trailerOf b = trailer-good b h (x .1) (y .1) in
+        rw (← read) (ap regionOr (region-past b trailerBy (sym read) r (z .1))))
+        (ltb-cases r (countOf b)))
+        (ltb-cases (length b) (2 + 2 * countOf b)))
+        (eqb-cases (countOf b) 0)
+
+    pub by-fine : badBy ≡ false → regionOf b trailerBy r ≡ regionBy b r
+    by-fine e =
+        let w = by-inside (countOf b) r (length b) e in
+        let read : ok trailerBy ≡ trailerOf b = trailer-good b h (λ z. absurd (omega (arith, w .0))) (w .1) in
+        rw (← read) (sym (region-used b trailerBy (sym read) r (w .0)))

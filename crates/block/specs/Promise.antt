@@ -11,7 +11,7 @@ use Rattle.block.specs.declared.Region.{Region}
 use Rattle.block.specs.declared.RegionRead.{RegionRead}
 use Rattle.block.specs.declared.Tested.{Tested}
 use Rattle.block.specs.Handed.{belongs, regionAt, offsetsAt}
-use Rattle.block.specs.Plain.{trailerOr, regionOr}
+use Rattle.block.specs.Plain.{trailerOr, regionOr, regionBy}
 use Rattle.block.specs.Says.{trailerFrom, saysTrailer, regionFrom, saysRegion, saysTested, refusalOfTrailer, refusalOfRegion}
 
 abbrev pub PlainTrailer : List ℕ → Trailer → Type 0
@@ -29,6 +29,9 @@ TrailerRefusal a r = r ≡ refusalOfTrailer a
 
 abbrev pub PlainRegion : List ℕ → Trailer → ℕ → Region → Type 0
 PlainRegion b t r g = regionFrom g ≡ regionOr (regionAt b (trailerFrom t) r)
+
+abbrev pub PlainRegionAt : List ℕ → ℕ → Region → Type 0
+PlainRegionAt b r g = regionFrom g ≡ regionOr (regionBy b r)
 
 abbrev pub ReadsRegion : List ℕ → Trailer → ℕ → RegionRead → Type 0
 ReadsRegion b t r a = saysRegion a ≡ regionAt b (trailerFrom t) r

@@ -8,7 +8,7 @@ ghost use lib.ListN.{length};
 ghost use Rattle.layout.specs.Trailer.{shortAt, firstOf, regionOf, allOffsets};
 ghost use Rattle.block.specs.Plain.{noTrailer, noRegion, regionOr};
 ghost use Rattle.block.specs.Says.{trailerFrom, regionFrom, saysTested};
-ghost use Rattle.block.specs.Promise.{PlainTrailer, ReadsTrailer, TestsTrailer, TrailerRefusal, PlainRegion, ReadsRegion, RegionRefusal, TestsOffsets};
+ghost use Rattle.block.specs.Promise.{PlainTrailer, ReadsTrailer, TestsTrailer, TrailerRefusal, PlainRegion, PlainRegionAt, ReadsRegion, RegionRefusal, TestsOffsets};
 use types::Refusal;
 
 // How many restarts there are, and how many bytes of rows.
@@ -160,6 +160,26 @@ pub fn plain_region(block: &[u8], t: Trailer, r: usize) -> Region
     if !belongs_to(t, block.len()) | (t.count <= r) {
         return no_region();
     }
+    region_in(block, t, r)
+}
+
+// The trailer read and region `r` of it, as numbers: all 0 where either is refused.
+pub fn plain_region_at(block: &[u8], r: usize) -> Region
+    ensures { λ g. ⌜ PlainRegionAt (now (block .entry)) r g ⌝ }
+{
+    let len = block.len();
+    if len < 2 {
+        return no_region();
+    }
+    let count = short_at(block, len - 2);
+    let taken = 2 + 2 * count;
+    if (count <= r) | (len < taken) {
+        return no_region();
+    }
+    let t = Trailer {
+        count,
+        size: len - taken,
+    };
     region_in(block, t, r)
 }
 
