@@ -1,3 +1,7 @@
 pub mod StepKey
 pub mod PlainStep
 pub mod Found
+pub mod Bounds
+pub mod Region
+pub mod Promise
+pub mod OneOutcome

@@ -1,1 +1,60 @@
-// What the loops over many rows share.
+// What the loops over the rows of a region share: the region in which a cursor stands, its bounds read once.
+// Follows slatedb 0.16.0, src/block_iterator_v2.rs (Apache License 2.0), and is changed: plain rows of one region are stepped over with no test of the block between them.
+ghost use mathlib.Core.Path.{_≡_};
+ghost use Rattle.region_rows_v2.specs.Bounds.{noStretch, stretchFrom};
+ghost use Rattle.region_rows_v2.specs.Promise.{BoundsOf};
+use block::Region;
+use block::RegionRead;
+use block::Trailer;
+use block::TrailerRead;
+use block_step_v2::Place;
+use types::IterationOrder;
+
+// The trailer of a block, and the bounds of one of its regions.
+pub struct Bounds {
+    pub trailer: Trailer,
+    pub region: Region,
+}
+
+fn no_bounds() -> Bounds
+    ensures { λ r. ⌜ stretchFrom r ≡ noStretch ⌝ }
+{
+    let trailer = Trailer { count: 0, size: 0 };
+    let region = Region {
+        start: 0,
+        end: 0,
+        reach: 0,
+    };
+    Bounds { trailer, region }
+}
+
+// The region that an ascending cursor goes on in. All 0 where it goes on in none, for whatever reason: a step tells which. (A region ends past 0.)
+pub fn bounds_of(block: &[u8], p: Place) -> Bounds
+    ensures { λ r. ⌜ BoundsOf p (now (block .entry)) r ⌝ }
+{
+    let order = p.order;
+    let IterationOrder::Ascending = order else {
+        return no_bounds();
+    };
+    if p.done {
+        return no_bounds();
+    }
+    let read = block::trailer_of(block);
+    let TrailerRead::Good(trailer) = read else {
+        return no_bounds();
+    };
+    if trailer.count <= p.region {
+        return no_bounds();
+    }
+    if types::MAX_KEY < p.key_len {
+        return no_bounds();
+    }
+    let bounds = block::region_of(block, trailer, p.region);
+    let RegionRead::Good(region) = bounds else {
+        return no_bounds();
+    };
+    if p.at < region.start {
+        return no_bounds();
+    }
+    Bounds { trailer, region }
+}

@@ -1,0 +1,122 @@
+-- Where an ascending cursor goes on: the trailer and the region, once the tests of a step that come before the row are passed. All 0 where one is not.
+use Prim.Native.Nat.{ℕ, _<_, _≤_}
+use mathlib.Core.Path.{_≡_, refl, ap, sym, _∙_}
+use mathlib.Core.Bool.{Bool, true, false}
+use mathlib.Core.List.{List, []}
+use native.Mathlib.Omega.{arith}
+use lib.Dec.{ltb, leb}
+use borrow.Author.Tests.{lt-ltb, le-ltb, le-leb, lt-leb, ltb-false, leb-false}
+use Rattle.layout.specs.Answer.{Res, ok, refuse, bind, guard}
+use Rattle.layout.specs.Limits.{maxKey}
+use Rattle.layout.specs.Trailer.{Trailer, trailerIs, trailerOf, Region, regionIs, regionOf}
+use Rattle.layout.specs.Cursor.{Direction, ascending, descending, Cursor}
+use Rattle.layout.specs.Laws.Answer.{bind-then, guard-then, ok-inj}
+use Rattle.block.specs.Says.{trailerFrom, regionFrom}
+use Rattle.region_rows_v2.specs.declared.Bounds.{Bounds}
+
+pub record Stretch : Type 0 where
+  pub trailer : Trailer
+  pub region : Region
+
+abbrev pub stretchIs : Trailer → Region → Stretch
+stretchIs t g = record { trailer = t; region = g }
+
+abbrev pub noStretch : Stretch
+noStretch = stretchIs (trailerIs 0 0) (regionIs 0 0 0)
+
+abbrev pub stretchFrom : Bounds → Stretch
+stretchFrom b = stretchIs (trailerFrom (b .trailer)) (regionFrom (b .region))
+
+-- the numbers of the refusals do not matter: a step answers
+unfoldable pub goesOn : Cursor → List ℕ → Res Stretch
+goesOn c b =
+    guard (c .mark) 18
+    (bind (trailerOf b) λ t.
+    guard (leb (t .count) (c .region)) 18
+    (guard (ltb maxKey (c .keyLen)) 18
+    (bind (regionOf b t (c .region)) λ g.
+    guard (ltb (c .at) (g .start)) 18
+    (ok (stretchIs t g)))))
+
+abbrev pub goesAlong : Direction → Cursor → List ℕ → Res Stretch
+goesAlong ascending c b = goesOn c b
+goesAlong descending c b = refuse 18
+
+abbrev pub orNone : Res Stretch → Stretch
+orNone (ok s) = s
+orNone (refuse n) = noStretch
+
+abbrev pub stretchOf : Cursor → List ℕ → Stretch
+stretchOf c b = orNone (goesAlong (c .direction) c b)
+
+-- ---- each way through the tests; answer on the left
+
+module _ (c : Cursor) (b : List ℕ) where
+  pub none-down : c .direction ≡ descending → noStretch ≡ stretchOf c b
+  none-down e = rw e
+
+  module _ (up : c .direction ≡ ascending) where
+    pub none-marked : c .mark ≡ true → noStretch ≡ stretchOf c b
+    unfolding goesOn
+    none-marked m = rw (up, m)
+
+    module _ (m : c .mark ≡ false) where
+      pub none-trailer : {n : ℕ} → trailerOf b ≡ refuse n → noStretch ≡ stretchOf c b
+      unfolding goesOn
+      none-trailer e = rw (up, m, e)
+
+      module _ (t : Trailer) (e : trailerOf b ≡ ok t) where
+        pub none-region : t .count ≤ c .region → noStretch ≡ stretchOf c b
+        unfolding goesOn
+        none-region h = rw (up, m, e, le-leb (t .count) (c .region) h)
+
+        module _ (h : c .region < t .count) where
+          pub none-key : maxKey < c .keyLen → noStretch ≡ stretchOf c b
+          unfolding goesOn
+          none-key k = rw (up, m, e, lt-leb (t .count) (c .region) h, lt-ltb maxKey (c .keyLen) k)
+
+          module _ (k : c .keyLen ≤ maxKey) where
+            pub none-bounds : {n : ℕ} → regionOf b t (c .region) ≡ refuse n → noStretch ≡ stretchOf c b
+            unfolding goesOn
+            none-bounds q = rw (up, m, e, lt-leb (t .count) (c .region) h, le-ltb maxKey (c .keyLen) k, q)
+
+            module _ (g : Region) (q : regionOf b t (c .region) ≡ ok g) where
+              pub none-before : c .at < g .start → noStretch ≡ stretchOf c b
+              unfolding goesOn
+              none-before w = rw (up, m, e, lt-leb (t .count) (c .region) h, le-ltb maxKey (c .keyLen) k, q, lt-ltb (c .at) (g .start) w)
+
+              pub some-stretch : g .start ≤ c .at → stretchIs t g ≡ stretchOf c b
+              unfolding goesOn
+              some-stretch w = rw (up, m, e, lt-leb (t .count) (c .region) h, le-ltb maxKey (c .keyLen) k, q, le-ltb (c .at) (g .start) w)
+
+-- ---- what a stretch tells
+
+-- a cursor that goes on in the region g
+pub record Inside (b : List ℕ) (t : Trailer) (g : Region) (c : Cursor) : Type 0 where
+  pub heads : c .direction ≡ ascending
+  pub unmarked : c .mark ≡ false
+  pub read : trailerOf b ≡ ok t
+  pub counted : c .region < t .count
+  pub few : c .keyLen ≤ maxKey
+  pub bounds : regionOf b t (c .region) ≡ ok g
+  pub from : g .start ≤ c .at
+
+pub stretch-inside : (c : Cursor) (b : List ℕ) {s : Stretch} → s ≡ stretchOf c b → (s .region .end ≡ 0 → ⊥) → Inside b (s .trailer) (s .region) c
+unfolding goesOn
+stretch-inside c b {s} e z = along (c .direction) refl (goesAlong (c .direction) c b) refl e
+  where
+    up : c .direction ≡ ascending → goesOn c b ≡ ok s → Inside b (s .trailer) (s .region) c
+    up d q =
+        guard-then (c .mark) 18 _ s q λ m q.
+        bind-then (trailerOf b) _ s q λ t e₁ q.
+        guard-then (leb (t .count) (c .region)) 18 _ s q λ h q.
+        guard-then (ltb maxKey (c .keyLen)) 18 _ s q λ k q.
+        bind-then (regionOf b t (c .region)) _ s q λ g e₂ q.
+        guard-then (ltb (c .at) (g .start)) 18 _ s q λ w q.
+        rw (← ok-inj q)
+        (record { heads = d; unmarked = m; read = e₁; counted = leb-false (t .count) (c .region) h; few = ltb-false maxKey (c .keyLen) k; bounds = e₂; from = ltb-false (c .at) (g .start) w })
+
+    along : (d : Direction) → c .direction ≡ d → (x : Res Stretch) → goesAlong d c b ≡ x → s ≡ orNone x → Inside b (s .trailer) (s .region) c
+    along ascending d (ok y) q i = up d (q ∙ ap ok (sym i))
+    along descending d (ok y) q i = absurd (let w : _≡_ {A = ℕ} 0 1 = cc in omega arith)
+    along d e (refuse n) q i = absurd (z (ap (λ (x : Stretch). x .region .end) i))
