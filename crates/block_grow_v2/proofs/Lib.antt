@@ -1,2 +1,4 @@
+pub mod Counts
 pub mod Tests
+pub mod Plain
 pub mod Writes

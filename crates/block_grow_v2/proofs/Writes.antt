@@ -34,7 +34,7 @@ use Rattle.types.specs.declared.Refusal.the-variants.{EmptyBlock, BadState}
 use Rattle.buf_mut.specs.Promise.{Puts}
 use Rattle.buf_mut.specs.declared.Put.{Put}
 use Rattle.buf_mut.specs.declared.Put.the-variants.{At, Refused as PutRefused}
-use Rattle.buf_mut.proofs.Laws.{puts-at, puts-refused, puts-fits}
+use Rattle.buf_mut.proofs.Laws.{puts-at, puts-refused, copied}
 use Rattle.row_encode_v2.specs.Promise.{Encodes}
 use Rattle.row_size_v2.specs.Says.{fieldsFrom}
 use Rattle.row_encode_v2.specs.declared.Encoded.{Encoded}
@@ -47,6 +47,7 @@ use Rattle.block_grow_v2.specs.declared.Grown.the-variants.{Row as Grown
 use Rattle.block_grow_v2.specs.Says.{viewFrom}
 use Rattle.block_grow_v2.specs.Plan.{Plan, planIs, planOf, fitted, accepted, Tested, Fitting, Grew}
 use Rattle.block_grow_v2.specs.Promise.{entered, AddsInPlaceAs, Ends}
+use Rattle.block_grow_v2.proofs.Plain.{over-last}
 use Rattle.block_grow_v2.proofs.Tests.{passed-not, passed, accepted-tells}
 
 -- ---- a row that passed the tests
@@ -93,7 +94,7 @@ module _ (s : State) (last bytes places : List ℕ) (key : Key) (f : Fields) {sh
 
   -- and was written
   pub grew : {used count : ℕ} {p : Put} {last′ bytes′ places′ : List ℕ} → length last ≡ maxKey → Wrote bytes (s .used) (rowBytes shared (drop shared key) f) bytes′ used
-      → (count ≡ s .restarts + ifSo restart 1) × (places′ ≡ cond restart (set places (s .restarts) (s .used)) places) → Puts key last 0 p last′
+      → (count ≡ s .restarts + ifSo restart 1) × (places′ ≡ cond restart (set places (s .restarts) (s .used)) places) → Puts (midOf shared (length key - shared) key) last shared p last′
       → Grew s last bytes places key f
       (record {
         «block_size» = s .«block_size»;
@@ -105,12 +106,13 @@ module _ (s : State) (last bytes places : List ℕ) (key : Key) (f : Fields) {sh
       })
       last′ bytes′ places′
   grew {used} {count} {p} {last′} long w c q =
-      let fits : 0 + length key ≤ length last = omega (arith, tells .key-fits) in
+      let all : midOf shared (length key - shared) key ≡ drop shared key = take-all (length key - shared) (drop shared key) (rw (length-drop shared key) (omega arith)) in
+      let fits : shared + length (drop shared key) ≤ length last = omega (arith, length-drop shared key, tested-fits .own, tells .key-fits) in
       let u : used ≡ s .used + length (nextRow (viewFrom s last) key f) = w .next ∙ ap (λ (l : List ℕ). s .used + length l) bytes-are in
       let n : count ≡ s .restarts + ifSo (atRestart (viewFrom s last)) 1 = c .0 ∙ ap (λ (m : Bool). s .restarts + ifSo m 1) (t .mark-is) in
       record {
         state = rw (u, n);
-        last-after = puts-at (rw (puts-fits fits q) at q) .is;
+        last-after = copied fits (rw all at q) ∙ over-last last (s .«last_key_len») (atRestart (viewFrom s last)) key (t .share-is);
         bytes-after = w .is ∙ ap (λ (l : List ℕ). splice bytes (s .used) l) bytes-are;
         places-after = c .1 ∙ ap (λ (m : Bool). cond m (set places (s .restarts) (s .used)) places) (t .mark-is);
       }

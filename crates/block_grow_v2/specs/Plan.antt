@@ -1,15 +1,17 @@
 -- What the private functions answer and write: a row that is tested, with what was found on the way; a row that is written.
-use Prim.Native.Nat.{ℕ, _+_, _-_, _≤_}
+use Prim.Native.Nat.{ℕ, _+_, _-_, _^_, _≤_, _<_}
 use mathlib.Core.Path.{_≡_}
 use mathlib.Core.Bool.{Bool, cond}
-use mathlib.Core.List.{List}
+use mathlib.Core.List.{List, [], _∷_, _++_}
 use lib.ListN.{length, drop, set}
 use Rattle.layout.specs.Answer.{Res, ok, refuse, bind, guard}
 use Rattle.layout.specs.Block.{shareOf}
 use Rattle.layout.specs.Builder.{Builder, stateTests, atRestart, nextRow, grownSize, wouldFit, grown, add}
+use Rattle.layout.specs.Fixed.{big}
 use Rattle.layout.specs.Key.{Key}
 use Rattle.layout.specs.Place.{splice}
 use Rattle.layout.specs.Row.{Fields, valueOf, rowBytes, lengthTests}
+use Rattle.layout.specs.Varint.{varint}
 use Rattle.types.specs.Number.{number}
 use Rattle.types.specs.declared.Refusal.{Refusal}
 use Rattle.types.specs.declared.Refusal.the-variants.{EmptyKey}
@@ -77,6 +79,20 @@ pub record Fitting (bytes : List ℕ) (used lastLen shared : ℕ) (key : Key) (f
   pub shares : shared ≤ lastLen
   pub tested : lengthTests (shared + length (drop shared key)) (length (valueOf f)) ≡ ok tt
   pub room : used + length (rowBytes shared (drop shared key) f) ≤ length bytes
+
+-- the bytes of a row whose flags are 0: a value with no times
+abbrev pub plainBody : List ℕ → List ℕ → ℕ → List ℕ
+plainBody suffix value seq = suffix ++ (value ++ (big 8 seq ++ (0 ∷ [])))
+
+abbrev pub plainBytes : ℕ → List ℕ → List ℕ → ℕ → List ℕ
+plainBytes shared suffix value seq = varint shared ++ (varint (length suffix) ++ (varint (length value) ++ plainBody suffix value seq))
+
+-- and what its writer needs of it
+pub record PlainFits (bytes : List ℕ) (used shared : ℕ) (key value : List ℕ) (seq : ℕ) : Type 0 where
+  pub own : shared ≤ length key
+  pub key-small : length key < 2 ^ 32
+  pub value-small : length value < 2 ^ 32
+  pub room : used + length (plainBytes shared (drop shared key) value seq) ≤ length bytes
 
 -- an accepted row: the state and the three arrays after it
 pub record Grew (s : State) (last bytes places : List ℕ) (key : Key) (f : Fields) (r : State) (last′ bytes′ places′ : List ℕ) : Type 0 where

@@ -4,19 +4,20 @@
 // data buffer, the last key's bytes are worked on where they lie, and what the row, the room or the numbers themselves can break is a refusal. A refused call
 // changes nothing.
 ghost use mathlib.Core.Path.{_≡_};
-ghost use mathlib.Core.Bool.{true, false, cond, _&&_, _||_};
+ghost use mathlib.Core.Bool.{true, false, cond, not, _&&_, _||_};
 ghost use Prim.Native.Nat.{_≤_, _<_, _+_, _*_, _^_};
 ghost use lib.Dec.{ltb, leb, eqb};
 ghost use lib.ListN.{length, take, drop, set};
 ghost use Rattle.layout.specs.Block.{isRestart, shareOf};
 ghost use Rattle.layout.specs.Builder.{restartsOf};
 ghost use Rattle.layout.specs.Key.{common};
-ghost use Rattle.layout.specs.Limits.{maxKey, maxBlock, maxInterval, maxOffset, maxRestarts, leastRow};
+ghost use Rattle.layout.specs.Limits.{maxKey, maxBlock, maxInterval, maxOffset, maxRestarts};
 ghost use Rattle.layout.specs.Row.{ifSo, rowBytes};
+ghost use Rattle.layout.specs.Varint.{varint};
 ghost use Rattle.layout.specs.Laws.Splice.{Wrote};
 ghost use Rattle.row_size_v2.specs.Says.{fieldsFrom};
 ghost use Rattle.block_grow_v2.specs.Says.{viewFrom};
-ghost use Rattle.block_grow_v2.specs.Plan.{Judges, SizesRow, fitted, accepted, Plans, plannedRefusal, Tested, Fitting, Grew};
+ghost use Rattle.block_grow_v2.specs.Plan.{Judges, SizesRow, fitted, accepted, Plans, plannedRefusal, Tested, Fitting, plainBody, plainBytes, PlainFits, Grew};
 ghost use Rattle.block_grow_v2.specs.Promise.{FitsInPlace, AddsInPlace, Finishes};
 use buf_mut::Put;
 use row_encode_v2::Encoded;
@@ -74,12 +75,16 @@ enum Planned {
 
 // ---- the state
 
-// Rows divided by interval, rounded up.
-fn restarts_of(rows: usize, interval: usize) -> usize
-    requires { ⌜ (1 ≤ interval) × (interval ≤ maxInterval) × (leastRow * rows < 2 ^ 64) ⌝ }
-    ensures { λ r. ⌜ r ≡ restartsOf rows interval ⌝ }
+// Whether the restarts are not as many as rows divided by interval, rounded up: by a product, which takes less time than a division.
+fn is_miscounted(restarts: usize, rows: usize, interval: usize) -> bool
+    requires { ⌜ (1 ≤ interval) × (interval ≤ maxInterval) × (restarts ≤ maxRestarts) ⌝ }
+    ensures { λ r. ⌜ r ≡ not (eqb restarts (restartsOf rows interval)) ⌝ }
 {
-    (rows + (interval - 1)) / interval
+    let full = restarts * interval;
+    if full < rows {
+        return true;
+    }
+    interval <= full - rows
 }
 
 // Bytes that belong to no row: all of them where there is none.
@@ -114,7 +119,7 @@ fn is_bad_state(s: State, data_len: usize, places_len: usize) -> bool
     if s.used / types::LEAST_ROW < s.counter {
         return true;
     }
-    if s.restarts != restarts_of(s.counter, s.restart_interval) {
+    if is_miscounted(s.restarts, s.counter, s.restart_interval) {
         return true;
     }
     if 0 < stray_bytes(s.counter, s.used) {
@@ -133,11 +138,13 @@ fn current_size(used: usize, restarts: usize) -> usize
     used + restarts * SIZEOF_U16 + SIZEOF_U16
 }
 
-fn is_restart_point(counter: usize, restart_interval: usize) -> bool
-    requires { ⌜ 1 ≤ «restart_interval» ⌝ }
+// A row is a restart where the rows before it fill the intervals of all restarts.
+fn is_restart_point(restarts: usize, counter: usize, restart_interval: usize) -> bool
+    requires { ⌜ (1 ≤ «restart_interval») × («restart_interval» ≤ maxInterval) × (restarts ≤ maxRestarts) ⌝ }
+    requires { ⌜ restarts ≡ restartsOf counter «restart_interval» ⌝ }
     ensures { λ r. ⌜ r ≡ isRestart «restart_interval» counter ⌝ }
 {
-    counter % restart_interval == 0
+    counter == restarts * restart_interval
 }
 
 // ---- a row, tested
@@ -197,7 +204,7 @@ fn plan_row(
     if is_bad_state(s, data_len, places_len) {
         return Planned::Refused(Refusal::BadState);
     }
-    let restart = is_restart_point(s.counter, s.restart_interval);
+    let restart = is_restart_point(s.restarts, s.counter, s.restart_interval);
     let shared = shared_bytes(restart, last_key, s.last_key_len, key);
     let entry_size = entry_encoded_size(shared, key.len(), value_len, row);
     let Sized::Bytes(n) = entry_size else {
@@ -296,6 +303,46 @@ fn accept_row(
 
 // ---- a row, written
 
+// Each of these writes at `at` and answers the place after it.
+fn put_length(data: &mut [u8], at: usize, n: usize) -> usize
+    requires { ⌜ (n < 2 ^ 32) × (at + length (varint n) ≤ length (now «data»)) ⌝ }
+    ensures { λ r. ⌜ Wrote (now («data» .entry)) at (varint n) (now («data» .exit)) r ⌝ }
+{
+    buf_mut::place_after(utils::encode_varint(data, at, n as u32))
+}
+
+// The suffix, the value, the sequence number and flags of 0.
+fn put_body(data: &mut [u8], at: usize, key_suffix: &[u8], value: &[u8], seq: u64) -> usize
+    requires { ⌜ at + length (plainBody (now «key_suffix») (now value) seq) ≤ length (now «data») ⌝ }
+    ensures { λ r. ⌜ Wrote (now («data» .entry)) at (plainBody (now («key_suffix» .entry)) (now (value .entry)) seq) (now («data» .exit)) r ⌝ }
+{
+    let a = at + key_suffix.len();
+    let b = a + value.len();
+    buf_mut::copy_in(data, at, key_suffix);
+    buf_mut::copy_in(data, a, value);
+    buf_mut::put_u64(data, b, seq);
+    data[b + 8] = 0;
+    b + 9
+}
+
+// A value with no times, which most rows are: its flags are 0 and nothing follows them.
+fn write_plain(
+    data: &mut [u8],
+    used: usize,
+    shared: usize,
+    key: &[u8],
+    value: &[u8],
+    seq: u64,
+) -> usize
+    requires { ⌜ PlainFits (now «data») used shared (now key) (now value) seq ⌝ }
+    ensures { λ r. ⌜ Wrote (now («data» .entry)) used (plainBytes shared (drop shared (now (key .entry))) (now (value .entry)) seq) (now («data» .exit)) r ⌝ }
+{
+    let a = put_length(data, used, shared);
+    let b = put_length(data, a, key.len() - shared);
+    let c = put_length(data, b, value.len());
+    put_body(data, c, &key[shared..], value, seq)
+}
+
 // Writes the row into the free rest of the data buffer, and answers how much of it is used then.
 fn write_row(
     data: &mut [u8],
@@ -309,6 +356,9 @@ fn write_row(
     requires { ⌜ Fitting (now «data») used «last_len» shared (now key) (fieldsFrom row (now value)) ⌝ }
     ensures { λ r. ⌜ Wrote (now («data» .entry)) used (rowBytes shared (drop shared (now (key .entry))) (fieldsFrom row (now (value .entry)))) (now («data» .exit)) r ⌝ }
 {
+    if row_size_v2::flags(row) == 0 {
+        return write_plain(data, used, shared, key, value, row.seq);
+    }
     let e = row_encode_v2::encode(
         &mut data[used..],
         last_len,
@@ -355,7 +405,8 @@ fn grow(
 {
     let used = write_row(data, s.used, s.last_key_len, shared, key, value, row);
     let count = put_restart(restarts, restart, s.restarts, s.used);
-    buf_mut::copy_in(last_key, 0, key);
+    // The bytes that it shares lie there already.
+    buf_mut::copy_in(last_key, shared, &key[shared..]);
     State {
         used,
         restarts: count,

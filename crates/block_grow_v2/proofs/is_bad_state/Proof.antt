@@ -1,9 +1,8 @@
 -- `is_bad_state` keeps its promise: each test that fails breaks one fact of a good state (`state-bad`), whatever the order; where none fails, all of them hold.
--- Twelve times the rows are at most what is used, so no sum of them wraps.
-use mathlib.Core.Path.{sym, _∙_}
 use native.Mathlib.Omega.{arith}
 use borrow.Author.Needs.{needs}
 use Rattle.layout.specs.Laws.Builder.{state-bad}
+use Rattle.block_grow_v2.proofs.Counts.{miscounted-not, counted-is}
 use Rattle.block_grow_v2.proofs.Tests.{stray-none, stray-some, state-passed}
 use Rattle.block_grow_v2.proofs.is_bad_state.Statement.{statement}
 use Rattle.block_grow_v2.proofs.is_bad_state.Tie as tie
@@ -29,11 +28,11 @@ returns-6 c = λ last. state-bad _ _ _ (λ o. absurd (omega (arith, o .allowed))
 returns-7 : tie.Need-returns-7
 returns-7 c = λ last. state-bad _ _ _ (λ o. absurd (omega (arith, o .least)))
 
-restarts-of-requires : tie.Need-restarts-of-requires
-restarts-of-requires c κs = search needs
+is-miscounted-requires : tie.Need-is-miscounted-requires
+is-miscounted-requires c κs = search needs
 
 returns-8 : tie.Need-returns-8
-returns-8 c = λ last. state-bad _ _ _ (λ o. c .if8 .taken (o .counted ∙ sym (c .before .before .restarts-of .ensures)))
+returns-8 c = λ last. state-bad _ _ _ (λ o. miscounted-not _ _ (c .before .is-miscounted .ensures) (c .if8 .taken) (o .counted))
 
 stray-bytes-requires : tie.Need-stray-bytes-requires
 stray-bytes-requires c κs = search needs
@@ -46,8 +45,8 @@ returns-10 c = λ last. state-bad _ _ _ (λ o. absurd (omega (arith, o .last-fit
 
 returns-11 : tie.Need-returns-11
 returns-11 c =
-    λ last. state-passed _ _ _ (c .before .before .before .before .before .before .before .before .before .before .before .before .before .before .before .before .before .before .before .before .if1 .left) (c .before .before .before .before .before .before .before .before .before .before .before .before .before .before .before .before .before .before .if2 .left) (c .before .before .before .before .before .before .before .before .before .before .before .before .before .before .before .before .if3 .left) (c .before .before .before .before .before .before .before .before .before .before .before .before .before .before .if4 .left) (c .before .before .before .before .before .before .before .before .before .before .before .before .if5 .left) (c .before .before .before .before .before .before .before .before .before .before .if6 .left) (c .before .before .before .before .before .before .before .if7 .left)
-    (c .before .before .before .before .if8 .left ∙ c .before .before .before .before .before .before .restarts-of .ensures) (stray-none _ _ (c .before .before .before .stray-bytes .ensures) (c .before .before .if9 .left)) (c .if10 .left)
+    λ last. state-passed _ _ _ (c .before .before .before .before .before .before .before .before .before .before .before .before .before .before .before .before .before .before .before .if1 .left) (c .before .before .before .before .before .before .before .before .before .before .before .before .before .before .before .before .before .if2 .left) (c .before .before .before .before .before .before .before .before .before .before .before .before .before .before .before .if3 .left) (c .before .before .before .before .before .before .before .before .before .before .before .before .before .if4 .left) (c .before .before .before .before .before .before .before .before .before .before .before .if5 .left) (c .before .before .before .before .before .before .before .before .before .if6 .left) (c .before .before .before .before .before .before .if7 .left)
+    (counted-is _ _ (c .before .before .before .before .before .is-miscounted .ensures) (c .before .before .before .before .if8 .left)) (stray-none _ _ (c .before .before .before .stray-bytes .ensures) (c .before .before .if9 .left)) (c .if10 .left)
 
 pub is-bad-state-spec : {M : Type 1} → statement M
 is-bad-state-spec =
@@ -60,7 +59,7 @@ is-bad-state-spec =
     returns-5
     returns-6
     returns-7
-    restarts-of-requires
+    is-miscounted-requires
     returns-8
     stray-bytes-requires
     returns-9

@@ -53,7 +53,7 @@ returns : tie.Need-returns
 returns c v long = plan-state _ _ _ _ _ (state-refused _ (c .before .is-bad-state .ensures _) (c .if1 .taken))
 
 is-restart-point-requires : tie.Need-is-restart-point-requires
-is-restart-point-requires c κs = state-tells _ _ _ tt (state c) .some
+is-restart-point-requires c κs = let o = state-tells _ _ _ tt (state c) in ((o .some, o .few, o .allowed), o .counted)
 
 shared-bytes-requires : tie.Need-shared-bytes-requires
 shared-bytes-requires c κs = omega (arith, state-tells _ _ _ tt (state (c .before)) .last-fits, c .before .before .before .before .before .pre)
