@@ -1,4 +1,5 @@
 pub mod Counts
 pub mod Tests
+pub mod Finds
 pub mod Plain
 pub mod Writes

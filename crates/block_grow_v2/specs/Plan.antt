@@ -1,14 +1,16 @@
 -- What the private functions answer and write: a row that is tested, with what was found on the way; a row that is written.
 use Prim.Native.Nat.{ℕ, _+_, _-_, _^_, _≤_, _<_}
 use mathlib.Core.Path.{_≡_}
-use mathlib.Core.Bool.{Bool, cond}
+use mathlib.Core.Bool.{Bool, cond, _&&_, _||_}
 use mathlib.Core.List.{List, [], _∷_, _++_}
+use lib.Dec.{ltb, leb}
 use lib.ListN.{length, drop, set}
 use Rattle.layout.specs.Answer.{Res, ok, refuse, bind, guard}
 use Rattle.layout.specs.Block.{shareOf}
 use Rattle.layout.specs.Builder.{Builder, stateTests, atRestart, nextRow, grownSize, wouldFit, grown, add}
 use Rattle.layout.specs.Fixed.{big}
 use Rattle.layout.specs.Key.{Key}
+use Rattle.layout.specs.Limits.{maxOffset}
 use Rattle.layout.specs.Place.{splice}
 use Rattle.layout.specs.Row.{Fields, valueOf, rowBytes, lengthTests}
 use Rattle.layout.specs.Varint.{varint}
@@ -20,6 +22,7 @@ use Rattle.row_size_v2.specs.Says.{fieldsFrom}
 use Rattle.row_size_v2.specs.declared.RowFields.{RowFields}
 use Rattle.row_size_v2.specs.declared.Sized.{Sized}
 use Rattle.block_grow_v2.specs.declared.State.{State}
+use Rattle.block_grow_v2.specs.declared.Found.{Found}
 use Rattle.block_grow_v2.specs.declared.Planned.{Planned}
 use Rattle.block_grow_v2.specs.declared.Planned.the-variants.{Row as PlannedRow, Refused as PlannedRefused}
 use Rattle.block_grow_v2.specs.Says.{viewFrom, stateFrom}
@@ -64,6 +67,18 @@ Plans want row valueLen r = (value : List ℕ) → length value ≡ valueLen →
 abbrev pub plannedRefusal : Planned → Refusal
 plannedRefusal (PlannedRow shared size restart) = EmptyKey
 plannedRefusal (PlannedRefused r) = r
+
+-- 5 and 6
+abbrev pub pastRoom : Bool → ℕ → ℕ → ℕ → ℕ → ℕ → Bool
+pastRoom restart used restarts dataLen placesLen size = (restart && ltb maxOffset used) || (ltb dataLen size || (restart && leb placesLen restarts))
+
+-- what was found as plain numbers: a size of 0 where it is refused
+pub record FoundIs (want : Res Plan) (r : Found) : Type 0 where
+  pub good : (r .size ≡ 0 → ⊥) → want ≡ ok (planIs (r .shared) (r .size) (r .restart))
+  pub refused : r .size ≡ 0 → (n : ℕ) × (want ≡ refuse n)
+
+abbrev pub Finds : (Fields → Res Plan) → RowFields → ℕ → Found → Type 0
+Finds want row valueLen r = (value : List ℕ) → length value ≡ valueLen → FoundIs (want (fieldsFrom row value)) r
 
 -- a row that passed all tests of adding, with the share and the mark that were found for it
 pub record Tested (b : Builder) (bytes places : List ℕ) (key : Key) (f : Fields) (shared : ℕ) (restart : Bool) : Type 0 where

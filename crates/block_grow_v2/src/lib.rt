@@ -17,7 +17,7 @@ ghost use Rattle.layout.specs.Varint.{varint};
 ghost use Rattle.layout.specs.Laws.Splice.{Wrote};
 ghost use Rattle.row_size_v2.specs.Says.{fieldsFrom};
 ghost use Rattle.block_grow_v2.specs.Says.{viewFrom};
-ghost use Rattle.block_grow_v2.specs.Plan.{Judges, SizesRow, fitted, accepted, Plans, plannedRefusal, Tested, Fitting, plainBody, plainBytes, PlainFits, Grew};
+ghost use Rattle.block_grow_v2.specs.Plan.{Judges, SizesRow, fitted, accepted, Plans, plannedRefusal, pastRoom, Finds, Tested, Fitting, plainBody, plainBytes, PlainFits, Grew};
 ghost use Rattle.block_grow_v2.specs.Promise.{FitsInPlace, AddsInPlace, Finishes};
 use buf_mut::Put;
 use row_encode_v2::Encoded;
@@ -71,6 +71,13 @@ enum Planned {
         restart: bool,
     },
     Refused(Refusal),
+}
+
+// What all tests of adding found, as plain numbers. A size of 0 is for a row that they refuse: a block with a row has more.
+struct Found {
+    shared: usize,
+    size: usize,
+    restart: bool,
 }
 
 // ---- the state
@@ -301,6 +308,63 @@ fn accept_row(
     planned
 }
 
+// Whether a row that fits the block is 5 or 6 still.
+fn is_past_room(restart: bool, s: State, data_len: usize, places_len: usize, size: usize) -> bool
+    ensures { λ r. ⌜ r ≡ pastRoom restart (s .used) (s .restarts) «data_len» «places_len» size ⌝ }
+{
+    if restart_too_far(restart, s.used) {
+        return true;
+    }
+    if data_len < size {
+        return true;
+    }
+    no_place_left(restart, places_len, s.restarts)
+}
+
+// The tests of `accept_row` again, for a row that passes them all: with no refusal to hand on, they are quick. Which one is refused, and how, is left to `accept_row`.
+fn find_row(
+    s: State,
+    last_key: &[u8],
+    data_len: usize,
+    places_len: usize,
+    key: &[u8],
+    value_len: usize,
+    row: RowFields,
+) -> Found
+    requires { ⌜ length (now «last_key») ≡ maxKey ⌝ }
+    ensures { λ r. ⌜ Finds (accepted (viewFrom s (now («last_key» .entry))) «data_len» «places_len» (now (key .entry))) row «value_len» r ⌝ }
+{
+    let none = Found {
+        shared: 0,
+        size: 0,
+        restart: false,
+    };
+    if is_bad_state(s, data_len, places_len) {
+        return none;
+    }
+    let mark = is_restart_point(s.restarts, s.counter, s.restart_interval);
+    let shared = shared_bytes(mark, last_key, s.last_key_len, key);
+    let entry_size = entry_encoded_size(shared, key.len(), value_len, row);
+    let Sized::Bytes(n) = entry_size else {
+        return none;
+    };
+    if s.block_size < s.used {
+        return none;
+    }
+    let size = current_size(s.used, s.restarts) + n + restart_overhead(mark);
+    if has_room(s.counter, s.block_size, size) {
+        if is_past_room(mark, s, data_len, places_len, size) {
+            return none;
+        }
+        return Found {
+            shared,
+            size,
+            restart: mark,
+        };
+    }
+    none
+}
+
 // ---- a row, written
 
 // Each of these writes at `at` and answers the place after it.
@@ -440,7 +504,7 @@ pub fn add_in_place(
     if last_key.len() != types::MAX_KEY {
         return Grown::Refused(Refusal::BadState);
     }
-    let planned = accept_row(
+    let found = find_row(
         s,
         last_key,
         data.len(),
@@ -449,19 +513,23 @@ pub fn add_in_place(
         value.len(),
         row,
     );
-    let Planned::Row {
-        shared,
-        size: _,
-        restart,
-    } = planned
-    else {
+    if found.size == 0 {
+        let planned = accept_row(
+            s,
+            last_key,
+            data.len(),
+            restarts.len(),
+            key,
+            value.len(),
+            row,
+        );
         return Grown::Refused(planned_refusal(planned));
-    };
+    }
     Grown::Row(grow(
         last_key,
         s,
-        shared,
-        restart,
+        found.shared,
+        found.restart,
         data,
         restarts,
         key,
