@@ -1,0 +1,44 @@
+-- `copy_fours` keeps its promise: the first four bytes and the last, which overlap, are all (`parts`).
+use native.Mathlib.Omega.{arith}
+use mathlib.Core.Path.{_≡_}
+use Prim.Native.Nat.{_+_, _-_}
+use Rattle.step_plain_v2.proofs.Copies.{parts}
+use borrow.Author.Needs.{needs}
+use Rattle.step_plain_v2.proofs.copy_fours.Statement.{statement}
+use Rattle.step_plain_v2.proofs.copy_fours.Tie as tie
+
+sub-last : tie.Need-sub-last
+sub-last c = search needs
+
+copy-4-requires : tie.Need-copy-4-requires
+copy-4-requires c κs = search needs
+
+add-copy-4 : tie.Need-add-copy-4
+add-copy-4 c = search needs
+
+add-copy-4-2 : tie.Need-add-copy-4-2
+add-copy-4-2 c = search needs
+
+copy-4-requires-2 : tie.Need-copy-4-requires-2
+copy-4-requires-2 c κs = search needs
+
+same-length : tie.Need-same-length
+same-length c = search needs
+
+returns : tie.Need-returns
+returns c = let s = c .before .before .before .before .before .before .before .before .before .before in
+    let a = s .args in
+    let m : a .n - 4 + 4 ≡ a .n = omega (arith, s .pre .0) in
+    rw m at (parts (a .src .now) (a .from) (a .buf .now) (a .at) 4 (a .n - 4) 4 (c .before .before .before .before .before .before .copy-4 .ensures) (c .before .before .copy-42 .ensures) (omega (arith, s .pre)) (omega arith) (omega (arith, s .pre)) (omega (arith, s .pre)))
+
+pub copy-fours-spec : {M : Type 1} → statement M
+copy-fours-spec =
+    tie.close
+    (tie.spec
+    sub-last
+    copy-4-requires
+    add-copy-4
+    add-copy-4-2
+    copy-4-requires-2
+    same-length
+    returns)

@@ -1,0 +1,96 @@
+-- `plain_step` keeps its promise: no step where the look finds none, else the rules' own step, with the key carried and given.
+-- What the look found tells that no sum fails and that all places are inside the block.
+use native.Mathlib.Omega.{arith}
+use lib.ListN.{length}
+use Rattle.step_plain_v2.proofs.Laws.{Numbers, standing, numbers, step-not, step-goes}
+use borrow.Author.Needs.{needs}
+use Rattle.step_plain_v2.proofs.plain_step.Statement.{statement}
+use Rattle.step_plain_v2.proofs.plain_step.Tie as tie
+
+abbrev entry : tie.Else1 → tie.Start
+entry k = k .before .before .before .before .before .before
+
+facts : (k : tie.Else1) → Numbers (entry k .args .block .now) (entry k .args .region) (entry k .args .at) (entry k .args .key .now) (entry k .args .out .now) (k .before .before .look-plain .result)
+facts k =
+    let a = entry k .args in
+    numbers (a .block .now) (a .region) (a .at) (a .key-len) (a .key .now) (a .out .now)
+    (standing (a .block .now) (a .region) (a .at) (a .key-len) (length (a .key .now)) (length (a .out .now)) (k .before .before .look-plain .result) (k .before .before .look-plain .ensures) (k .if1 .left))
+
+look-plain-requires : tie.Need-look-plain-requires
+look-plain-requires c κs = search needs
+
+no-step-requires : tie.Need-no-step-requires
+no-step-requires c κs = search needs
+
+returns : tie.Need-returns
+returns c = step-not _ _ _ _ _ _ _ (c .before .before .before .look-plain .ensures) (c .before .if1 .taken) (c .no-step .ensures)
+
+add-carry : tie.Need-add-carry
+add-carry c = let f = facts (c .before .before) in omega (arith, f .ends, f .inside)
+
+carry-requires : tie.Need-carry-requires
+carry-requires c κs = let f = facts (c .before .before) in
+    (omega (arith, f .shared-small, f .unshared-small, f .carries), f .gives, omega (arith, f .ends, f .inside))
+
+sub-seq-at : tie.Need-sub-seq-at
+sub-seq-at c = let f = facts (c .before .before .before .before .before .before .before .before .before) in omega (arith, f .ends)
+
+four-requires : tie.Need-four-requires
+four-requires c κs = let f = facts (c .before .before .before .before .before .before .before .before .before) in omega (arith, f .ends, f .inside)
+
+add-four : tie.Need-add-four
+add-four c = search needs
+
+four-requires-2 : tie.Need-four-requires-2
+four-requires-2 c κs = let f = facts (c .before .before .before .before .before .before .before .before .before .before) in omega (arith, f .ends, f .inside)
+
+add-pick : tie.Need-add-pick
+add-pick c = let k = c .before .before .before .before .before .before .before .before .before .before .before in let good = entry k .good in omega (arith, facts k .counted)
+
+pick-requires : tie.Need-pick-requires
+pick-requires c κs = search needs
+
+add-pick-2 : tie.Need-add-pick-2
+add-pick-2 c = let f = facts (c .before .before .before .before .before .before .before .before .before .before .before .before .before) in omega (arith, f .shared-small, f .unshared-small)
+
+pick-requires-2 : tie.Need-pick-requires-2
+pick-requires-2 c κs = search needs
+
+mul-t22 : tie.Need-mul-t22
+mul-t22 c = search needs
+
+add-t23 : tie.Need-add-t23
+add-t23 c = search needs
+
+same-length : tie.Need-same-length
+same-length c = search needs
+
+same-length-2 : tie.Need-same-length-2
+same-length-2 c = search needs
+
+returns-2 : tie.Need-returns-2
+returns-2 c = let k = c .before .before .before .before .before .before .before .before .before .before .before .before .before .before in
+    step-goes _ _ _ _ _ _ _ (k .before .before .look-plain .ensures) (k .if1 .left) (c .before .before .before .before .before .before .before .before .before .before .before .carry .ensures) (c .before .before .pick .ensures) (c .pick2 .ensures) (c .before .before .before .before .four .ensures .0) (c .before .before .before .four2 .ensures .0)
+
+pub plain-step-spec : {M : Type 1} → statement M
+plain-step-spec =
+    tie.close
+    (tie.spec
+    look-plain-requires
+    no-step-requires
+    returns
+    add-carry
+    carry-requires
+    sub-seq-at
+    four-requires
+    add-four
+    four-requires-2
+    add-pick
+    pick-requires
+    add-pick-2
+    pick-requires-2
+    mul-t22
+    add-t23
+    same-length
+    same-length-2
+    returns-2)
