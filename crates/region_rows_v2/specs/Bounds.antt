@@ -1,4 +1,4 @@
--- Where an ascending cursor goes on: the trailer and the region, once the tests of a step that come before the row are passed. All 0 where one is not.
+-- Where an ascending cursor goes on: the bytes of rows and the region, once the tests of a step that come before the row are passed. All 0 where one is not.
 use Prim.Native.Nat.{ℕ, _<_, _≤_}
 use mathlib.Core.Path.{_≡_, refl, ap, sym, _∙_}
 use mathlib.Core.Bool.{Bool, true, false}
@@ -11,21 +11,21 @@ use Rattle.layout.specs.Limits.{maxKey}
 use Rattle.layout.specs.Trailer.{Trailer, trailerIs, trailerOf, Region, regionIs, regionOf}
 use Rattle.layout.specs.Cursor.{Direction, ascending, descending, Cursor}
 use Rattle.layout.specs.Laws.Answer.{bind-then, guard-then, ok-inj}
-use Rattle.block.specs.Says.{trailerFrom, regionFrom}
+use Rattle.block.specs.Says.{regionFrom}
 use Rattle.region_rows_v2.specs.declared.Bounds.{Bounds}
 
 pub record Stretch : Type 0 where
-  pub trailer : Trailer
+  pub size : ℕ
   pub region : Region
 
-abbrev pub stretchIs : Trailer → Region → Stretch
-stretchIs t g = record { trailer = t; region = g }
+abbrev pub stretchIs : ℕ → Region → Stretch
+stretchIs n g = record { size = n; region = g }
 
 abbrev pub noStretch : Stretch
-noStretch = stretchIs (trailerIs 0 0) (regionIs 0 0 0)
+noStretch = stretchIs 0 (regionIs 0 0 0)
 
 abbrev pub stretchFrom : Bounds → Stretch
-stretchFrom b = stretchIs (trailerFrom (b .trailer)) (regionFrom (b .region))
+stretchFrom b = stretchIs (b .size) (regionFrom (b .region))
 
 -- the numbers of the refusals do not matter: a step answers
 unfoldable pub goesOn : Cursor → List ℕ → Res Stretch
@@ -36,7 +36,7 @@ goesOn c b =
     (guard (ltb maxKey (c .keyLen)) 18
     (bind (regionOf b t (c .region)) λ g.
     guard (ltb (c .at) (g .start)) 18
-    (ok (stretchIs t g)))))
+    (ok (stretchIs (t .size) g)))))
 
 abbrev pub goesAlong : Direction → Cursor → List ℕ → Res Stretch
 goesAlong ascending c b = goesOn c b
@@ -85,27 +85,28 @@ module _ (c : Cursor) (b : List ℕ) where
               unfolding goesOn
               none-before w = rw (up, m, e, lt-leb (t .count) (c .region) h, le-ltb maxKey (c .keyLen) k, q, lt-ltb (c .at) (g .start) w)
 
-              pub some-stretch : g .start ≤ c .at → stretchIs t g ≡ stretchOf c b
+              pub some-stretch : g .start ≤ c .at → stretchIs (t .size) g ≡ stretchOf c b
               unfolding goesOn
               some-stretch w = rw (up, m, e, lt-leb (t .count) (c .region) h, le-ltb maxKey (c .keyLen) k, q, le-ltb (c .at) (g .start) w)
 
 -- ---- what a stretch tells
 
--- a cursor that goes on in the region g
-pub record Inside (b : List ℕ) (t : Trailer) (g : Region) (c : Cursor) : Type 0 where
+-- a cursor that goes on in the region g of a block with `size` bytes of rows
+pub record Inside (b : List ℕ) (size : ℕ) (g : Region) (c : Cursor) : Type 0 where
+  pub count : ℕ
   pub heads : c .direction ≡ ascending
   pub unmarked : c .mark ≡ false
-  pub read : trailerOf b ≡ ok t
-  pub counted : c .region < t .count
+  pub read : trailerOf b ≡ ok (trailerIs count size)
+  pub counted : c .region < count
   pub few : c .keyLen ≤ maxKey
-  pub bounds : regionOf b t (c .region) ≡ ok g
+  pub bounds : regionOf b (trailerIs count size) (c .region) ≡ ok g
   pub from : g .start ≤ c .at
 
-pub stretch-inside : (c : Cursor) (b : List ℕ) {s : Stretch} → s ≡ stretchOf c b → (s .region .end ≡ 0 → ⊥) → Inside b (s .trailer) (s .region) c
+pub stretch-inside : (c : Cursor) (b : List ℕ) {s : Stretch} → s ≡ stretchOf c b → (s .region .end ≡ 0 → ⊥) → Inside b (s .size) (s .region) c
 unfolding goesOn
 stretch-inside c b {s} e z = along (c .direction) refl (goesAlong (c .direction) c b) refl e
   where
-    up : c .direction ≡ ascending → goesOn c b ≡ ok s → Inside b (s .trailer) (s .region) c
+    up : c .direction ≡ ascending → goesOn c b ≡ ok s → Inside b (s .size) (s .region) c
     up d q =
         guard-then (c .mark) 18 _ s q λ m q.
         bind-then (trailerOf b) _ s q λ t e₁ q.
@@ -114,9 +115,9 @@ stretch-inside c b {s} e z = along (c .direction) refl (goesAlong (c .direction)
         bind-then (regionOf b t (c .region)) _ s q λ g e₂ q.
         guard-then (ltb (c .at) (g .start)) 18 _ s q λ w q.
         rw (← ok-inj q)
-        (record { heads = d; unmarked = m; read = e₁; counted = leb-false (t .count) (c .region) h; few = ltb-false maxKey (c .keyLen) k; bounds = e₂; from = ltb-false (c .at) (g .start) w })
+        (record { count = t .count; heads = d; unmarked = m; read = e₁; counted = leb-false (t .count) (c .region) h; few = ltb-false maxKey (c .keyLen) k; bounds = e₂; from = ltb-false (c .at) (g .start) w })
 
-    along : (d : Direction) → c .direction ≡ d → (x : Res Stretch) → goesAlong d c b ≡ x → s ≡ orNone x → Inside b (s .trailer) (s .region) c
+    along : (d : Direction) → c .direction ≡ d → (x : Res Stretch) → goesAlong d c b ≡ x → s ≡ orNone x → Inside b (s .size) (s .region) c
     along ascending d (ok y) q i = up d (q ∙ ap ok (sym i))
     along descending d (ok y) q i = absurd (let w : _≡_ {A = ℕ} 0 1 = cc in omega arith)
     along d e (refuse n) q i = absurd (z (ap (λ (x : Stretch). x .region .end) i))

@@ -9,10 +9,7 @@ use Rattle.region_rows_v2.specs.Promise.{BoundsOf}
 
 stretchFrom-one : (r q : Bounds) → stretchFrom r ≡ stretchFrom q → r ≡ q
 stretchFrom-one r q e =
-    ap
-    (λ (s : Stretch).
-    record { trailer = record { count = s .trailer .count; size = s .trailer .size }; region = record { start = s .region .start; end = s .region .end; reach = s .region .reach } })
-    e
+    ap (λ (s : Stretch). record { size = s .size; region = record { start = s .region .start; end = s .region .end; reach = s .region .reach } }) e
 
 pub bounds-of-settled : (p : Place) (b : List ℕ) (r q : Bounds) → BoundsOf p b r → BoundsOf p b q → r ≡ q
 bounds-of-settled p b r q m n = stretchFrom-one r q (m ∙ sym n)

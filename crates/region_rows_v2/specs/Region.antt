@@ -1,48 +1,53 @@
 -- A plain row of the region in which a cursor goes on: the step past it, whatever room there is for its key, and the cursor that it leaves, which goes on in the
 -- region or is handed over to the next.
 use Prim.Native.Nat.{ℕ, _+_, _<_, _≤_}
-use mathlib.Core.Path.{_≡_, ap, sym, _∙_}
+use mathlib.Core.Path.{_≡_, refl, ap, _∙_}
 use mathlib.Core.Bool.{false}
-use mathlib.Core.List.{List}
+use mathlib.Core.List.{List, []}
 use native.Mathlib.Omega.{arith}
 use lib.Dec.{eqb}
 use lib.ListN.{length, take}
-use borrow.Author.Tests.{lt-ltb, le-ltb}
+use lib.Seq.{length-take-le}
+use borrow.Author.Tests.{lt-ltb, le-ltb, eq-eqb, ne-eqb}
 use Rattle.layout.specs.Answer.{ok}
 use Rattle.layout.specs.Limits.{maxKey}
 use Rattle.layout.specs.Key.{Key}
 use Rattle.layout.specs.Place.{splice}
 use Rattle.layout.specs.Plain.{Plain, plainAt, plainRead}
 use Rattle.layout.specs.RowRead.{mayShare, readRow, RowRead, keyOf}
-use Rattle.layout.specs.Trailer.{Trailer, dataOf, Region}
+use Rattle.layout.specs.Trailer.{trailerIs, Region}
 use Rattle.layout.specs.Cursor.{ascending, Cursor, cursorIs, found, stepIs, pastRow, next}
 use Rattle.layout.specs.Laws.Carry.{Carries, read-carried, keyOf-length, suffixOf, key-new}
 use Rattle.layout.specs.Laws.Plain.{PlainTells, plainAt-tells}
+use Rattle.layout.specs.Laws.Trailer.{trailerOf-tells}
+use Rattle.block.specs.Says.{regionFrom}
 use Rattle.block_step_v2.specs.Says.{viewIn}
 use Rattle.block_step_v2.specs.declared.Place.{Place}
 use Rattle.region_rows_v2.specs.PlainStep.{plain-reads, plain-step}
-use Rattle.region_rows_v2.specs.Bounds.{Inside}
+use Rattle.region_rows_v2.specs.declared.Bounds.{Bounds}
+use Rattle.region_rows_v2.specs.Bounds.{Inside, stretch-inside}
+use Rattle.region_rows_v2.specs.Promise.{BoundsOf}
 
 -- a place whose region, position and key length are set
 abbrev pub movedTo : Place → ℕ → ℕ → ℕ → Place
 movedTo p region at len = record { order = p .order; region = region; at = at; «key_len» = len; done = p .done }
 
-module _ (b : List ℕ) (t : Trailer) (g : Region) (p : Place) (key : List ℕ) (i : Inside b t g (viewIn p key)) {most : ℕ} (r : Plain) (m : most ≡ mayShare (eqb (p .at) (g .start)) (p .«key_len»)) (e : r ≡ plainAt (dataOf b t) (p .at) (g .end) most) (h : r .next ≡ 0 → ⊥) where
+module _ (b : List ℕ) (size : ℕ) (g : Region) (p : Place) (key : List ℕ) (i : Inside b size g (viewIn p key)) {most : ℕ} (r : Plain) (m : most ≡ mayShare (eqb (p .at) (g .start)) (p .«key_len»)) (e : r ≡ plainAt (take size b) (p .at) (g .end) most) (h : r .next ≡ 0 → ⊥) where
   abbrev pub rowHere : RowRead
-  rowHere = plainRead (dataOf b t) (p .at) r
+  rowHere = plainRead (take size b) (p .at) r
 
   abbrev pub keyHere : Key
-  keyHere = keyOf (dataOf b t) (take (p .«key_len») key) rowHere
+  keyHere = keyOf (take size b) (take (p .«key_len») key) rowHere
 
-  pub here-tells : PlainTells (dataOf b t) (p .at) (g .end) most r
-  here-tells = rw (← e) at (plainAt-tells (dataOf b t) (p .at) (g .end) most (rw (← e) (omega arith)))
+  pub here-tells : PlainTells (take size b) (p .at) (g .end) most r
+  here-tells = rw (← e) at (plainAt-tells (take size b) (p .at) (g .end) most (rw (← e) (omega arith)))
 
-  here-read : readRow (dataOf b t) (p .at) (g .end) (p .«key_len») (eqb (p .at) (g .start)) ≡ ok rowHere
-  here-read = plain-reads (dataOf b t) (p .at) (g .end) (p .«key_len») (g .start) r m e (omega arith)
+  here-read : readRow (take size b) (p .at) (g .end) (p .«key_len») (eqb (p .at) (g .start)) ≡ ok rowHere
+  here-read = plain-reads (take size b) (p .at) (g .end) (p .«key_len») (g .start) r m e (omega arith)
 
   pub here-step : (room : ℕ) → r .shared + r .unshared ≤ room → next (viewIn p key) b room ≡ ok (stepIs (pastRow (viewIn p key) g rowHere keyHere) (found rowHere keyHere))
   here-step room held =
-      plain-step (viewIn p key) b room t g r (i .heads) (i .unmarked) (i .read) (i .counted) (i .few) (i .bounds) (i .from)
+      plain-step (viewIn p key) b room (trailerIs (i .count) size) g r (i .heads) (i .unmarked) (i .read) (i .counted) (i .few) (i .bounds) (i .from)
       (omega (arith, here-tells .next-is, here-tells .within)) m e (omega arith) held
 
   module _ (whole : length key ≡ maxKey) where
@@ -50,15 +55,15 @@ module _ (b : List ℕ) (t : Trailer) (g : Region) (p : Place) (key : List ℕ) 
     carries = record { few = i .few; whole = whole }
 
     -- the suffix put over the carried key makes the bytes carry the row's
-    pub here-carried : {key′ : List ℕ} → key′ ≡ splice key (r .shared) (suffixOf (dataOf b t) rowHere) → take (r .shared + r .unshared) key′ ≡ keyHere
+    pub here-carried : {key′ : List ℕ} → key′ ≡ splice key (r .shared) (suffixOf (take size b) rowHere) → take (r .shared + r .unshared) key′ ≡ keyHere
     here-carried q =
         ap (take (r .shared + r .unshared)) q
-        ∙ key-new (dataOf b t) (p .at) (g .end) (eqb (p .at) (g .start)) key (p .«key_len») carries rowHere here-read
+        ∙ key-new (take size b) (p .at) (g .end) (eqb (p .at) (g .start)) key (p .«key_len») carries rowHere here-read
 
     pub here-long : length keyHere ≡ r .shared + r .unshared
     here-long =
-        keyOf-length (dataOf b t) (p .at) (g .end) (take (p .«key_len») key) (eqb (p .at) (g .start)) rowHere
-        (read-carried (dataOf b t) (p .at) (g .end) (eqb (p .at) (g .start)) key (p .«key_len») carries here-read)
+        keyOf-length (take size b) (p .at) (g .end) (take (p .«key_len») key) (eqb (p .at) (g .start)) rowHere
+        (read-carried (take size b) (p .at) (g .end) (eqb (p .at) (g .start)) key (p .«key_len») carries here-read)
 
     module _ (key′ : List ℕ) (k : take (r .shared + r .unshared) key′ ≡ keyHere) where
       -- a finished region hands over
@@ -69,7 +74,27 @@ module _ (b : List ℕ) (t : Trailer) (g : Region) (p : Place) (key : List ℕ) 
         pub here-stays : viewIn (movedTo p (p .region) (r .next) (r .shared + r .unshared)) key′ ≡ pastRow (viewIn p key) g rowHere keyHere
         here-stays = rw (le-ltb (g .reach) (r .next) w, i .heads, i .unmarked) (rw (k, here-long))
 
-        pub here-inside : Inside b t g (viewIn (movedTo p (p .region) (r .next) (r .shared + r .unshared)) key′)
+        pub here-inside : Inside b size g (viewIn (movedTo p (p .region) (r .next) (r .shared + r .unshared)) key′)
         here-inside =
             let s = here-tells in
-            record { heads = i .heads; unmarked = i .unmarked; read = i .read; counted = i .counted; few = omega (arith, s .shared-small, s .unshared-small); bounds = i .bounds; from = omega (arith, i .from, s .next-is) }
+            record { count = i .count; heads = i .heads; unmarked = i .unmarked; read = i .read; counted = i .counted; few = omega (arith, s .shared-small, s .unshared-small); bounds = i .bounds; from = omega (arith, i .from, s .next-is) }
+
+-- the rows' bytes are all there
+pub inside-long : (b : List ℕ) (size : ℕ) (g : Region) (c : Cursor) → Inside b size g c → length (take size b) ≡ size
+inside-long b size g c i = length-take-le size b (omega (arith, trailerOf-tells b (trailerIs (i .count) size) (i .read) .0))
+
+pub inside-region : (b : List ℕ) (size : ℕ) (g : Region) (c : Cursor) → Inside b size g c → c .region < length b
+inside-region b size g c i = omega (arith, trailerOf-tells b (trailerIs (i .count) size) (i .read) .0, i .counted)
+
+-- how many bytes a row may share: none at the region's start
+pub share-none : (at start len : ℕ) → at ≡ start → 0 ≡ mayShare (eqb at start) len
+share-none at start len e = rw (eq-eqb at start e) refl
+
+pub share-key : (at start len : ℕ) → (at ≡ start → ⊥) → len ≡ mayShare (eqb at start) len
+share-key at start len h = rw (ne-eqb at start h) refl
+
+-- the bytes of the key do not matter
+pub bounds-inside : (p : Place) (key b : List ℕ) {r : Bounds} → BoundsOf p b r → (r .region .end ≡ 0 → ⊥) → Inside b (r .size) (regionFrom (r .region)) (viewIn p key)
+bounds-inside p key b e h =
+    let i = stretch-inside (viewIn p []) b e h in
+    record { count = i .count; heads = i .heads; unmarked = i .unmarked; read = i .read; counted = i .counted; few = i .few; bounds = i .bounds; from = i .from }

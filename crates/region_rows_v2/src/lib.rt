@@ -5,27 +5,25 @@ ghost use Rattle.region_rows_v2.specs.Bounds.{noStretch, stretchFrom};
 ghost use Rattle.region_rows_v2.specs.Promise.{BoundsOf};
 use block::Region;
 use block::RegionRead;
-use block::Trailer;
 use block::TrailerRead;
 use block_step_v2::Place;
 use types::IterationOrder;
 
-// The trailer of a block, and the bounds of one of its regions.
+// How many bytes of rows a block has, and the bounds of one of its regions.
 pub struct Bounds {
-    pub trailer: Trailer,
+    pub size: usize,
     pub region: Region,
 }
 
 fn no_bounds() -> Bounds
     ensures { λ r. ⌜ stretchFrom r ≡ noStretch ⌝ }
 {
-    let trailer = Trailer { count: 0, size: 0 };
     let region = Region {
         start: 0,
         end: 0,
         reach: 0,
     };
-    Bounds { trailer, region }
+    Bounds { size: 0, region }
 }
 
 // The region that an ascending cursor goes on in. All 0 where it goes on in none, for whatever reason: a step tells which. (A region ends past 0.)
@@ -56,5 +54,8 @@ pub fn bounds_of(block: &[u8], p: Place) -> Bounds
     if p.at < region.start {
         return no_bounds();
     }
-    Bounds { trailer, region }
+    Bounds {
+        size: trailer.size,
+        region,
+    }
 }

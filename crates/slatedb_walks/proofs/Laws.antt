@@ -27,20 +27,11 @@ use Rattle.block_iterator_v2.specs.declared.Opened.{Opened}
 use Rattle.block_iterator_v2.specs.declared.OpenAnswer.the-variants.{Good as GoodOpen, Refused as OpenRefused}
 use Rattle.row_words.specs.Words.{badWords, doneCode, orderIn}
 use Rattle.row_words.proofs.Stores.{all-stored}
-use Rattle.slatedb_walks.specs.Walk.{lastByte, amount, Walk, walkIs, withRow, walk, wrapped}
+use Rattle.slatedb_walks.specs.Walk.{amount, Walk, walkIs, withRow, walk, wrapped}
+use Rattle.slatedb_walks.specs.Loop.{onto, Walking, added}
 use Rattle.slatedb_walks.specs.Promise.{Tells, WalksFlat}
 
 -- ---- the loop
-
--- a walk put upon n rows with the sum s
-abbrev pub onto : ℕ → ℕ → Walk → Res Walk
-onto n s w = ok (walkIs (w .over) (n + w .rows) ((s + w .sum) % 2 ^ 64))
-
-pub record Walking (want : Res Walk) (b : List ℕ) (limit : ℕ) (c : Cursor) (rows sum : ℕ) : Type 0 where
-  pub left : ℕ
-  pub all : rows + left ≡ limit
-  pub few : sum < 2 ^ 64
-  pub makes : bind (walk left c b) (onto rows sum) ≡ want
 
 alike : {o : Bool} {n m s t : ℕ} → n ≡ m → s ≡ t → ok (walkIs o n s) ≡ ok (walkIs o m t)
 alike {o} p q = ap₂ (λ (x y : ℕ). ok (walkIs o x y)) p q
@@ -85,7 +76,7 @@ module _ {want : Res Walk} (b : List ℕ) (limit : ℕ) (c : Cursor) (rows sum :
 
 pub row-added : (sum seq held : ℕ) (key : List ℕ) (n : ℕ) {last lengths named both r : ℕ} → 1 ≤ n → n ≤ length key
     → lengths ≡ (n + held) % 2 ^ 64 → last ≡ getD key (n - 1) 0 → named ≡ (seq + last) % 2 ^ 64 → both ≡ (named + lengths) % 2 ^ 64 → r ≡ (sum + both) % 2 ^ 64
-    → r ≡ (sum + (seq + length (take n key) + held + lastByte (take n key))) % 2 ^ 64
+    → r ≡ (sum + added seq held (take n key)) % 2 ^ 64
 row-added sum seq held key n some h lengths-is last-is named-is both-is r-is =
     let long = length-take-le n key h in
     rw (long, getD-take n key (n - 1) 0 (omega arith), ← last-is) (omega (arith, lengths-is, named-is, both-is, r-is))

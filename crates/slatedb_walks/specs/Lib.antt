@@ -1,4 +1,5 @@
 pub mod Walk
 pub mod Says
+pub mod Loop
 pub mod Promise
 pub mod OneOutcome

@@ -4,14 +4,18 @@
 // for words that mean nothing, which is tested first, and 255 for "done"; what else it answers goes to lent words.
 ghost use mathlib.Core.Path.{_≡_};
 ghost use Prim.Native.Nat.{_≤_, _+_, _%_, _^_};
-ghost use lib.ListN.{length, take, replicate};
+ghost use lib.ListN.{length, take, drop, replicate};
 ghost use Rattle.layout.specs.Answer.{bind};
+ghost use Rattle.layout.specs.Fixed.{unbig};
 ghost use Rattle.layout.specs.Limits.{maxKey};
 ghost use Rattle.types.specs.Says.{saysHeld};
 ghost use Rattle.row_decode_v2.specs.Says.{rowFrom};
+ghost use Rattle.block.specs.Says.{regionFrom};
 ghost use Rattle.block_step_v2.specs.Says.{viewIn};
 ghost use Rattle.block_iterator_v2.specs.Says.{viewOf};
+ghost use Rattle.region_rows_v2.specs.Bounds.{Inside};
 ghost use Rattle.slatedb_walks.specs.Walk.{heldLength, amount, walk, wrapped};
+ghost use Rattle.slatedb_walks.specs.Loop.{added, PlainFits, PassesPlain, RunsOn};
 ghost use Rattle.slatedb_walks.specs.Says.{saysWalked};
 ghost use Rattle.slatedb_walks.specs.Promise.{Tells, WalksFlat};
 use block_iterator_v2::BlockIteratorV2;
@@ -20,7 +24,10 @@ use block_iterator_v2::OpenAnswer;
 use block_step_v2::Moved;
 use block_step_v2::Place;
 use block_words::OrderRead;
+use buf::WordRead;
+use region_rows_v2::Bounds;
 use row_decode_v2::Row;
+use row_plain_v2::PlainRow;
 use types::Refusal;
 use types::ValueDeletable;
 
@@ -69,17 +76,30 @@ fn wide(byte: u8) -> u64
     byte as u64
 }
 
-// The sum with a row more, whose key stands at the start of `key`.
+// The sum with a row more, by its parts: its key is the first `n` bytes of `key`, its value has `held` bytes.
+fn with_parts(sum: u64, seq: u64, held: u64, key: &[u8], n: usize) -> u64
+    requires { ⌜ (1 ≤ n) × (n ≤ length (now key)) × (length (now key) ≡ maxKey) ⌝ }
+    ensures { λ r. ⌜ r ≡ (sum + added seq held (take n (now (key .entry)))) % 2 ^ 64 ⌝ }
+{
+    let last = n - 1;
+    let lengths = std::num::wrapping_add_u64(n as u64, held);
+    let named = std::num::wrapping_add_u64(seq, wide(key[last]));
+    std::num::wrapping_add_u64(sum, std::num::wrapping_add_u64(named, lengths))
+}
+
+// The same of a row that was read.
 fn with_row(sum: u64, row: Row, key: &[u8]) -> u64
     requires { ⌜ (1 ≤ row .shared + row .«suffix_len») × (row .shared + row .«suffix_len» ≤ length (now key)) × (length (now key) ≡ maxKey) ⌝ }
     ensures { λ r. ⌜ r ≡ (sum + amount (rowFrom row) (take (row .shared + row .«suffix_len») (now (key .entry)))) % 2 ^ 64 ⌝ }
 {
-    let key_len = row.shared + row.suffix_len;
-    let last = key_len - 1;
     let held = row.held;
-    let lengths = std::num::wrapping_add_u64(key_len as u64, value_len(held));
-    let named = std::num::wrapping_add_u64(row.seq, wide(key[last]));
-    std::num::wrapping_add_u64(sum, std::num::wrapping_add_u64(named, lengths))
+    with_parts(
+        sum,
+        row.seq,
+        value_len(held),
+        key,
+        row.shared + row.suffix_len,
+    )
 }
 
 // ---- by value
@@ -149,6 +169,101 @@ pub extern "C" fn slatedb_walk_by_value(
 
 // ---- in place
 
+// The eight bytes at `at`.
+fn seq_at(data: &[u8], at: usize) -> u64
+    requires { ⌜ at + 8 ≤ length (now «data») ⌝ }
+    ensures { λ r. ⌜ r ≡ unbig (take 8 (drop at (now («data» .entry)))) ⌝ }
+{
+    let word = buf::get_u64(data, at);
+    match word {
+        WordRead::Word { value, next: _ } => value,
+        WordRead::Refused(_) => 0,
+    }
+}
+
+// Puts the suffix of a plain row over the key of the row before, and gives the sum with it.
+fn pass_plain(key: &mut [u8], data: &[u8], at: usize, row: PlainRow, sum: u64) -> u64
+    requires { ⌜ (length (now key) ≡ maxKey) × PlainFits (length (now «data»)) at row ⌝ }
+    ensures { λ r. ⌜ PassesPlain (now (key .entry)) (now («data» .entry)) at row sum r (now (key .exit)) ⌝ }
+{
+    let from = at + 3;
+    let end = from + row.unshared;
+    buf_mut::copy_in(key, row.shared, &data[from..end]);
+    let seq = seq_at(data, row.next - 9);
+    with_parts(
+        sum,
+        seq,
+        row.value_len as u64,
+        key,
+        row.shared + row.unshared,
+    )
+}
+
+// Where a run of rows ended, and what it found.
+struct Ran {
+    place: Place,
+    rows: u64,
+    sum: u64,
+}
+
+// The plain rows of one region: to its end, to the first row that is not plain, or to the limit.
+fn run(block: &[u8], b: Bounds, key: &mut [u8], came: Ran, limit: u64) -> Ran
+    requires { ⌜ length (now key) ≡ maxKey ⌝ }
+    requires { ⌜ Inside (now block) (b .size) (regionFrom (b .region)) (viewIn (came .place) (now key)) ⌝ }
+    ensures { λ r. ⌜ RunsOn (now (block .entry)) limit came (now (key .entry)) r (now (key .exit)) ⌝ }
+{
+    let g = b.region;
+    let size = b.size;
+    let mut p = came.place;
+    let mut rows = came.rows;
+    let mut sum = came.sum;
+    while rows < limit {
+        let at = p.at;
+        let most = if at == g.start { 0 } else { p.key_len };
+        let row = row_plain_v2::plain_at(&block[..size], at, g.end, most);
+        if row.next == 0 {
+            return Ran {
+                place: p,
+                rows,
+                sum,
+            };
+        }
+        sum = pass_plain(key, &block[..size], at, row, sum);
+        rows += 1;
+        p.at = row.next;
+        if g.reach < row.next {
+            p.region += 1;
+            p.key_len = 0;
+            return Ran {
+                place: p,
+                rows,
+                sum,
+            };
+        }
+        p.key_len = row.shared + row.unshared;
+    }
+    Ran {
+        place: p,
+        rows,
+        sum,
+    }
+}
+
+// The same of the region that the cursor goes on in, if there is one.
+fn run_here(block: &[u8], key: &mut [u8], came: Ran, limit: u64) -> Ran
+    requires { ⌜ length (now key) ≡ maxKey ⌝ }
+    ensures { λ r. ⌜ RunsOn (now (block .entry)) limit came (now (key .entry)) r (now (key .exit)) ⌝ }
+{
+    let place = came.place;
+    let b = region_rows_v2::bounds_of(block, place);
+    let g = b.region;
+    if g.end == 0 {
+        return came;
+    }
+    run(block, b, key, came, limit)
+}
+
+// Plain rows a region at a time, any other row by a step of its own.
 fn in_place(block: &[u8], start: Place, limit: u64) -> Walked
     ensures { λ r. ⌜ saysWalked r ≡ bind (walk limit (viewIn start (replicate maxKey 0)) (now (block .entry))) wrapped ⌝ }
 {
@@ -158,22 +273,34 @@ fn in_place(block: &[u8], start: Place, limit: u64) -> Walked
     let mut rows = 0;
     let mut sum = 0;
     while rows < limit {
-        let moved = block_step_v2::next_in_place(&mut carried, p, block, &mut key);
-        match moved {
-            Moved::Found { place, row } => {
-                sum = with_row(sum, row, &key);
-                rows += 1;
-                p = place;
-            }
-            Moved::Done(_) => {
-                return Walked::Ended {
-                    over: true,
-                    rows,
-                    sum,
-                };
-            }
-            Moved::Refused(refusal) => {
-                return Walked::Refused(refusal);
+        let came = Ran {
+            place: p,
+            rows,
+            sum,
+        };
+        let ran = run_here(block, &mut carried, came, limit);
+        let before = rows;
+        p = ran.place;
+        rows = ran.rows;
+        sum = ran.sum;
+        if rows == before {
+            let moved = block_step_v2::next_in_place(&mut carried, p, block, &mut key);
+            match moved {
+                Moved::Found { place, row } => {
+                    sum = with_row(sum, row, &key);
+                    rows += 1;
+                    p = place;
+                }
+                Moved::Done(_) => {
+                    return Walked::Ended {
+                        over: true,
+                        rows,
+                        sum,
+                    };
+                }
+                Moved::Refused(refusal) => {
+                    return Walked::Refused(refusal);
+                }
             }
         }
     }

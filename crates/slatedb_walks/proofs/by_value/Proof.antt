@@ -12,8 +12,9 @@ use Rattle.types.specs.Answers.{yes}
 use Rattle.row_decode_v2.specs.Says.{rowFrom}
 use Rattle.block_iterator_v2.specs.Says.{viewOf, saysNext}
 use Rattle.slatedb_walks.specs.Walk.{walk, wrapped}
+use Rattle.slatedb_walks.specs.Loop.{Walking}
 use Rattle.slatedb_walks.proofs.Steps.{Finds, finds, ends, refuses}
-use Rattle.slatedb_walks.proofs.Laws.{Walking, walking-start, walking-whole, walking-done, walking-refused, walking-more}
+use Rattle.slatedb_walks.proofs.Laws.{walking-start, walking-whole, walking-done, walking-refused, walking-more}
 use Rattle.slatedb_walks.proofs.by_value.Statement.{statement}
 use Rattle.slatedb_walks.proofs.by_value.Tie as tie
 

@@ -1,20 +1,12 @@
--- `with_row` answers the sum with a row more, as 64 bits hold it.
+-- `with_parts` answers the sum with a row more, as 64 bits hold it.
 -- The wrapping sums of its parts are the sum of the parts, wrapped once (`row-added`). The key has a byte and lies inside its buffer, as required, so its last byte is there to be read.
-use Rattle.types.specs.Says.{saysHeld}
-use Rattle.slatedb_walks.specs.Walk.{heldLength}
 use Rattle.slatedb_walks.proofs.Laws.{row-added}
 use borrow.Author.Needs.{needs}
-use Rattle.slatedb_walks.proofs.with_row.Statement.{statement}
-use Rattle.slatedb_walks.proofs.with_row.Tie as tie
-
-add-key-len : tie.Need-add-key-len
-add-key-len c = search needs
+use Rattle.slatedb_walks.proofs.with_parts.Statement.{statement}
+use Rattle.slatedb_walks.proofs.with_parts.Tie as tie
 
 sub-last : tie.Need-sub-last
 sub-last c = search needs
-
-value-len-requires : tie.Need-value-len-requires
-value-len-requires c κs = search needs
 
 wrapping-add-u64-requires : tie.Need-wrapping-add-u64-requires
 wrapping-add-u64-requires c κs = search needs
@@ -36,17 +28,15 @@ wrapping-add-u64-requires-4 c κs = search needs
 
 returns : tie.Need-returns
 returns c =
-    let s = c .before .before .before .before .before .before .before .before .before in
-    row-added _ (s .args .row .seq) (heldLength (saysHeld (s .args .row .held))) (s .args .key .now) _ (s .pre .0) (s .pre .1)
-    (rw (c .before .before .before .before .before .before .value-len .ensures) at (c .before .before .before .before .before .wrapping-add-u64 .ensures)) (c .before .before .before .wide .ensures) (c .before .before .wrapping-add-u642 .ensures) (c .before .wrapping-add-u643 .ensures) (c .wrapping-add-u644 .ensures)
+    let s = c .before .before .before .before .before .before .before in
+    row-added (s .args .sum) (s .args .seq) (s .args .held) (s .args .key .now) (s .args .n) (s .pre .0) (s .pre .1)
+    (c .before .before .before .before .before .wrapping-add-u64 .ensures) (c .before .before .before .wide .ensures) (c .before .before .wrapping-add-u642 .ensures) (c .before .wrapping-add-u643 .ensures) (c .wrapping-add-u644 .ensures)
 
-pub with-row-spec : {M : Type 1} → statement M
-with-row-spec =
+pub with-parts-spec : {M : Type 1} → statement M
+with-parts-spec =
     tie.close
     (tie.spec
-    add-key-len
     sub-last
-    value-len-requires
     wrapping-add-u64-requires
     shared-slice-read-wide
     wide-requires
