@@ -137,11 +137,14 @@ pub fn kept_len(kind: Kind, value_len: usize) -> usize
     }
 }
 
-// How many bytes a length takes that has passed its test, and so fits 32 bits.
+// How many bytes a length takes that has passed its test, and so fits 32 bits. Most are below 128.
 fn length_len(n: usize) -> usize
     requires { ⌜ n < 2 ^ 32 ⌝ }
     ensures { λ r. ⌜ (r ≡ varintLength n) × (r ≤ 5) ⌝ }
 {
+    if n < 128 {
+        return 1;
+    }
     utils::varint_len(n as u32)
 }
 
