@@ -8,7 +8,7 @@ use native.Mathlib.Omega.{arith}
 use lib.Dec.{ltb, eqb}
 use lib.ListN.{length, take, drop, getD, length-drop, take-append-drop}
 use lib.Seq.{getD-take, take-append-le, drop-append-le, length-take-le}
-use borrow.Author.Tests.{lt-ltb, le-ltb, eq-eqb, ne-eqb, ltb-false, eqb-true}
+use borrow.Author.Tests.{lt-ltb, le-ltb, eq-eqb, ne-eqb, ltb-false, eqb-true, eqb-false}
 use Rattle.layout.specs.Answer.{Res, ok, refuse}
 use Rattle.layout.specs.Limits.{maxKey}
 use Rattle.layout.specs.Fixed.{unbig}
@@ -18,7 +18,7 @@ use Rattle.layout.specs.RowRead.{RowRead, readRow, mayShare, keyOf}
 use Rattle.layout.specs.Trailer.{Trailer, trailerOf, dataOf, Region, regionOf}
 use Rattle.layout.specs.Plain.{Plain, plainAt, plainRead}
 use Rattle.layout.specs.Cursor.{ascending, Cursor, cursorIs, found, Step, stepIs, pastRow, next}
-use Rattle.layout.specs.Laws.Answer.{ok-inj, bool-cases, ltb-cases, eqb-cases}
+use Rattle.layout.specs.Laws.Answer.{ok-inj, bool-cases, ltb-cases, eqb-cases, cond-ok}
 use Rattle.layout.specs.Laws.Carry.{Carries, read-carried, keyOf-length, suffixOf, key-new}
 use Rattle.layout.specs.Laws.Cursor.{next-up, up-found}
 use Rattle.layout.specs.Laws.Place.{fourAt, fixedAt-eight}
@@ -27,7 +27,7 @@ use Rattle.layout.specs.Laws.Trailer.{trailerOf-tells, regionOf-tells}
 use Rattle.block.specs.Plain.{regionOr, regionBy, region-is, regionBy-tells}
 use Rattle.step_plain_v2.specs.declared.Ahead.{Ahead}
 use Rattle.step_plain_v2.specs.declared.Stepped.{Stepped}
-use Rattle.step_plain_v2.specs.Ahead.{noAhead, aheadWith, aheadAt, ascends, plainStep, noStep, steppedOf, steppedTo, Moved}
+use Rattle.step_plain_v2.specs.Ahead.{noAhead, aheadWith, aheadAt, ascends, plainStep, noStep, steppedOf, steppedTo, rowMade, Moved}
 use Rattle.step_plain_v2.specs.Promise.{KeyMoved, Goes}
 use Rattle.step_plain_v2.proofs.Copies.{part-length}
 
@@ -319,3 +319,89 @@ module _ (b : List ℕ) (region at keyLen : ℕ) (key out : List ℕ) (a : Ahead
     step-goes m t l h w =
         let g = goes-made m in
         record { answer = rw (t, l, h, w) (g .answer); key-bytes = g .key-bytes; lent = g .lent }
+
+-- ---- for callers
+
+-- a plain step is the rules' own, over as many key bytes as there must be
+pub plainStep-tells : (region at keyLen : ℕ) (key b : List ℕ) (room : ℕ) (s : Step) → plainStep region at keyLen key b room ≡ ok s
+    → (length key ≡ maxKey) × (next (ascends region at keyLen key) b room ≡ ok s)
+unfolding plainStep
+plainStep-tells region at keyLen key b room s e =
+    ⊎-elim (λ x. absurd (let z : _≡_ {A = ℕ} 0 1 = cc in omega arith))
+    (λ x. (standing b region at keyLen (length key) room (aheadAt b region at keyLen (length key) room) refl (eqb-false (aheadAt b region at keyLen (length key) room .next) 0 (x .0)) .whole, x .1))
+    (cond-ok (eqb (aheadAt b region at keyLen (length key) room .next) 0) (refuse 0) (next (ascends region at keyLen key) b room) s e)
+
+-- what a step that was made tells: the cursor and the row, whose places are those of a plain one
+pub record Told (want : Res Step) (at : ℕ) (r : Stepped) : Type 0 where
+  pub cursor : Cursor
+  pub key : Key
+  pub is : want ≡ ok (stepIs cursor (found (rowMade at r) key))
+  pub to : r ≡ steppedTo cursor (found (rowMade at r) key)
+  pub heads : cursor .direction ≡ ascending
+  pub unmarked : cursor .mark ≡ false
+  pub ends : at + 12 + r .unshared + r .«value_len» ≡ r .next
+
+module _ (region at keyLen : ℕ) (key b out : List ℕ) (x : Stepped) {key′ out′ : List ℕ} (g : Goes (plainStep region at keyLen key b (length out)) key out x key′ out′) where
+  abbrev a₀ : Ahead
+  a₀ = aheadAt b region at keyLen (length key) (length out)
+
+  refused : a₀ .next ≡ 0 → plainStep region at keyLen key b (length out) ≡ refuse 0
+  unfolding plainStep
+  refused z = rw (eq-eqb (a₀ .next) 0 z)
+
+  module _ (n : a₀ .next ≡ 0 → ⊥) where
+    s₀ : Standing b region at keyLen (length key) (length out) a₀
+    s₀ = standing b region at keyLen (length key) (length out) a₀ refl n
+
+    abbrev r₀ : RowRead
+    r₀ = r b region at keyLen key out s₀
+
+    abbrev k₀ : Key
+    k₀ = k b region at keyLen key out s₀
+
+    is₀ : plainStep region at keyLen key b (length out) ≡ ok (stepIs (pastRow (ascends region at keyLen key) (s₀ .g) r₀ k₀) (found r₀ k₀))
+    is₀ = step-is b region at keyLen key out a₀ refl n ∙ wanted b region at keyLen key out s₀
+
+    -- whichever cursor it leaves
+    either : (t : Bool) (v : Cursor) → v ≡ cond t (cursorIs ascending (region + 1) (s₀ .p .next) [] false) (cursorIs ascending region (s₀ .p .next) k₀ false)
+        → plainStep region at keyLen key b (length out) ≡ ok (stepIs v (found r₀ k₀)) → Told (plainStep region at keyLen key b (length out)) at x
+    either t v e i =
+        let place : v .at ≡ s₀ .p .next = ap (λ (u : Cursor). u .at) e ∙ one t in
+        let to : x ≡ steppedTo v (found r₀ k₀) = g .answer ∙ ap steppedOf i in
+        let row : r₀ ≡ rowMade at x = ap (λ (m : ℕ). rowMade at (record { region = 0; «key_len» = 0; next = m; shared = s₀ .p .shared; unshared = s₀ .p .unshared; «value_len» = s₀ .p .vlen; seq = r₀ .seq })) (sym place) ∙ ap (rowMade at) (sym to) in
+        record {
+          cursor = v;
+          key = k₀;
+          is = i ∙ ap (λ (u : RowRead). ok (stepIs v (found u k₀))) row;
+          to = to ∙ ap (λ (u : RowRead). steppedTo v (found u k₀)) row;
+          heads = ap (λ (u : Cursor). u .direction) e ∙ two t;
+          unmarked = ap (λ (u : Cursor). u .mark) e ∙ three t;
+          ends = omega (arith, place, s₀ .plain .next-is, ap (λ (u : Stepped). u .unshared) to, ap (λ (u : Stepped). u .«value_len») to, ap (λ (u : Stepped). u .next) to);
+        }
+      where
+        one : (t : Bool) → cond t (cursorIs ascending (region + 1) (s₀ .p .next) [] false) (cursorIs ascending region (s₀ .p .next) k₀ false) .at ≡ s₀ .p .next
+        one true = refl
+        one false = refl
+
+        two : (t : Bool) → cond t (cursorIs ascending (region + 1) (s₀ .p .next) [] false) (cursorIs ascending region (s₀ .p .next) k₀ false) .direction ≡ ascending
+        two true = refl
+        two false = refl
+
+        three : (t : Bool) → cond t (cursorIs ascending (region + 1) (s₀ .p .next) [] false) (cursorIs ascending region (s₀ .p .next) k₀ false) .mark ≡ false
+        three true = refl
+        three false = refl
+
+    made₀ : Told (plainStep region at keyLen key b (length out)) at x
+    made₀ = either (ltb (s₀ .g .reach) (s₀ .p .next)) _ refl is₀
+
+  pub not-told : x .next ≡ 0 → plainStep region at keyLen key b (length out) ≡ refuse 0
+  not-told z =
+      ⊎-elim (λ y. refused (y .1))
+      (λ y. let m = made₀ (y .1) in absurd (omega (arith, m .ends)))
+      (eqb-cases (a₀ .next) 0)
+
+  pub told : (x .next ≡ 0 → ⊥) → Told (plainStep region at keyLen key b (length out)) at x
+  told n =
+      ⊎-elim (λ y. absurd (n (ap (λ (u : Stepped). u .next) (g .answer ∙ ap steppedOf (refused (y .1))))))
+      (λ y. made₀ (y .1))
+      (eqb-cases (a₀ .next) 0)

@@ -8,7 +8,8 @@ use lib.ListN.{length, take}
 use Rattle.layout.specs.Answer.{Res, ok, refuse}
 use Rattle.layout.specs.Limits.{maxKey}
 use Rattle.layout.specs.Place.{splice}
-use Rattle.layout.specs.RowRead.{Held, holds, gone, merges, mayShare}
+use Rattle.layout.specs.Row.{Absent}
+use Rattle.layout.specs.RowRead.{RowRead, Held, holds, gone, merges, mayShare}
 use Rattle.layout.specs.Trailer.{Region}
 use Rattle.layout.specs.Plain.{Plain, plainAt}
 use Rattle.layout.specs.Cursor.{ascending, Cursor, keptCursor, Answer, found, done, Step, next}
@@ -64,6 +65,21 @@ steppedTo c done = noStep
 abbrev pub steppedOf : Res Step → Stepped
 steppedOf (ok s) = steppedTo (s .cursor) (s .answer)
 steppedOf (refuse n) = noStep
+
+-- the row that was stepped past, by these numbers and its place
+abbrev pub rowMade : ℕ → Stepped → RowRead
+rowMade at x =
+    record {
+      start = at;
+      next = x .next;
+      shared = x .shared;
+      suffixAt = at + 3;
+      suffixLen = x .unshared;
+      held = holds (at + 3 + x .unshared) (x .«value_len»);
+      seq = x .seq;
+      expire = Absent;
+      create = Absent;
+    }
 
 -- ---- the key: the suffix w is put over the carried key, which is then given
 pub record Moved (key out : List ℕ) (shared : ℕ) (w key′ out′ : List ℕ) : Type 0 where
