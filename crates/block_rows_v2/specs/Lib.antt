@@ -3,3 +3,4 @@ pub mod Promise
 pub mod OneOutcome
 pub mod Says
 pub mod Chain
+pub mod Calls

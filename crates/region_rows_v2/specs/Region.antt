@@ -2,7 +2,6 @@
 -- region or is handed over to the next.
 use Prim.Native.Nat.{ℕ, _+_, _<_, _≤_}
 use mathlib.Core.Path.{_≡_, refl, ap, _∙_}
-use mathlib.Core.Bool.{false}
 use mathlib.Core.List.{List, []}
 use native.Mathlib.Omega.{arith}
 use lib.Dec.{eqb}
@@ -16,7 +15,7 @@ use Rattle.layout.specs.Place.{splice}
 use Rattle.layout.specs.Plain.{Plain, plainAt, plainRead}
 use Rattle.layout.specs.RowRead.{mayShare, readRow, RowRead, keyOf}
 use Rattle.layout.specs.Trailer.{trailerIs, Region}
-use Rattle.layout.specs.Cursor.{ascending, Cursor, cursorIs, found, stepIs, pastRow, next}
+use Rattle.layout.specs.Cursor.{Cursor, found, stepIs, pastRow, next}
 use Rattle.layout.specs.Laws.Carry.{Carries, read-carried, keyOf-length, suffixOf, key-new}
 use Rattle.layout.specs.Laws.Plain.{PlainTells, plainAt-tells}
 use Rattle.layout.specs.Laws.Trailer.{trailerOf-tells}

@@ -1,5 +1,5 @@
 -- Plain rows of a region, gone over one after another: the row that is met is the step's, so a walk that is under way goes on past it.
-use Prim.Native.Nat.{ℕ, _+_, _%_, _^_, _<_, _≤_}
+use Prim.Native.Nat.{ℕ, _+_, _<_, _≤_}
 use mathlib.Core.Path.{_≡_, ap, ap₂, sym, _∙_}
 use mathlib.Core.List.{List}
 use native.Mathlib.Omega.{arith}
@@ -10,7 +10,7 @@ use Rattle.layout.specs.Fixed.{unbig}
 use Rattle.layout.specs.Key.{Key}
 use Rattle.layout.specs.Limits.{maxKey}
 use Rattle.layout.specs.Place.{NumAt, numAt, fixedAt}
-use Rattle.layout.specs.Plain.{Plain, plainAt}
+use Rattle.layout.specs.Plain.{plainAt}
 use Rattle.layout.specs.RowRead.{mayShare}
 use Rattle.layout.specs.Trailer.{Region}
 use Rattle.layout.specs.Cursor.{Cursor, found, stepIs, pastRow, next}
@@ -22,7 +22,7 @@ use Rattle.row_plain_v2.specs.declared.PlainRow.{PlainRow}
 use Rattle.block_step_v2.specs.Says.{viewIn}
 use Rattle.block_step_v2.specs.declared.Place.{Place}
 use Rattle.region_rows_v2.specs.Bounds.{Inside}
-use Rattle.region_rows_v2.specs.Region.{movedTo, rowHere, keyHere, here-tells, here-step, here-carried, here-over, here-stays, here-inside, inside-long}
+use Rattle.region_rows_v2.specs.Region.{movedTo, rowHere, keyHere, here-tells, here-step, here-carried, here-over, here-stays, here-inside}
 use Rattle.slatedb_walks.specs.Walk.{Walk}
 use Rattle.slatedb_walks.specs.Loop.{Walking, PlainFits, PassesPlain}
 use Rattle.slatedb_walks.proofs.Laws.{walking-more}
