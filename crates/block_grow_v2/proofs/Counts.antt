@@ -42,6 +42,10 @@ module _ (rows n : ℕ) (some : 1 ≤ n) where
         (λ t. let k = leb-false n (restarts * n - rows) t in t ∙ sym (rw (eq-eqb restarts (restartsOf rows n) (only restarts h (omega (arith, k))))))
         (bool-cases (leb n (restarts * n - rows)))
 
+    -- so the rows are few
+    pub rows-held : restarts ≡ restartsOf rows n → rows ≤ restarts * n
+    rows-held c = omega (arith, bounds .0, ap (λ (x : ℕ). x * n) c)
+
     pub at-restart : restarts ≡ restartsOf rows n → eqb rows (restarts * n) ≡ isRestart n rows
     unfolding isRestart
     at-restart c =

@@ -78,28 +78,31 @@ module _ (row : RowFields) {n : ℕ} (flagged : Flagged row n) (none : n ≡ 0) 
 put-at : {xs ys w : List ℕ} {at n : ℕ} {p : Put} → at + length w ≤ length xs → n ≡ at + length w → Puts w xs at p ys → Wrote xs at w ys n
 put-at h e q = record { is = copied h q; next = e; room = omega arith }
 
-module _ (xs : List ℕ) (at : ℕ) (suffix v : List ℕ) (seq : ℕ) (room : at + length (plainBody suffix v seq) ≤ length xs) where
-  pub body-length : length (plainBody suffix v seq) ≡ length suffix + (length v + 9)
-  body-length = simp length-append (omega (arith, length-big 8 seq))
+-- the suffix, of k bytes, the value, the sequence number and a 0
+module _ (xs : List ℕ) (at : ℕ) (suffix v : List ℕ) (seq k : ℕ) (is : k ≡ length suffix) (room : at + length (plainBody suffix v seq) ≤ length xs) where
+  pub body-ends : at + k + length v + 9 ≤ length xs
+  body-ends =
+      let long : length (plainBody suffix v seq) ≡ length suffix + (length v + 9) = simp length-append (omega (arith, length-big 8 seq)) in
+      omega (arith, long)
 
-  module _ {ys zs us : List ℕ} {p q r : Put} (x : Puts suffix xs at p ys) (y : Puts v ys (at + length suffix) q zs) (z : Puts (big 8 seq) zs (at + length suffix + length v) r us) where
-    one : Wrote xs at suffix ys (at + length suffix)
-    one = put-at (omega (arith, body-length)) refl x
+  module _ {ys zs us : List ℕ} {p q r : Put} (x : Puts suffix xs at p ys) (y : Puts v ys (at + k) q zs) (z : Puts (big 8 seq) zs (at + k + length v) r us) where
+    one : Wrote xs at suffix ys (at + k)
+    one = put-at (omega (arith, body-ends)) (omega arith) x
 
-    two : Wrote ys (at + length suffix) v zs (at + length suffix + length v)
-    two = put-at (omega (arith, body-length, wrote-length one)) refl y
+    two : Wrote ys (at + k) v zs (at + k + length v)
+    two = put-at (omega (arith, body-ends, wrote-length one)) refl y
 
-    three : Wrote zs (at + length suffix + length v) (big 8 seq) us (at + length suffix + length v + 8)
-    three = put-at (omega (arith, body-length, length-big 8 seq, wrote-length one, wrote-length two)) (omega (arith, length-big 8 seq)) z
+    three : Wrote zs (at + k + length v) (big 8 seq) us (at + k + length v + 8)
+    three = put-at (omega (arith, body-ends, length-big 8 seq, wrote-length one, wrote-length two)) (omega (arith, length-big 8 seq)) z
 
-    pub flags-room : at + length suffix + length v + 8 < length us
-    flags-room = omega (arith, body-length, wrote-length one, wrote-length two, wrote-length three)
+    pub flags-room : at + k + length v + 8 < length us
+    flags-room = omega (arith, body-ends, wrote-length one, wrote-length two, wrote-length three)
 
-    pub body-wrote : Wrote xs at (plainBody suffix v seq) (set us (at + length suffix + length v + 8) 0) (at + length suffix + length v + 9)
+    pub body-wrote : Wrote xs at (plainBody suffix v seq) (set us (at + k + length v + 8) 0) (at + k + length v + 9)
     body-wrote =
-        let four = wrote-set us (at + length suffix + length v + 8) 0 flags-room in
-        let is : at + length suffix + length v + 8 + 1 ≡ at + length suffix + length v + 9 = omega arith in
-        rw is at (wrote-then one (wrote-then two (wrote-then three four)))
+        let four = wrote-set us (at + k + length v + 8) 0 flags-room in
+        let end : at + k + length v + 8 + 1 ≡ at + k + length v + 9 = omega arith in
+        rw end at (wrote-then one (wrote-then two (wrote-then three four)))
 
 module _ {bytes : List ℕ} {used shared : ℕ} {key v : List ℕ} {seq : ℕ} (w : PlainFits bytes used shared key v seq) where
   abbrev cut : List ℕ
@@ -107,6 +110,9 @@ module _ {bytes : List ℕ} {used shared : ℕ} {key v : List ℕ} {seq : ℕ} (
 
   cut-is : cut ≡ drop shared key
   cut-is = take-all (length key - shared) (drop shared key) (rw (length-drop shared key) (omega arith))
+
+  pub cut-length : length key - shared ≡ length cut
+  cut-length = sym (length-drop shared key) ∙ ap length (sym cut-is)
 
   -- as the code has it
   abbrev parts : List ℕ
@@ -138,6 +144,9 @@ module _ {bytes : List ℕ} {used shared : ℕ} {key v : List ℕ} {seq : ℕ} (
       module _ {us : List ℕ} {c : ℕ} (r : Wrote zs b (varint (length v)) us c) where
         pub body-room : c + length (plainBody cut v seq) ≤ length us
         body-room = room-next (plainBody cut v seq) r third
+
+        pub ends-room : c + (length key - shared) + length v + 9 ≤ length us
+        ends-room = body-ends us c cut v seq (length key - shared) cut-length body-room
 
         pub plain-wrote : {out : List ℕ} {n : ℕ} → Wrote us c (plainBody cut v seq) out n → Wrote bytes used (plainBytes shared (drop shared key) v seq) out n
         plain-wrote t = rw parts-are at (wrote-then p (wrote-then q (wrote-then r t)))

@@ -1,7 +1,7 @@
 -- The tests of the builder's code, exit by exit, by what was met on the way: of its state, of a row's fit, of its adding.
 -- A row is known by what was found of it: its share is the definition's, so share and suffix make its key, its size is the count of the bytes that are laid, and the sum that is
 -- compared is the grown size. Adding goes on from there with the tests of 5 and 6 alone.
-use Prim.Native.Nat.{ℕ, _+_, _*_, _/_, _≤_, _<_}
+use Prim.Native.Nat.{ℕ, _+_, _*_, _≤_, _<_}
 use mathlib.Core.Path.{_≡_, refl, ap, sym, _∙_}
 use mathlib.Core.Bool.{Bool, true, false, cond, _&&_, _||_}
 use mathlib.Core.Logic.{⊎-elim}
@@ -33,11 +33,11 @@ module _ (counter used : ℕ) {n : ℕ} (e : n ≡ cond (eqb counter 0) used 0) 
   pub stray-some : 0 < n → (counter ≡ 0 → used ≡ 0) → ⊥
   stray-some h k = ⊎-elim (λ t. let q : n ≡ used = rw (t .0) at e in let z = k (t .1) in absurd (omega arith)) (λ t. let q : n ≡ 0 = rw (t .0) at e in absurd (omega arith)) (eqb-cases counter 0)
 
--- a state that no test refuses. The rows are tested by a division, since twelve times their number may wrap
+-- a state that no test refuses
 pub state-passed : (b : Builder) (dataLen placesLen : ℕ) → b .size ≤ maxBlock → (b .interval ≡ 0 → ⊥) → b .interval ≤ maxInterval → b .used ≤ dataLen
-    → b .restarts ≤ placesLen → b .restarts ≤ maxRestarts → b .rows ≤ b .used / 12 → b .restarts ≡ restartsOf (b .rows) (b .interval) → (b .rows ≡ 0 → b .used ≡ 0)
+    → b .restarts ≤ placesLen → b .restarts ≤ maxRestarts → b .restarts ≡ restartsOf (b .rows) (b .interval) → 12 * b .rows ≤ b .used → (b .rows ≡ 0 → b .used ≡ 0)
     → b .lastLen ≤ maxKey → stateTests b dataLen placesLen ≡ ok tt
-state-passed b dataLen placesLen block some few in-data in-places allowed rows counted no-rows last-fits =
+state-passed b dataLen placesLen block some few in-data in-places allowed counted rows no-rows last-fits =
     state-good b dataLen placesLen
     (record {
       block = block;
@@ -47,7 +47,7 @@ state-passed b dataLen placesLen block some few in-data in-places allowed rows c
       in-places = in-places;
       allowed = allowed;
       counted = counted;
-      least = omega arith;
+      least = rows;
       no-rows = no-rows;
       last-fits = last-fits;
     })

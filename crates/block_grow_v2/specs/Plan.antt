@@ -1,16 +1,14 @@
 -- What the private functions answer and write: a row that is tested, with what was found on the way; a row that is written.
 use Prim.Native.Nat.{ℕ, _+_, _-_, _^_, _≤_, _<_}
 use mathlib.Core.Path.{_≡_}
-use mathlib.Core.Bool.{Bool, cond, _&&_, _||_}
+use mathlib.Core.Bool.{Bool, cond}
 use mathlib.Core.List.{List, [], _∷_, _++_}
-use lib.Dec.{ltb, leb}
 use lib.ListN.{length, drop, set}
 use Rattle.layout.specs.Answer.{Res, ok, refuse, bind, guard}
 use Rattle.layout.specs.Block.{shareOf}
 use Rattle.layout.specs.Builder.{Builder, stateTests, atRestart, nextRow, grownSize, wouldFit, grown, add}
 use Rattle.layout.specs.Fixed.{big}
 use Rattle.layout.specs.Key.{Key}
-use Rattle.layout.specs.Limits.{maxOffset}
 use Rattle.layout.specs.Place.{splice}
 use Rattle.layout.specs.Row.{Fields, valueOf, rowBytes, lengthTests}
 use Rattle.layout.specs.Varint.{varint}
@@ -68,9 +66,8 @@ abbrev pub plannedRefusal : Planned → Refusal
 plannedRefusal (PlannedRow shared size restart) = EmptyKey
 plannedRefusal (PlannedRefused r) = r
 
--- 5 and 6
-abbrev pub pastRoom : Bool → ℕ → ℕ → ℕ → ℕ → ℕ → Bool
-pastRoom restart used restarts dataLen placesLen size = (restart && ltb maxOffset used) || (ltb dataLen size || (restart && leb placesLen restarts))
+abbrev pub foundIs : ℕ → ℕ → Bool → Found
+foundIs shared size restart = record { shared = shared; size = size; restart = restart }
 
 -- what was found as plain numbers: a size of 0 where it is refused
 pub record FoundIs (want : Res Plan) (r : Found) : Type 0 where

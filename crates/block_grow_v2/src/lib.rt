@@ -17,7 +17,7 @@ ghost use Rattle.layout.specs.Varint.{varint};
 ghost use Rattle.layout.specs.Laws.Splice.{Wrote};
 ghost use Rattle.row_size_v2.specs.Says.{fieldsFrom};
 ghost use Rattle.block_grow_v2.specs.Says.{viewFrom};
-ghost use Rattle.block_grow_v2.specs.Plan.{Judges, SizesRow, fitted, accepted, Plans, plannedRefusal, pastRoom, Finds, Tested, Fitting, plainBody, plainBytes, PlainFits, Grew};
+ghost use Rattle.block_grow_v2.specs.Plan.{Judges, SizesRow, fitted, accepted, Plans, plannedRefusal, foundIs, Finds, Tested, Fitting, plainBytes, PlainFits, Grew};
 ghost use Rattle.block_grow_v2.specs.Promise.{FitsInPlace, AddsInPlace, Finishes};
 use buf_mut::Put;
 use row_encode_v2::Encoded;
@@ -123,10 +123,10 @@ fn is_bad_state(s: State, data_len: usize, places_len: usize) -> bool
     if types::MAX_RESTARTS < s.restarts {
         return true;
     }
-    if s.used / types::LEAST_ROW < s.counter {
+    if is_miscounted(s.restarts, s.counter, s.restart_interval) {
         return true;
     }
-    if is_miscounted(s.restarts, s.counter, s.restart_interval) {
+    if s.used < types::LEAST_ROW * s.counter {
         return true;
     }
     if 0 < stray_bytes(s.counter, s.used) {
@@ -308,17 +308,14 @@ fn accept_row(
     planned
 }
 
-// Whether a row that fits the block is 5 or 6 still.
-fn is_past_room(restart: bool, s: State, data_len: usize, places_len: usize, size: usize) -> bool
-    ensures { λ r. ⌜ r ≡ pastRoom restart (s .used) (s .restarts) «data_len» «places_len» size ⌝ }
+fn found_row(shared: usize, size: usize, restart: bool) -> Found
+    ensures { λ r. ⌜ r ≡ foundIs shared size restart ⌝ }
 {
-    if restart_too_far(restart, s.used) {
-        return true;
+    Found {
+        shared,
+        size,
+        restart,
     }
-    if data_len < size {
-        return true;
-    }
-    no_place_left(restart, places_len, s.restarts)
 }
 
 // The tests of `accept_row` again, for a row that passes them all: with no refusal to hand on, they are quick. Which one is refused, and how, is left to `accept_row`.
@@ -334,59 +331,42 @@ fn find_row(
     requires { ⌜ length (now «last_key») ≡ maxKey ⌝ }
     ensures { λ r. ⌜ Finds (accepted (viewFrom s (now («last_key» .entry))) «data_len» «places_len» (now (key .entry))) row «value_len» r ⌝ }
 {
-    let none = Found {
-        shared: 0,
-        size: 0,
-        restart: false,
-    };
     if is_bad_state(s, data_len, places_len) {
-        return none;
+        return found_row(0, 0, false);
     }
     let mark = is_restart_point(s.restarts, s.counter, s.restart_interval);
     let shared = shared_bytes(mark, last_key, s.last_key_len, key);
     let entry_size = entry_encoded_size(shared, key.len(), value_len, row);
     let Sized::Bytes(n) = entry_size else {
-        return none;
+        return found_row(0, 0, false);
     };
     if s.block_size < s.used {
-        return none;
+        return found_row(0, 0, false);
     }
     let size = current_size(s.used, s.restarts) + n + restart_overhead(mark);
     if has_room(s.counter, s.block_size, size) {
-        if is_past_room(mark, s, data_len, places_len, size) {
-            return none;
+        if restart_too_far(mark, s.used) {
+            return found_row(0, 0, false);
         }
-        return Found {
-            shared,
-            size,
-            restart: mark,
-        };
+        if data_len < size {
+            return found_row(0, 0, false);
+        }
+        if no_place_left(mark, places_len, s.restarts) {
+            return found_row(0, 0, false);
+        }
+        return found_row(shared, size, mark);
     }
-    none
+    found_row(0, 0, false)
 }
 
 // ---- a row, written
 
-// Each of these writes at `at` and answers the place after it.
+// Writes a length at `at` and answers the place after it.
 fn put_length(data: &mut [u8], at: usize, n: usize) -> usize
     requires { ⌜ (n < 2 ^ 32) × (at + length (varint n) ≤ length (now «data»)) ⌝ }
     ensures { λ r. ⌜ Wrote (now («data» .entry)) at (varint n) (now («data» .exit)) r ⌝ }
 {
     buf_mut::place_after(utils::encode_varint(data, at, n as u32))
-}
-
-// The suffix, the value, the sequence number and flags of 0.
-fn put_body(data: &mut [u8], at: usize, key_suffix: &[u8], value: &[u8], seq: u64) -> usize
-    requires { ⌜ at + length (plainBody (now «key_suffix») (now value) seq) ≤ length (now «data») ⌝ }
-    ensures { λ r. ⌜ Wrote (now («data» .entry)) at (plainBody (now («key_suffix» .entry)) (now (value .entry)) seq) (now («data» .exit)) r ⌝ }
-{
-    let a = at + key_suffix.len();
-    let b = a + value.len();
-    buf_mut::copy_in(data, at, key_suffix);
-    buf_mut::copy_in(data, a, value);
-    buf_mut::put_u64(data, b, seq);
-    data[b + 8] = 0;
-    b + 9
 }
 
 // A value with no times, which most rows are: its flags are 0 and nothing follows them.
@@ -404,7 +384,13 @@ fn write_plain(
     let a = put_length(data, used, shared);
     let b = put_length(data, a, key.len() - shared);
     let c = put_length(data, b, value.len());
-    put_body(data, c, &key[shared..], value, seq)
+    let d = c + (key.len() - shared);
+    let e = d + value.len();
+    buf_mut::copy_in(data, c, &key[shared..]);
+    buf_mut::copy_in(data, d, value);
+    buf_mut::put_u64(data, e, seq);
+    data[e + 8] = 0;
+    e + 9
 }
 
 // Writes the row into the free rest of the data buffer, and answers how much of it is used then.
@@ -504,25 +490,12 @@ pub fn add_in_place(
     if last_key.len() != types::MAX_KEY {
         return Grown::Refused(Refusal::BadState);
     }
-    let found = find_row(
-        s,
-        last_key,
-        data.len(),
-        restarts.len(),
-        key,
-        value.len(),
-        row,
-    );
+    let data_len = data.len();
+    let places_len = restarts.len();
+    let value_len = value.len();
+    let found = find_row(s, last_key, data_len, places_len, key, value_len, row);
     if found.size == 0 {
-        let planned = accept_row(
-            s,
-            last_key,
-            data.len(),
-            restarts.len(),
-            key,
-            value.len(),
-            row,
-        );
+        let planned = accept_row(s, last_key, data_len, places_len, key, value_len, row);
         return Grown::Refused(planned_refusal(planned));
     }
     Grown::Row(grow(

@@ -1,8 +1,10 @@
 -- `is_bad_state` keeps its promise: each test that fails breaks one fact of a good state (`state-bad`), whatever the order; where none fails, all of them hold.
+-- Restarts that are counted right hold all rows, so these are few, and twelve times their number does not wrap.
 use native.Mathlib.Omega.{arith}
 use borrow.Author.Needs.{needs}
+use Rattle.layout.specs.Builder.{restartsOf}
 use Rattle.layout.specs.Laws.Builder.{state-bad}
-use Rattle.block_grow_v2.proofs.Counts.{miscounted-not, counted-is}
+use Rattle.block_grow_v2.proofs.Counts.{product-small, rows-held, miscounted-not, counted-is}
 use Rattle.block_grow_v2.proofs.Tests.{stray-none, stray-some, state-passed}
 use Rattle.block_grow_v2.proofs.is_bad_state.Statement.{statement}
 use Rattle.block_grow_v2.proofs.is_bad_state.Tie as tie
@@ -25,14 +27,20 @@ returns-5 c = λ last. state-bad _ _ _ (λ o. absurd (omega (arith, o .in-places
 returns-6 : tie.Need-returns-6
 returns-6 c = λ last. state-bad _ _ _ (λ o. absurd (omega (arith, o .allowed)))
 
-returns-7 : tie.Need-returns-7
-returns-7 c = λ last. state-bad _ _ _ (λ o. absurd (omega (arith, o .least)))
-
 is-miscounted-requires : tie.Need-is-miscounted-requires
 is-miscounted-requires c κs = search needs
 
+returns-7 : tie.Need-returns-7
+returns-7 c = λ last. state-bad _ _ _ (λ o. miscounted-not _ _ (c .before .is-miscounted .ensures) (c .if7 .taken) (o .counted))
+
+mul-if8 : tie.Need-mul-if8
+mul-if8 c =
+    let s = c .before .before .before .before .before .before .before .before .before .before .before .before .before .before .before .args .s in
+    let counted = counted-is (s .restarts) (restartsOf (s .counter) (s .«restart_interval»)) (c .before .before .is-miscounted .ensures) (c .before .if7 .left) in
+    omega (arith, rows-held (s .counter) (s .«restart_interval») (omega (arith, c .before .before .before .before .before .before .before .before .before .before .before .if2 .left)) (s .restarts) counted, product-small (c .before .before .before .if6 .left) (c .before .before .before .before .before .before .before .before .before .if3 .left))
+
 returns-8 : tie.Need-returns-8
-returns-8 c = λ last. state-bad _ _ _ (λ o. miscounted-not _ _ (c .before .is-miscounted .ensures) (c .if8 .taken) (o .counted))
+returns-8 c = λ last. state-bad _ _ _ (λ o. absurd (omega (arith, o .least)))
 
 stray-bytes-requires : tie.Need-stray-bytes-requires
 stray-bytes-requires c κs = search needs
@@ -45,8 +53,8 @@ returns-10 c = λ last. state-bad _ _ _ (λ o. absurd (omega (arith, o .last-fit
 
 returns-11 : tie.Need-returns-11
 returns-11 c =
-    λ last. state-passed _ _ _ (c .before .before .before .before .before .before .before .before .before .before .before .before .before .before .before .before .before .before .before .if1 .left) (c .before .before .before .before .before .before .before .before .before .before .before .before .before .before .before .before .before .if2 .left) (c .before .before .before .before .before .before .before .before .before .before .before .before .before .before .before .if3 .left) (c .before .before .before .before .before .before .before .before .before .before .before .before .before .if4 .left) (c .before .before .before .before .before .before .before .before .before .before .before .if5 .left) (c .before .before .before .before .before .before .before .before .before .if6 .left) (c .before .before .before .before .before .before .if7 .left)
-    (counted-is _ _ (c .before .before .before .before .before .is-miscounted .ensures) (c .before .before .before .before .if8 .left)) (stray-none _ _ (c .before .before .before .stray-bytes .ensures) (c .before .before .if9 .left)) (c .if10 .left)
+    λ last. state-passed _ _ _ (c .before .before .before .before .before .before .before .before .before .before .before .before .before .before .before .before .before .before .before .if1 .left) (c .before .before .before .before .before .before .before .before .before .before .before .before .before .before .before .before .before .if2 .left) (c .before .before .before .before .before .before .before .before .before .before .before .before .before .before .before .if3 .left) (c .before .before .before .before .before .before .before .before .before .before .before .before .before .if4 .left) (c .before .before .before .before .before .before .before .before .before .before .before .if5 .left) (c .before .before .before .before .before .before .before .before .before .if6 .left)
+    (counted-is _ _ (c .before .before .before .before .before .before .before .before .is-miscounted .ensures) (c .before .before .before .before .before .before .before .if7 .left)) (c .before .before .before .before .if8 .left) (stray-none _ _ (c .before .before .before .stray-bytes .ensures) (c .before .before .if9 .left)) (c .if10 .left)
 
 pub is-bad-state-spec : {M : Type 1} → statement M
 is-bad-state-spec =
@@ -58,8 +66,9 @@ is-bad-state-spec =
     returns-4
     returns-5
     returns-6
-    returns-7
     is-miscounted-requires
+    returns-7
+    mul-if8
     returns-8
     stray-bytes-requires
     returns-9
