@@ -6,6 +6,9 @@ use mathlib.Core.List.{List}
 use Rattle.layout.specs.Plain.{RowSpan as Span}
 use Rattle.types.specs.Number.{number-one}
 use Rattle.types.specs.declared.Refusal.{Refusal}
+use Rattle.row_decode_v2.specs.OneOutcome.{decode-at-settled}
+use Rattle.row_decode_v2.specs.Promise.{DecodesAt}
+use Rattle.row_decode_v2.specs.declared.RowRead.{RowRead}
 use Rattle.row_span_v2.specs.declared.RowSpan.{RowSpan}
 use Rattle.row_span_v2.specs.Promise.{spanFrom, SpansAt, RefusesAt}
 
@@ -19,3 +22,6 @@ module _ (s : List ℕ) (at end prevLen : ℕ) (restart : Bool) where
 
   pub refusal-at-settled : (r q : Refusal) → RefusesAt s at end prevLen restart r → RefusesAt s at end prevLen restart q → r ≡ q
   refusal-at-settled r q a b = number-one r q (a ∙ sym b)
+
+  pub row-at-settled : (r q : RowRead) → DecodesAt s at end prevLen restart r → DecodesAt s at end prevLen restart q → r ≡ q
+  row-at-settled r q a b = decode-at-settled s at end prevLen restart r q a b
