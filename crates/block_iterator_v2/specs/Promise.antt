@@ -12,12 +12,13 @@ use Rattle.types.specs.Says.{saysOrder}
 use Rattle.types.specs.declared.IterationOrder.{IterationOrder}
 use Rattle.block_step_v2.specs.Says.{told}
 use Rattle.block_step_v2.specs.declared.Place.{Place}
+use Rattle.block_seek_v2.specs.Says.{reported}
 use Rattle.block_iterator_v2.specs.declared.BlockIteratorV2.{BlockIteratorV2}
 use Rattle.block_iterator_v2.specs.declared.Opened.{Opened}
 use Rattle.block_iterator_v2.specs.declared.Next.{Next}
 use Rattle.block_iterator_v2.specs.declared.Sought.{Sought}
 use Rattle.block_iterator_v2.specs.declared.EmptyRead.{EmptyRead}
-use Rattle.block_iterator_v2.specs.Says.{placeOf, viewOf, saysOpen, saysNext, reported, saysSeek, saysEmpty}
+use Rattle.block_iterator_v2.specs.Says.{placeOf, viewOf, saysOpen, saysNext, saysSeek, saysEmpty}
 
 -- a cursor, and beside a refusal one in region 0 at 0; its key's bytes are zeros
 pub record Opens (b : List ℕ) (order : IterationOrder) (r : Opened) : Type 0 where

@@ -3,16 +3,15 @@ use Prim.Native.Nat.{ℕ}
 use mathlib.Core.Bool.{Bool, true, false}
 use mathlib.Core.List.{List}
 use mathlib.Core.Path.{_≡_, refl, ap, ap₂, sym}
-use native.Mathlib.Omega.{arith}
 use Rattle.layout.specs.Answer.{Res, ok, refuse}
 use Rattle.layout.specs.Cursor.{Cursor}
-use Rattle.layout.specs.Seek.{Sought as SoughtL}
 use Rattle.layout.specs.Laws.Answer.{ok-inj}
 use Rattle.types.specs.Answers.{apart, refused-one}
 use Rattle.types.specs.Number.{number}
 use Rattle.row_decode_v2.specs.Says.{rowFrom, rowFrom-one}
 use Rattle.block_step_v2.specs.declared.Place.{Place}
 use Rattle.block_step_v2.specs.Says.{viewIn, Told, row, none, viewIn-one, told-row, told-apart}
+use Rattle.block_seek_v2.specs.Says.{Report, reportIs, over-apart}
 use Rattle.block_iterator_v2.specs.declared.BlockIteratorV2.{BlockIteratorV2}
 use Rattle.block_iterator_v2.specs.declared.OpenAnswer.{OpenAnswer}
 use Rattle.block_iterator_v2.specs.declared.OpenAnswer.the-variants.{Good, Refused as OpenRefused}
@@ -38,17 +37,6 @@ abbrev pub saysNext : NextAnswer → Res Told
 saysNext (Found r) = ok (row (rowFrom r))
 saysNext NextDone = ok none
 saysNext (NextRefused r) = refuse (number r)
-
--- what a seek answers beside its cursor: whether none is left, and how many restart keys the search read
-pub record Report : Type 0 where
-  pub over : Bool
-  pub reads : ℕ
-
-abbrev pub reportIs : Bool → ℕ → Report
-reportIs o n = record { over = o; reads = n }
-
-abbrev pub reported : SoughtL → Res Report
-reported s = ok (reportIs (s .cursor .mark) (s .reads))
 
 abbrev pub saysSeek : SeekAnswer → Res Report
 saysSeek (Landed n) = ok (reportIs false n)
@@ -83,9 +71,6 @@ saysNext-one NextDone (NextRefused q) e = absurd (apart e)
 saysNext-one (NextRefused r) (Found q) e = absurd (apart (sym e))
 saysNext-one (NextRefused r) NextDone e = absurd (apart (sym e))
 saysNext-one (NextRefused r) (NextRefused q) e = ap NextRefused (refused-one e)
-
-over-apart : {m n : ℕ} → reportIs false m ≡ reportIs true n → ⊥
-over-apart e = let o : false ≡ true = ap (λ (x : Report). x .over) e in let z : _≡_ {A = ℕ} 0 1 = cc in omega arith
 
 pub saysSeek-one : (a b : SeekAnswer) → saysSeek a ≡ saysSeek b → a ≡ b
 saysSeek-one (Landed m) (Landed n) e = ap (λ (x : Report). Landed (x .reads)) (ok-inj e)

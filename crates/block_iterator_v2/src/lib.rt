@@ -3,29 +3,20 @@
 // Follows slatedb 0.16.0, src/block_iterator_v2.rs (Apache License 2.0), and is changed: no region is cached, a step back reads its region again, every call
 // tests block and cursor for itself, and what they can break is a refusal that gives the cursor back as it came.
 ghost use mathlib.Core.Path.{_≡_};
-ghost use Prim.Native.Nat.{suc, _-_};
 ghost use lib.ListN.{length};
-ghost use Rattle.layout.specs.Answer.{ok, bind};
-ghost use Rattle.layout.specs.Cursor.{ascending, descending, next};
+ghost use Rattle.layout.specs.Cursor.{next};
 ghost use Rattle.layout.specs.Limits.{maxKey};
-ghost use Rattle.layout.specs.Seek.{walkUp, walkDown, seek};
-ghost use Rattle.layout.specs.Trailer.{trailerOf};
+ghost use Rattle.layout.specs.Seek.{seek};
 ghost use Rattle.types.specs.Says.{saysOrder};
-ghost use Rattle.block.specs.Says.{trailerFrom};
 ghost use Rattle.block_step_v2.specs.Promise.{Moves};
 ghost use Rattle.block_step_v2.specs.Says.{viewIn, placeAfter};
-ghost use Rattle.block_iterator_v2.specs.Says.{viewOf};
-ghost use Rattle.block_iterator_v2.specs.Parts.{refusalOfLast, refusalOfStart, placed, answerOf, SetsOut, sought, landed};
-ghost use Rattle.block_iterator_v2.specs.Promise.{PlacesCursor, Opens, StepsNext, Seeks, SeeksTarget, TellsEmpty};
-use block::RegionRead;
+ghost use Rattle.block_seek_v2.specs.Promise.{Finds};
+ghost use Rattle.block_seek_v2.specs.Says.{placeFound};
+ghost use Rattle.block_iterator_v2.specs.Parts.{placed, answerOf, answerFound};
+ghost use Rattle.block_iterator_v2.specs.Promise.{PlacesCursor, Opens, StepsNext, SeeksTarget, TellsEmpty};
 use block::Tested;
-use block::Trailer;
 use block::TrailerRead;
-use block_regions_v2::LastRead;
-use block_regions_v2::WalkAnswer;
-use block_regions_v2::Walked;
-use block_restarts_v2::Start;
-use block_restarts_v2::StartRead;
+use block_seek_v2::Found;
 use block_step_v2::Moved;
 use block_step_v2::Place;
 use row_decode_v2::Row;
@@ -82,26 +73,6 @@ pub enum EmptyRead {
     Refused(Refusal),
 }
 
-// ---- the refusal of an answer that is one
-
-fn last_refusal(a: LastRead) -> Refusal
-    ensures { λ r. ⌜ r ≡ refusalOfLast a ⌝ }
-{
-    match a {
-        LastRead::Refused(refusal) => refusal,
-        LastRead::Ends(_) => Refusal::BadState,
-    }
-}
-
-fn start_refusal(a: StartRead) -> Refusal
-    ensures { λ r. ⌜ r ≡ refusalOfStart a ⌝ }
-{
-    match a {
-        StartRead::Refused(refusal) => refusal,
-        StartRead::At(_) => Refusal::BadTrailer,
-    }
-}
-
 // ---- a step over the cursor's own key bytes
 
 // Lends the array as the bytes that a step works on.
@@ -130,6 +101,37 @@ fn answer_of(moved: Moved) -> NextAnswer
         Moved::Found { place: _, row } => NextAnswer::Found(row),
         Moved::Done(_) => NextAnswer::Done,
         Moved::Refused(refusal) => NextAnswer::Refused(refusal),
+    }
+}
+
+// ---- a seek over them
+
+// Lends the array as the bytes that a seek works on.
+fn seek_in_array(key: &mut [u8; types::MAX_KEY], p: Place, block: &[u8], target: &[u8]) -> Found
+    requires { ⌜ length (now key) ≡ maxKey ⌝ }
+    ensures { λ r. ⌜ Finds (seek (saysOrder (p .order)) (now (block .entry)) (now (target .entry))) p (now (key .entry)) r (now (key .exit)) ⌝ }
+{
+    block_seek_v2::seek_in_place(key, p, block, target)
+}
+
+// The place that a seek gives back: a refused one gives it as it came.
+fn place_sought(found: Found, came: Place) -> Place
+    ensures { λ r. ⌜ r ≡ placeFound found came ⌝ }
+{
+    match found {
+        Found::Landed { place, reads: _ } => place,
+        Found::Done { place, reads: _ } => place,
+        Found::Refused(_) => came,
+    }
+}
+
+fn answer_sought(found: Found) -> SeekAnswer
+    ensures { λ r. ⌜ r ≡ answerFound found ⌝ }
+{
+    match found {
+        Found::Landed { place: _, reads } => SeekAnswer::Landed(reads),
+        Found::Done { place: _, reads } => SeekAnswer::Done(reads),
+        Found::Refused(refusal) => SeekAnswer::Refused(refusal),
     }
 }
 
@@ -241,143 +243,27 @@ impl BlockIteratorV2 {
         }
     }
 
-    // The cursor where a walk up stopped, with the key of the row before in that region.
-    fn landed(self, number: usize, walked: Walked, reads: usize) -> Sought
-        ensures { λ r. ⌜ r ≡ landed self number walked reads ⌝ }
-    {
-        let key = walked.key;
-        let mut found = self;
-        found.region = number;
-        found.at = walked.at;
-        found.key = key;
-        found.key_len = walked.key_len;
-        found.done = false;
-        Sought {
-            iterator: found,
-            answer: SeekAnswer::Landed(reads),
-        }
-    }
-
-    // From region to region, up to the first row at or above the target.
-    fn walk_up(self, block: &[u8], t: Trailer, target: &[u8], start: Start) -> Sought
-        requires { ⌜ SetsOut ascending (viewOf self) (now block) (trailerFrom t) (start .region) ⌝ }
-        ensures { λ r. ⌜ Seeks (bind (walkUp (t .count - start .region) (now (block .entry)) (trailerFrom t) (now (target .entry)) (start .region)) (sought (start .reads))) self r ⌝ }
-    {
-        let size = t.size;
-        let mut number = start.region;
-        while number < t.count {
-            let read = block::region_of(block, t, number);
-            let RegionRead::Good(region) = read else {
-                return Sought {
-                    iterator: self,
-                    answer: SeekAnswer::Refused(block::region_refusal(read)),
-                };
-            };
-            let walked = region_match_v2::walk_region(&block[..size], region, target);
-            let stop = walked.answer;
-            if let WalkAnswer::Refused(refusal) = stop {
-                return Sought {
-                    iterator: self,
-                    answer: SeekAnswer::Refused(refusal),
-                };
-            }
-            if walked.at < region.end {
-                return self.landed(number, walked, start.reads);
-            }
-            number += 1;
-        }
-        let order = self.order;
-        let over = BlockIteratorV2::placed(order, t.count - 1, size, true);
-        Sought {
-            iterator: over,
-            answer: SeekAnswer::Done(start.reads),
-        }
-    }
-
-    // From region to region, down to the last row at or below the target.
-    fn walk_down(self, block: &[u8], t: Trailer, target: &[u8], start: Start) -> Sought
-        requires { ⌜ SetsOut descending (viewOf self) (now block) (trailerFrom t) (start .region) ⌝ }
-        ensures { λ r. ⌜ Seeks (bind (walkDown (suc (start .region)) (now (block .entry)) (trailerFrom t) (now (target .entry)) (start .region)) (sought (start .reads))) self r ⌝ }
-    {
-        let size = t.size;
-        let order = self.order;
-        let mut number = start.region;
-        loop {
-            let read = block::region_of(block, t, number);
-            let RegionRead::Good(region) = read else {
-                return Sought {
-                    iterator: self,
-                    answer: SeekAnswer::Refused(block::region_refusal(read)),
-                };
-            };
-            let last = region_match_v2::last_at_or_below(&block[..size], region, target);
-            let LastRead::Ends(end) = last else {
-                return Sought {
-                    iterator: self,
-                    answer: SeekAnswer::Refused(last_refusal(last)),
-                };
-            };
-            if region.start < end {
-                let found = BlockIteratorV2::placed(order, number, end, false);
-                return Sought {
-                    iterator: found,
-                    answer: SeekAnswer::Landed(start.reads),
-                };
-            }
-            if number == 0 {
-                let over = BlockIteratorV2::placed(order, 0, 0, true);
-                return Sought {
-                    iterator: over,
-                    answer: SeekAnswer::Done(start.reads),
-                };
-            }
-            number -= 1;
-        }
-    }
-
-    fn seek_ascending(self, block: &[u8], t: Trailer, target: &[u8]) -> Sought
-        requires { ⌜ (trailerOf (now block) ≡ ok (trailerFrom t)) × (saysOrder (self .order) ≡ ascending) ⌝ }
-        ensures { λ r. ⌜ Seeks (seek ascending (now (block .entry)) (now (target .entry))) self r ⌝ }
-    {
-        let found = block_restarts_v2::find_restart_for_key_ascending(block, t, target);
-        let StartRead::At(start) = found else {
-            return Sought {
-                iterator: self,
-                answer: SeekAnswer::Refused(start_refusal(found)),
-            };
-        };
-        self.walk_up(block, t, target, start)
-    }
-
-    fn seek_descending(self, block: &[u8], t: Trailer, target: &[u8]) -> Sought
-        requires { ⌜ (trailerOf (now block) ≡ ok (trailerFrom t)) × (saysOrder (self .order) ≡ descending) ⌝ }
-        ensures { λ r. ⌜ Seeks (seek descending (now (block .entry)) (now (target .entry))) self r ⌝ }
-    {
-        let found = block_restarts_v2::find_restart_for_key_descending(block, t, target);
-        let StartRead::At(start) = found else {
-            return Sought {
-                iterator: self,
-                answer: SeekAnswer::Refused(start_refusal(found)),
-            };
-        };
-        self.walk_down(block, t, target, start)
-    }
-
-    // Starts afresh: only the order is taken from the cursor.
-    pub fn seek(self, block: &[u8], target: &[u8]) -> Sought
+    // A seek, made on the cursor's key where it lies; then the numbers are put back. It starts afresh: only the order is taken from the cursor.
+    pub fn seek(mut self, block: &[u8], target: &[u8]) -> Sought
         ensures { λ r. ⌜ SeeksTarget self (now (block .entry)) (now (target .entry)) r ⌝ }
     {
-        let read = block::trailer_of(block);
-        let TrailerRead::Good(t) = read else {
-            return Sought {
-                iterator: self,
-                answer: SeekAnswer::Refused(block::trailer_refusal(read)),
-            };
-        };
         let order = self.order;
-        match order {
-            IterationOrder::Ascending => self.seek_ascending(block, t, target),
-            IterationOrder::Descending => self.seek_descending(block, t, target),
+        let came = Place {
+            order,
+            region: self.region,
+            at: self.at,
+            key_len: self.key_len,
+            done: self.done,
+        };
+        let found = seek_in_array(&mut self.key, came, block, target);
+        let left = place_sought(found, came);
+        self.region = left.region;
+        self.at = left.at;
+        self.key_len = left.key_len;
+        self.done = left.done;
+        Sought {
+            iterator: self,
+            answer: answer_sought(found),
         }
     }
 }

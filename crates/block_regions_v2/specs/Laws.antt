@@ -1,24 +1,33 @@
 -- The tests of what is handed in, by what was met: one law for each exit of the code; and a promise from it. For callers: what a promise tells, and that a
 -- region that was read from the block passes the tests, so the definitions of `layout` are left (`step-back-used`, `walk-used`, `last-used`).
-use Prim.Native.Nat.{ℕ, _≤_, _<_}
-use mathlib.Core.Path.{_≡_, refl, ap, sym, _∙_, subst}
-use mathlib.Core.List.{List, []}
+use Prim.Native.Nat.{ℕ, zero, suc, _+_, _-_, _≤_, _<_, min}
+use mathlib.Core.Path.{_≡_, refl, ap, sym, _∙_}
+use mathlib.Core.Bool.{Bool, true, false, cond, not}
+use mathlib.Core.List.{List, [], _++_}
 use mathlib.Core.Logic.{⊎-elim}
 use native.Mathlib.Nat.{le-antisymm}
 use native.Mathlib.Omega.{arith}
-use lib.Dec.{ltb}
-use lib.ListN.{length, take}
-use lib.Seq.{length-take-le}
+use lib.Dec.{eqb, ltb}
+use lib.ListN.{length, take, drop, length-take}
+use lib.Seq.{length-take-le, take-all}
 use borrow.Author.Tests.{lt-ltb, le-ltb, le-leb, lt-leb}
 use Rattle.layout.specs.Answer.{Res, ok, refuse, bind, guard}
-use Rattle.layout.specs.Key.{Key}
+use Rattle.layout.specs.Limits.{maxKey}
+use Rattle.layout.specs.Key.{Key, below}
 use Rattle.layout.specs.Place.{splice}
-use Rattle.layout.specs.RowRead.{RowRead, keyLength}
+use Rattle.layout.specs.Plain.{RowSpan, spanOf}
+use Rattle.layout.specs.RowRead.{RowRead, readRow, keyLength, keyOf}
 use Rattle.layout.specs.Trailer.{Trailer, trailerOf, dataOf, Region, regionOf}
 use Rattle.layout.specs.Cursor.{Cursor, Keyed, keyed, rowEndingAt, found, stepIs, backPast, stepBackIn}
-use Rattle.layout.specs.Seek.{stopIs, walkRegion, lastAtOrBelow}
-use Rattle.layout.specs.Laws.Answer.{bind-then, ok-inj, ltb-cases}
+use Rattle.layout.specs.Seek.{Stop, stopIs, walkRegion, lastAtOrBelow}
+use Rattle.layout.specs.Laws.Answer.{bind-then, ok-inj, cond-ok, ltb-cases, clash}
+use Rattle.layout.specs.Laws.Carry.{keyOf-length}
 use Rattle.layout.specs.Laws.Cursor.{ended, back-no, back-short, back-found}
+use Rattle.layout.specs.Laws.Match.{matchAfter, aboveAfter}
+use Rattle.layout.specs.Laws.MatchWalk.{Halt, haltIs, haltOf, MatchingDown, down-more}
+use Rattle.layout.specs.Laws.Plain.{span-no}
+use Rattle.layout.specs.Laws.Splice.{then-write}
+use Rattle.layout.specs.Laws.Tells.{readRow-ends}
 use Rattle.layout.specs.Laws.Trailer.{trailerOf-tells, regionOf-tells}
 use Rattle.types.specs.Answers.{apart}
 use Rattle.types.specs.Number.{number}
@@ -26,15 +35,22 @@ use Rattle.types.specs.declared.Refusal.{Refusal}
 use Rattle.types.specs.declared.Refusal.the-variants.{BadState, KeyBufferTooShort}
 use Rattle.row_decode_v2.specs.Says.{rowFrom}
 use Rattle.row_decode_v2.specs.declared.Row.{Row}
+use Rattle.row_span_v2.specs.Promise.{refusedWith, RefusesAt}
 use Rattle.block.specs.Says.{regionFrom}
 use Rattle.block.specs.declared.Region.{Region as RegionC}
 use Rattle.block_regions_v2.specs.declared.Ended.{Ended as EndedC}
 use Rattle.block_regions_v2.specs.declared.Ended.the-variants.{Row as EndedRow, Refused as EndedRefused}
-use Rattle.block_regions_v2.specs.declared.WalkAnswer.the-variants.{Stopped, Refused as WalkRefused}
-use Rattle.block_regions_v2.specs.declared.Walked.{Walked}
-use Rattle.block_regions_v2.specs.Regions.{endingAt, outAfter, given, walkTo, lastTo}
-use Rattle.block_regions_v2.specs.Promise.{Gives, carriedBy, Walks}
-use Rattle.block_regions_v2.specs.Says.{stopFrom, saysStop, noWalk}
+use Rattle.block_regions_v2.specs.declared.Halted.{Halted}
+use Rattle.block_regions_v2.specs.declared.PlaceRead.{PlaceRead}
+use Rattle.block_regions_v2.specs.declared.PlaceRead.the-variants.{At, Refused as PlaceRefused}
+use Rattle.block_regions_v2.specs.declared.Reached.{Reached}
+use Rattle.block_regions_v2.specs.Climb.{Climbing, climbing-no, was, was-not}
+use Rattle.block_regions_v2.specs.Known.{part-length, known-parts}
+use Rattle.block_regions_v2.specs.Parts.{haltedIs, Halts, Stands, Reaches, reaching-refused, reaching-straddles, reaching-found, reaching-long, reaching-shares}
+use Rattle.block_regions_v2.specs.Promise.{Gives, EndsAt, WalksInto}
+use Rattle.block_regions_v2.specs.Regions.{endingAt, outAfter, given, walkTo, held, walkInto, keyLeft, lastTo}
+use Rattle.block_regions_v2.specs.Rows.{Filling, partOf, part-suffix}
+use Rattle.block_regions_v2.specs.Says.{saysPlace}
 
 -- ---- the row that ends at a position
 
@@ -105,16 +121,180 @@ module _ (d : List ℕ) (g : Region) (target : Key) where
     unfolding lastTo
     last-there = rw (le-ltb (length d) (g .end) h)
 
+-- ---- what the walk met
+
+module _ (d : List ℕ) (g : Region) (target : Key) (at m len from from-len : ℕ) (s : Climbing d g target (length d) at m len from from-len) where
+  pub halts-no : at < g .end → (p : RowSpan) → p ≡ spanOf (readRow d at (g .end) len (eqb at (g .start))) → p .next ≡ 0 → {h : Halted} → h ≡ haltedIs at len from from-len false → Halts d g target h
+  halts-no n p e z is = rw is (record { match = m; climbs = s; stopped = λ q. absurd (clash q refl); refused = λ _. (n, span-no d at (g .end) len (eqb at (g .start)) p e z) })
+
+  pub halts-there : ok (stopIs at (s .before)) ≡ walkRegion (length d) d g target (g .start) [] → {h : Halted} → h ≡ haltedIs at len from from-len true → Halts d g target h
+  halts-there e is = rw is (record { match = m; climbs = s; stopped = λ _. e; refused = λ q. absurd (clash refl q) })
+
 -- ---- the promise of a walk
 
-module _ (d : List ℕ) (g : RegionC) (target : Key) where
-  pub walks-not : {x : Refusal} {w : Walked} → refuse (number x) ≡ walkTo d (regionFrom g) target → w ≡ noWalk x → Walks d g target w
-  walks-not {x} {w} e is =
-      subst (Walks d g target) (sym is) (record { answer = e; keyLen = ap carriedBy e; blank = refl })
+module _ (d : List ℕ) (g : RegionC) (target key : List ℕ) where
+  into-not : {x : Refusal} → refuse (number x) ≡ walkTo d (regionFrom g) target → WalksInto d g target key (PlaceRefused x) key
+  unfolding walkInto
+  into-not e = record { answer = rw (sym e); bytes = rw (sym e) }
 
-  pub walks-stopped : {at len : ℕ} {key : List ℕ} → ok (stopIs at (take len key)) ≡ walkTo d (regionFrom g) target → length (take len key) ≡ len
-      → Walks d g target (record { at = at; key = key; «key_len» = len; answer = Stopped })
-  walks-stopped e is = record { answer = e; keyLen = sym is ∙ ap carriedBy e; blank = tt }
+  pub into-strange : length d < g .end → WalksInto d g target key (PlaceRefused BadState) key
+  into-strange h = into-not (walk-strange d (regionFrom g) target h)
+
+  module _ (at n : ℕ) (before : Key) (said : walkTo d (regionFrom g) target ≡ ok (stopIs at before)) (long : length before ≡ n) where
+    stopped-end : g .end ≤ at → WalksInto d g target key (At at n) key
+    unfolding walkInto
+    stopped-end u =
+        let past = le-ltb at (g .end) u in
+        record { answer = rw (said, past) (ap (λ (i : ℕ). ok (haltIs at i)) (sym long)); bytes = rw (said, past, past) }
+
+    module _ (u : at < g .end) where
+      stopped-short : length key < n → WalksInto d g target key (PlaceRefused KeyBufferTooShort) key
+      unfolding walkInto
+      stopped-short v =
+          let inner = lt-ltb at (g .end) u in
+          let short = lt-ltb (length key) (length before) (rw long v) in
+          record { answer = rw (said, inner, short); bytes = rw (said, inner, short) }
+
+      stopped-there : n ≤ length key → {part : List ℕ} → part ≡ take (length (take n key)) before → WalksInto d g target key (At at n) (part ++ drop n key)
+      unfolding walkInto splice
+      stopped-there v {part} q =
+          let inner = lt-ltb at (g .end) u in
+          let fits = le-ltb (length key) (length before) (rw long v) in
+          let is : part ≡ before = q ∙ take-all (length (take n key)) before (rw (length-take-le n key v) (omega arith)) in
+          let m : n ≡ 0 + length before = omega arith in
+          record {
+            answer = rw (said, inner, fits) (ap (λ (i : ℕ). ok (haltIs at i)) (sym long));
+            bytes = rw (said, inner, fits, inner, is) (ap (λ (i : ℕ). before ++ drop i key) m);
+          }
+
+  module _ (inside : g .end ≤ length d) (h : Halted) (w : Halts d (regionFrom g) target h) where
+    pub into-no : not (h .good) ≡ true → {x : Refusal} → RefusesAt d (h .at) (g .end) (h .len) (eqb (h .at) (g .start)) x
+        → WalksInto d g target key (PlaceRefused x) key
+    into-no bad {x} f = go (readRow d (h .at) (g .end) (h .len) (eqb (h .at) (g .start))) refl
+      where
+        go : (y : Res RowRead) → readRow d (h .at) (g .end) (h .len) (eqb (h .at) (g .start)) ≡ y → WalksInto d g target key (PlaceRefused x) key
+        go (ok r) q = absurd (w .refused (was-not (h .good) bad) .1 r q)
+        go (refuse n) q =
+            into-not
+            (ap refuse (f ∙ ap refusedWith q)
+            ∙ climbing-no d (regionFrom g) target (length d) (h .at) (w .match) (h .len) (h .from) (h .«from_len») (w .climbs) (w .refused (was-not (h .good) bad) .0) q
+            ∙ walk-there d (regionFrom g) target inside)
+
+    module _ (good : not (h .good) ≡ false) where
+      said : walkTo d (regionFrom g) target ≡ ok (stopIs (h .at) (w .climbs .before))
+      said = sym (w .stopped (was (h .good) good) ∙ walk-there d (regionFrom g) target inside)
+
+      -- where the region is at its end
+      pub into-end : g .end ≤ h .at → WalksInto d g target key (At (h .at) (h .len)) key
+      into-end u = stopped-end (h .at) (h .len) (w .climbs .before) said (w .climbs .long) u
+
+      module _ (u : h .at < g .end) where
+        pub into-short : length key < h .len → WalksInto d g target key (PlaceRefused KeyBufferTooShort) key
+        into-short v = stopped-short (h .at) (h .len) (w .climbs .before) said (w .climbs .long) u v
+
+        module _ (v : h .len ≤ length key) where
+          pub into-room : length (take (h .len) key) ≤ length (w .climbs .before)
+          into-room = let l = w .climbs .long in rw (length-take-le (h .len) key v) (omega arith)
+
+          pub into-done : {part : List ℕ} → part ≡ take (length (take (h .len) key)) (w .climbs .before) → WalksInto d g target key (At (h .at) (h .len)) (part ++ drop (h .len) key)
+          into-done q = stopped-there (h .at) (h .len) (w .climbs .before) said (w .climbs .long) u v q
+
+-- ---- a turn of the read down
+
+pub turn-down : (d : List ℕ) (g : Region) (target : Key) (fuel at m len best : ℕ) (above : Bool) → MatchingDown d g target fuel at m len best above → at < g .end
+    → (p : RowSpan) → p ≡ spanOf (readRow d at (g .end) len (eqb at (g .start))) → (p .next ≡ 0 → ⊥) → {m′ best′ : ℕ} {above′ : Bool}
+    → m′ ≡ matchAfter target m (p .shared) (partOf d p) → above′ ≡ aboveAfter target m above (p .shared) (partOf d p) → best′ ≡ cond above′ best (p .next)
+    → MatchingDown d g target fuel (p .next) m′ (p .shared + p .suffixLen) best′ above′
+turn-down d g target fuel at m len best above s h p e z w a b =
+    down-more d g target fuel at m len best above s h p e z (rw (part-suffix d p) at w) (rw (part-suffix d p) at a) b
+
+-- ---- the bytes that a row shares
+
+-- a part of n bytes has no more
+pub part-most : (d : List ℕ) (a n : ℕ) → length (take (a + n - a) (drop a d)) ≤ n
+part-most d a n = omega (arith, length-take (a + n - a) (drop a d))
+
+module _ (d : List ℕ) (g : Region) (there : Reached) (out : List ℕ) (shared : ℕ) (h : shared ≤ length out) (before : Key) (s : Stands d g there before) (few : shared ≤ length before) where
+  -- by a second read from the region's start
+  pub shared-filling : Filling d g (there .at) before (take shared out) (g .start) 0
+  shared-filling =
+      record {
+        rows = s .rows;
+        before = [];
+        long = refl;
+        leads = s .leads;
+        room = rw (length-take-le shared out h) few;
+        kept = λ r e i u v w. absurd (omega arith);
+        whole = λ u i v w. absurd (omega arith);
+      }
+
+  pub shared-read : {part : List ℕ} → part ≡ take (length (take shared out)) before → part ++ drop shared out ≡ splice out 0 (take shared before)
+  unfolding splice
+  shared-read {part} q =
+      let is : part ≡ take shared before = q ∙ ap (λ (n : ℕ). take n before) (length-take-le shared out h) in
+      let m : shared ≡ 0 + length (take shared before) = omega (arith, length-take-le shared before few) in
+      rw is (ap (λ (n : ℕ). take shared before ++ drop n out) m)
+
+  -- from where they stand
+  pub shared-put : shared ≤ there .known .len → {n : ℕ} {ys zs : List ℕ} → n ≡ min shared (there .known .split)
+      → ys ≡ splice out 0 (take (there .known .first + n - there .known .first) (drop (there .known .first) d))
+      → zs ≡ splice ys n (take (there .known .second + (shared - n) - there .known .second) (drop (there .known .second) d)) → zs ≡ splice out 0 (take shared before)
+  shared-put u {n} {ys} {zs} e y z =
+      let k = s .knows in
+      let inner = k .inner in
+      let one = k .one in
+      let two = k .two in
+      let a = there .known .first in
+      let b = there .known .second in
+      let p-is : a + n - a ≡ n = omega arith in
+      let q-is : b + (shared - n) - b ≡ shared - n = omega arith in
+      let p-long : length (take n (drop a d)) ≡ n = part-length d a n (omega arith) in
+      let q-long : length (take (shared - n) (drop b d)) ≡ shared - n = part-length d b (shared - n) (omega arith) in
+      then-write out ys zs 0 n (take n (drop a d)) (take (shared - n) (drop b d)) (rw p-is at y) (omega arith) (omega arith) (rw q-is at z)
+      ∙ ap (splice out 0) (sym (known-parts d before (there .known) k shared u ∙ ap (λ (m : ℕ). take m (drop a d) ++ take (shared - m) (drop b d)) (sym e)))
+
+-- ---- the row that ends at a position
+
+module _ (d : List ℕ) (g : RegionC) (stop : ℕ) (out : List ℕ) (h : g .start < stop) (q : Reached) (w : Reaches d (regionFrom g) stop q) where
+  pub stands : Stands d (regionFrom g) q (w .there .before)
+  stands = record { rows = w .there .rows; leads = w .there .leads; knows = w .there .knows }
+
+  pub ended-no : {x : Refusal} → readRow d (q .at) (g .end) (q .len) (eqb (q .at) (g .start)) ≡ refuse (number x) → EndsAt d g stop out (EndedRefused x) out
+  ended-no e = gives-not refl (ending-no d (regionFrom g) stop (length out) h (reaching-refused d (regionFrom g) stop (q .at) (q .len) (q .known) (w .there) e))
+
+  module _ (r : Row) (e : readRow d (q .at) (g .end) (q .len) (eqb (q .at) (g .start)) ≡ ok (rowFrom r)) where
+    abbrev key : Key
+    key = keyOf d (w .there .before) (rowFrom r)
+
+    is-given : given (rowFrom r) stop key (length out) ≡ endingAt d (regionFrom g) stop (length out)
+    is-given =
+        ending-given d (regionFrom g) stop (length out) h (rowFrom r) key (w .far (rowFrom r) e) (reaching-straddles d (regionFrom g) stop (q .at) (q .len) (q .known) (w .there) (rowFrom r) e)
+        (reaching-found d (regionFrom g) stop (q .at) (q .len) (q .known) (w .there) (rowFrom r) e)
+
+    key-long : length key ≡ keyLength (rowFrom r)
+    key-long = reaching-long d (regionFrom g) stop (q .at) (q .len) (q .known) (w .there) (rowFrom r) e
+
+    pub ended-shares : r .shared ≤ length (w .there .before)
+    ended-shares = reaching-shares d (regionFrom g) stop (q .at) (q .len) (q .known) (w .there) (rowFrom r) e
+
+    pub ended-past : stop < r .next → EndsAt d g stop out (EndedRefused BadState) out
+    ended-past k = gives-ended d (regionFrom g) stop (rowFrom r) key out refl is-given (gives-past r stop key out k)
+
+    module _ (k : r .next ≤ stop) where
+      pub ended-short : length out < r .shared + r .«suffix_len» → EndsAt d g stop out (EndedRefused KeyBufferTooShort) out
+      ended-short u = gives-ended d (regionFrom g) stop (rowFrom r) key out refl is-given (gives-short r stop key out k (rw key-long u))
+
+      -- what it shares is put, then its suffix
+      pub ended-put : r .shared + r .«suffix_len» ≤ length out → {ys zs : List ℕ} → ys ≡ splice out 0 (take (r .shared) (w .there .before))
+          → zs ≡ splice ys (r .shared) (take (r .«suffix_at» + r .«suffix_len» - r .«suffix_at») (drop (r .«suffix_at») d)) → EndsAt d g stop out (EndedRow r) zs
+      ended-put u {ys} {zs} y z =
+          let p-is : r .«suffix_at» + r .«suffix_len» - r .«suffix_at» ≡ r .«suffix_len» = omega arith in
+          let first-long = length-take-le (r .shared) (w .there .before) ended-shares in
+          let last-long : length (take (r .«suffix_len») (drop (r .«suffix_at») d)) ≡ r .«suffix_len» =
+          part-length d (r .«suffix_at») (r .«suffix_len») (readRow-ends d (q .at) (g .end) (q .len) (eqb (q .at) (g .start)) (rowFrom r) e .suffix) in
+          gives-ended d (regionFrom g) stop (rowFrom r) key out refl is-given
+          (gives-row r stop key out k (rw key-long u)
+          (then-write out ys zs 0 (r .shared) (take (r .shared) (w .there .before)) (take (r .«suffix_len») (drop (r .«suffix_at») d)) y (omega arith) (omega arith) (rw p-is at z)))
 
 -- ---- for callers
 
@@ -131,15 +311,6 @@ module _ {want : Res Keyed} {out out′ : List ℕ} where
       go (ok k) e q = absurd (apart (sym e))
       go (refuse n) e q = (cc, q)
 
-module _ (d : List ℕ) (g : RegionC) (target : Key) (w : Walked) (p : Walks d g target w) where
-  pub walk-stopped : w .answer ≡ Stopped → (walkTo d (regionFrom g) target ≡ ok (stopFrom w)) × (w .«key_len» ≡ length (take (w .«key_len») (w .key)))
-  walk-stopped e =
-      let is : walkTo d (regionFrom g) target ≡ ok (stopFrom w) = sym (p .answer) ∙ ap (λ a. saysStop a (stopFrom w)) e in
-      (is, p .keyLen ∙ ap carriedBy is)
-
-  pub walk-refused : {x : Refusal} → w .answer ≡ WalkRefused x → walkTo d (regionFrom g) target ≡ refuse (number x)
-  walk-refused e = sym (p .answer) ∙ ap (λ a. saysStop a (stopFrom w)) e
-
 -- the step back of a cursor that stands in the region
 pub step-back-used : (c : Cursor) (b : List ℕ) (t : Trailer) (room region : ℕ) (g : Region) → g .start < c .at
     → stepBackIn c b t room region g ≡ bind (endingAt (dataOf b t) g (c .at) room) λ k. ok (stepIs (backPast c region (k .row)) (found (k .row) (k .key)))
@@ -153,6 +324,26 @@ step-back-used c b t room region g h = go (rowEndingAt (c .at) (dataOf b t) g (c
         (λ u. rw (ending-said (dataOf b t) g (c .at) room h k e, u .0) (back-short c b t room region g k e (u .1)))
         (λ u. rw (ending-said (dataOf b t) g (c .at) room h k e, u .0) (back-found c b t room region g k e (u .1)))
         (ltb-cases room (keyLength (k .row)))
+
+-- the key that a walk leaves is one that is allowed
+walk-few : (d : List ℕ) (g : Region) (fuel : ℕ) (target : Key) (at : ℕ) (before : Key) (s : Stop) → walkRegion fuel d g target at before ≡ ok s → length before ≤ maxKey → length (s .before) ≤ maxKey
+unfolding walkRegion
+walk-few d g zero target at before s e h = let w : stopIs at before ≡ s = ok-inj e in rw (← w) h
+walk-few d g (suc fuel) target at before s e h =
+    ⊎-elim
+    (λ t.
+    bind-then (readRow d at (g .end) (length before) (eqb at (g .start))) _ s (rw (t .0) at e) λ r p q.
+    let w = readRow-ends d at (g .end) (length before) (eqb at (g .start)) r p .fits in
+    let l = keyOf-length d at (g .end) before (eqb at (g .start)) r p in
+    ⊎-elim
+    (λ u. walk-few d g fuel target (r .next) (keyOf d before r) s (u .1) (rw l w))
+    (λ u. stays (ok-inj (u .1)))
+    (cond-ok (below (keyOf d before r) target) _ _ s q))
+    (λ t. stays (ok-inj (rw (t .0) at e)))
+    (ltb-cases at (g .end))
+  where
+    stays : stopIs at before ≡ s → length (s .before) ≤ maxKey
+    stays w = rw (← w) h
 
 module _ (b : List ℕ) (t : Trailer) (i : ℕ) (g : Region) (target : Key) (read : trailerOf b ≡ ok t) (is : regionOf b t i ≡ ok g) where
   size-is : length (dataOf b t) ≡ t .size
@@ -168,3 +359,34 @@ module _ (b : List ℕ) (t : Trailer) (i : ℕ) (g : Region) (target : Key) (rea
   pub last-used : lastTo (dataOf b t) g target ≡ lastAtOrBelow (t .size) (dataOf b t) g target (g .start) [] (g .start)
   last-used =
       sym (last-there (dataOf b t) g target inside) ∙ ap (λ (n : ℕ). lastAtOrBelow n (dataOf b t) g target (g .start) [] (g .start)) size-is
+
+-- the walk of a region of the block, where the slice has room for any key
+module _ (b : List ℕ) (t : Trailer) (i : ℕ) (g : RegionC) (target : Key) (read : trailerOf b ≡ ok t) (is : regionOf b t i ≡ ok (regionFrom g)) (key : List ℕ) (whole : length key ≡ maxKey) where
+  abbrev walked : Res Stop
+  walked = walkRegion (t .size) (dataOf b t) (regionFrom g) target (g .start) []
+
+  into-used : walkInto (dataOf b t) (regionFrom g) target (length key) ≡ walked
+  unfolding walkInto
+  into-used = rw (walk-used b t i (regionFrom g) target read is) (go walked refl)
+    where
+      go : (x : Res Stop) → walked ≡ x → bind x (held (regionFrom g) (length key)) ≡ x
+      go (refuse n) e = refl
+      go (ok s) e =
+          let few = walk-few (dataOf b t) (regionFrom g) (t .size) target (g .start) [] s e (omega arith) in
+          ⊎-elim
+          (λ u. rw (u .0, le-ltb (length key) (length (s .before)) (omega arith)))
+          (λ u. rw (u .0))
+          (ltb-cases (s .at) (g .end))
+
+  module _ (r : PlaceRead) (key′ : List ℕ) (w : WalksInto (dataOf b t) g target key r key′) where
+    pub into-stopped : {at n : ℕ} → r ≡ At at n → (s : Stop) × (walked ≡ ok s) × (s .at ≡ at) × (length (s .before) ≡ n) × (key′ ≡ cond (ltb (s .at) (g .end)) (splice key 0 (s .before)) key)
+    into-stopped {at} {n} e =
+        bind-then walked _ (haltIs at n) (sym (sym (ap saysPlace e) ∙ w .answer ∙ ap (λ (x : Res Stop). bind x haltOf) into-used)) λ s q f.
+        (s, q, ap (λ (x : Halt). x .at) (ok-inj f), ap (λ (x : Halt). x .keyLen) (ok-inj f), w .bytes ∙ ap (λ (x : Res Stop). keyLeft (regionFrom g) x key) (into-used ∙ q))
+
+    pub into-refused : {n : ℕ} → saysPlace r ≡ refuse n → (walked ≡ refuse n) × (key′ ≡ key)
+    into-refused {n} e = go walked (sym e ∙ w .answer ∙ ap (λ (y : Res Stop). bind y haltOf) into-used) (w .bytes ∙ ap (λ (y : Res Stop). keyLeft (regionFrom g) y key) into-used)
+      where
+        go : (y : Res Stop) → refuse n ≡ bind y haltOf → key′ ≡ keyLeft (regionFrom g) y key → (y ≡ refuse n) × (key′ ≡ key)
+        go (ok s) f q = absurd (apart (sym f))
+        go (refuse m) f q = (cc, q)

@@ -1,5 +1,9 @@
+pub mod Rows
+pub mod Known
+pub mod Climb
 pub mod Regions
 pub mod Says
 pub mod Promise
 pub mod OneOutcome
+pub mod Parts
 pub mod Laws

@@ -1,6 +1,7 @@
 -- The reads of a whole restart region by a caller who may hand in any region and any position: 18 where these can't belong together, then the rules' own
 -- reads.
 use Prim.Native.Nat.{ℕ}
+use mathlib.Core.Bool.{cond}
 use mathlib.Core.List.{List, []}
 use lib.Dec.{ltb, leb}
 use lib.ListN.{length}
@@ -37,6 +38,18 @@ unfoldable pub walkTo : List ℕ → Region → Key → Res Stop
 walkTo d g target =
     guard (ltb (length d) (g .end)) 18
     (walkRegion (length d) d g target (g .start) [])
+
+-- one that stops inside the region gives the key of the row before: 19 where a slice of `room` bytes does not hold it
+abbrev pub held : Region → ℕ → Stop → Res Stop
+held g room s = cond (ltb (s .at) (g .end)) (guard (ltb room (length (s .before))) 19 (ok s)) (ok s)
+
+unfoldable pub walkInto : List ℕ → Region → Key → ℕ → Res Stop
+walkInto d g target room = bind (walkTo d g target) (held g room)
+
+-- the slice after that
+abbrev pub keyLeft : Region → Res Stop → List ℕ → List ℕ
+keyLeft g (ok s) key = cond (ltb (s .at) (g .end)) (splice key 0 (s .before)) key
+keyLeft g (refuse n) key = key
 
 -- where the last row at or below a target ends, or the region's start: 18 for a region that ends after the data
 unfoldable pub lastTo : List ℕ → Region → Key → Res ℕ

@@ -1,23 +1,22 @@
 // The three reads of a whole restart region that the block iterator makes: back to the row that ends at a position, up to a target, and for the last row
-// at or below one.
-// Follows slatedb 0.16.0, src/block_iterator_v2.rs (Apache License 2.0), and is changed: no rows are cached, a read carries one key in an array that is its
-// own and copies only suffixes over it, and what the bytes or the numbers handed in can break is a refusal.
+// at or below one. None carries a key: a walk to a target carries how many bytes the key before begins with in common with it, the read back where in the
+// data the first bytes of the key before stand. A key that is wanted is put together at the end, once all tests are made.
+// Follows slatedb 0.16.0, src/block_iterator_v2.rs (Apache License 2.0), and is changed: no rows are cached, no key is carried, and what the bytes or the
+// numbers handed in can break is a refusal that writes nothing.
 ghost use mathlib.Core.Path.{_≡_};
 ghost use mathlib.Core.Bool.{cond};
-ghost use mathlib.Core.List.{_++_};
-ghost use Prim.Native.Nat.{_≤_, _<_, _+_};
+ghost use Prim.Native.Nat.{_≤_, _<_, _+_, _-_};
+ghost use lib.Dec.{ltb};
 ghost use lib.ListN.{length, take};
-ghost use Rattle.layout.specs.Key.{below};
+ghost use Rattle.layout.specs.Key.{Key};
 ghost use Rattle.layout.specs.Place.{splice};
-ghost use Rattle.layout.specs.Laws.Carry.{suffixOf};
-ghost use Rattle.layout.specs.Laws.Compare.{isLess};
-ghost use Rattle.keys.specs.Says.{saysOrdering};
-ghost use Rattle.row_decode_v2.specs.Says.{rowFrom};
-ghost use Rattle.block_regions_v2.specs.Regions.{given};
-ghost use Rattle.block_regions_v2.specs.Says.{noWalk};
-ghost use Rattle.block_regions_v2.specs.Promise.{Gives, EndsAt, Walks, EndsLast};
+ghost use Rattle.block.specs.Says.{regionFrom};
+ghost use Rattle.block_regions_v2.specs.Rows.{clipped, Filling};
+ghost use Rattle.block_regions_v2.specs.Climb.{Based};
+ghost use Rattle.block_regions_v2.specs.Known.{knownAfter};
+ghost use Rattle.block_regions_v2.specs.Parts.{haltedIs, Halts, Stands, Reaches};
+ghost use Rattle.block_regions_v2.specs.Promise.{EndsAt, WalksInto, EndsLast};
 use block::Region;
-use keys::Ordering;
 use row_decode_v2::Row;
 use row_decode_v2::RowRead;
 use types::Refusal;
@@ -28,17 +27,10 @@ pub enum Ended {
     Refused(Refusal),
 }
 
-pub enum WalkAnswer {
-    Stopped,
+// Where a walk stopped, and how long the key of the row before is.
+pub enum PlaceRead {
+    At { at: usize, key_len: usize },
     Refused(Refusal),
-}
-
-// Where a walk stopped, and the key of the row before in the region: the first `key_len` bytes. With a refusal all is zero.
-pub struct Walked {
-    pub at: usize,
-    pub key: [u8; types::MAX_KEY],
-    pub key_len: usize,
-    pub answer: WalkAnswer,
 }
 
 pub enum LastRead {
@@ -46,126 +38,173 @@ pub enum LastRead {
     Refused(Refusal),
 }
 
-// Puts the row's suffix over the key of the row before: the array then carries the row's key, of as many bytes as is answered.
-fn put_suffix(key: &mut [u8], data: &[u8], row: Row) -> usize
-    requires { ⌜ (row .shared + row .«suffix_len» ≤ length (now key)) × (row .«suffix_at» + row .«suffix_len» ≤ length (now «data»)) ⌝ }
-    ensures { λ r. ⌜ (now (key .exit) ≡ splice (now (key .entry)) (row .shared) (suffixOf (now («data» .entry)) (rowFrom row))) × (r ≡ row .shared + row .«suffix_len») ⌝ }
-{
-    let from = row.suffix_at;
-    let end = from + row.suffix_len;
-    buf_mut::copy_in(key, row.shared, &data[from..end]);
-    row.shared + row.suffix_len
+// Where a walk stopped, or the row that is refused (not `good`), with the length of the key before; and the last row that shared no more than the match, with
+// the length of the key before that one.
+struct Halted {
+    at: usize,
+    len: usize,
+    from: usize,
+    from_len: usize,
+    good: bool,
 }
 
-// The row that reaches the position, with its key at the start of `out`: 18 unless it ends there, then 19.
-fn give(row: Row, stop: usize, key: &[u8], out: &mut [u8]) -> Ended
-    ensures { λ r. ⌜ Gives (given (rowFrom row) stop (now (key .entry)) (length (now (out .entry)))) (now (out .entry)) r (now (out .exit)) ⌝ }
-{
-    if stop < row.next {
-        return Ended::Refused(Refusal::BadState);
-    }
-    if out.len() < key.len() {
-        return Ended::Refused(Refusal::KeyBufferTooShort);
-    }
-    buf_mut::copy_in(out, 0, key);
-    Ended::Row(row)
+// The first `len` bytes of a key, where they stand in the data: `split` of them from `first` on, the others from `second` on.
+struct Known {
+    first: usize,
+    split: usize,
+    second: usize,
+    len: usize,
 }
 
-// The row of a region that ends at `stop`, read from the region's start: rows up to there are tested as they are read, and no row after it is.
-// (`load_restart_region` in the Rust, which keeps all rows.)
-pub fn row_ending_at(data: &[u8], region: Region, stop: usize, out: &mut [u8]) -> Ended
-    ensures { λ r. ⌜ EndsAt (now («data» .entry)) region stop (now (out .entry)) r (now (out .exit)) ⌝ }
+// The first row that reaches a position, or that is refused, with the length of the key before it and what is known of that key.
+struct Reached {
+    at: usize,
+    len: usize,
+    known: Known,
+}
+
+// ---- a key put together
+
+// As many bytes of `src` as there is room for, at `at`.
+fn put_clipped(key: &mut [u8], at: usize, src: &[u8])
+    ensures { λ _. ⌜ now (key .exit) ≡ clipped (now (key .entry)) at (now (src .entry)) ⌝ }
 {
-    if stop <= region.start {
-        return Ended::Refused(Refusal::BadState);
+    if key.len() <= at {
+        return;
     }
-    let mut key = [0; types::MAX_KEY];
-    let mut len: usize = 0;
-    let mut at = region.start;
-    loop {
-        let a = row_decode_v2::decode_at(data, at, region.end, len, at == region.start);
-        let RowRead::Read(row) = a else {
-            return Ended::Refused(row_decode_v2::row_refusal(a));
-        };
-        len = put_suffix(&mut key, data, row);
-        if stop <= row.next {
-            return give(row, stop, &key[..len], out);
+    let room = key.len() - at;
+    if room < src.len() {
+        buf_mut::copy_in(key, at, &src[..room]);
+        return;
+    }
+    buf_mut::copy_in(key, at, src);
+}
+
+// The first bytes of the key of the row that ends at `stop`, as many as `key` has. Rows that were read before are read again, from one on whose shared bytes
+// stand in `key` already. A key on the way may be longer: what has no room is left out.
+fn rebuild_key(
+    data: &[u8],
+    region: Region,
+    from: usize,
+    from_len: usize,
+    stop: usize,
+    key: &mut [u8],
+)
+    ensures { λ _. ⌜ ((wanted : Key) → Filling (now («data» .entry)) (regionFrom region) stop wanted (now (key .entry)) from «from_len» → now (key .exit) ≡ take (length (now (key .entry))) wanted) ⌝ }
+{
+    if key.len() == 0 {
+        return;
+    }
+    let mut at = from;
+    let mut len = from_len;
+    while at < stop {
+        let fresh = at == region.start;
+        let row = row_span_v2::span_at(data, at, region.end, len, fresh);
+        // Never taken: the rows were read before.
+        if row.next == 0 {
+            return;
         }
+        let start = row.suffix_at;
+        let end = start + row.suffix_len;
+        put_clipped(key, row.shared, &data[start..end]);
+        len = row.shared + row.suffix_len;
         at = row.next;
     }
 }
 
-// A row's key against the target, before it is put together: the bytes that it shares with the key of the row before, then its suffix.
-fn row_below(key: &[u8], shared: usize, suffix: &[u8], target: &[u8]) -> bool
-    requires { ⌜ shared ≤ length (now key) ⌝ }
-    ensures { λ r. ⌜ r ≡ below (take shared (now (key .entry)) ++ now (suffix .entry)) (now (target .entry)) ⌝ }
+// ---- up to a target
+
+// What stays of `old` where a row shares more than the match.
+fn latest(matched: usize, shared: usize, old: usize, new: usize) -> usize
+    ensures { λ r. ⌜ r ≡ cond (ltb matched shared) old new ⌝ }
 {
-    let n = numbers::least(shared, target.len());
-    let order = keys::compare(&key[..shared], &target[..n]);
-    match order {
-        Ordering::Less => true,
-        Ordering::Equal => keys::is_below(suffix, &target[n..]),
-        Ordering::Greater => false,
+    if matched < shared { old } else { new }
+}
+
+fn halt(at: usize, len: usize, from: usize, from_len: usize, good: bool) -> Halted
+    ensures { λ r. ⌜ r ≡ haltedIs at len from «from_len» good ⌝ }
+{
+    Halted {
+        at,
+        len,
+        from,
+        from_len,
+        good,
     }
 }
 
-fn no_walk(refusal: Refusal) -> Walked
-    ensures { λ w. ⌜ w ≡ noWalk refusal ⌝ }
+// Whole rows from a region's start to the first whose key is at or above the target, or to the region's end.
+fn walk_place(data: &[u8], region: Region, target: &[u8]) -> Halted
+    requires { ⌜ region .end ≤ length (now «data») ⌝ }
+    ensures { λ r. ⌜ Halts (now («data» .entry)) (regionFrom region) (now (target .entry)) r ⌝ }
 {
-    Walked {
-        at: 0,
-        key: [0; types::MAX_KEY],
-        key_len: 0,
-        answer: WalkAnswer::Refused(refusal),
+    let mut at = region.start;
+    let mut len: usize = 0;
+    let mut matched: usize = 0;
+    let mut from = region.start;
+    let mut from_len: usize = 0;
+    while at < region.end {
+        let fresh = at == region.start;
+        let row = row_span_v2::span_at(data, at, region.end, len, fresh);
+        if row.next == 0 {
+            return halt(at, len, from, from_len, false);
+        }
+        let start = row.suffix_at;
+        let end = start + row.suffix_len;
+        let now = match_keys::match_up(target, matched, row.shared, &data[start..end]);
+        if !now.below {
+            return halt(at, len, from, from_len, true);
+        }
+        from = latest(matched, row.shared, from, at);
+        from_len = latest(matched, row.shared, from_len, len);
+        matched = now.len;
+        len = row.shared + row.suffix_len;
+        at = row.next;
     }
+    halt(at, len, from, from_len, true)
 }
 
-// Whole rows from a region's start to the first whose key is at or above the target, or to the region's end. (The walk in the Rust's `seek` ascending.)
-pub fn walk_region(data: &[u8], region: Region, target: &[u8]) -> Walked
-    ensures { λ w. ⌜ Walks (now («data» .entry)) region (now (target .entry)) w ⌝ }
+// The first bytes of the key of the row before the place where a walk stopped, as many as `key` has. What the row to start from shares, the target has too.
+fn rebuild_from(data: &[u8], region: Region, there: Halted, target: &[u8], key: &mut [u8])
+    ensures { λ _. ⌜ ((before : Key) → Based (now («data» .entry)) (regionFrom region) (now (target .entry)) (there .from) (there .«from_len») (there .at) before → length (now (key .entry)) ≤ length before → now (key .exit) ≡ take (length (now (key .entry))) before) ⌝ }
+{
+    put_clipped(key, 0, target);
+    rebuild_key(data, region, there.from, there.from_len, there.at, key);
+}
+
+// The walk up to a target. Where it stops inside the region, the key of the row before stands at the start of `key` after it: 19 where it has no room there.
+// (The walk in the Rust's `seek` ascending.)
+pub fn walk_into(data: &[u8], region: Region, target: &[u8], key: &mut [u8]) -> PlaceRead
+    ensures { λ r. ⌜ WalksInto (now («data» .entry)) region (now (target .entry)) (now (key .entry)) r (now (key .exit)) ⌝ }
 {
     if data.len() < region.end {
-        return no_walk(Refusal::BadState);
+        return PlaceRead::Refused(Refusal::BadState);
     }
-    let mut key = [0; types::MAX_KEY];
-    let mut len: usize = 0;
-    let mut at = region.start;
-    while at < region.end {
-        let a = row_decode_v2::decode_at(data, at, region.end, len, at == region.start);
-        let RowRead::Read(row) = a else {
-            return no_walk(row_decode_v2::row_refusal(a));
-        };
-        let from = row.suffix_at;
-        let suffix_end = from + row.suffix_len;
-        // Compared before its suffix is put over the key: where the walk stops, that is the key of the row before.
-        if !row_below(&key, row.shared, &data[from..suffix_end], target) {
-            return Walked {
-                at,
-                key,
-                key_len: len,
-                answer: WalkAnswer::Stopped,
-            };
-        }
-        len = put_suffix(&mut key, data, row);
-        at = row.next;
+    let there = walk_place(data, region, target);
+    let at = there.at;
+    let key_len = there.len;
+    if !there.good {
+        let fresh = at == region.start;
+        let refusal = row_span_v2::refusal_at(data, at, region.end, key_len, fresh);
+        return PlaceRead::Refused(refusal);
     }
-    Walked {
-        at,
-        key,
-        key_len: len,
-        answer: WalkAnswer::Stopped,
+    if region.end <= at {
+        return PlaceRead::At { at, key_len };
     }
+    if key.len() < key_len {
+        return PlaceRead::Refused(Refusal::KeyBufferTooShort);
+    }
+    rebuild_from(data, region, there, target, &mut key[..key_len]);
+    PlaceRead::At { at, key_len }
 }
 
-// Where the last row at or below the target ends so far, by how the target stands to the row that ends at `next`.
-fn later(order: Ordering, best: usize, next: usize) -> usize
-    ensures { λ r. ⌜ r ≡ cond (isLess (saysOrdering order)) best next ⌝ }
+// ---- down to a target
+
+// Where the last row at or below the target ends so far.
+fn later(above: bool, best: usize, next: usize) -> usize
+    ensures { λ r. ⌜ r ≡ cond above best next ⌝ }
 {
-    match order {
-        Ordering::Less => best,
-        Ordering::Equal => next,
-        Ordering::Greater => next,
-    }
+    if above { best } else { next }
 }
 
 // Reads a whole region: where its last row at or below the target ends, or the region's start if there is none. (`load_restart_region` and the search for the
@@ -176,19 +215,135 @@ pub fn last_at_or_below(data: &[u8], region: Region, target: &[u8]) -> LastRead
     if data.len() < region.end {
         return LastRead::Refused(Refusal::BadState);
     }
-    let mut key = [0; types::MAX_KEY];
-    let mut len: usize = 0;
     let mut at = region.start;
+    let mut len: usize = 0;
+    let mut matched: usize = 0;
+    let mut above = false;
     let mut best = region.start;
     while at < region.end {
-        let a = row_decode_v2::decode_at(data, at, region.end, len, at == region.start);
-        let RowRead::Read(row) = a else {
-            return LastRead::Refused(row_decode_v2::row_refusal(a));
-        };
-        len = put_suffix(&mut key, data, row);
+        let fresh = at == region.start;
+        let row = row_span_v2::span_at(data, at, region.end, len, fresh);
+        if row.next == 0 {
+            let refusal = row_span_v2::refusal_at(data, at, region.end, len, fresh);
+            return LastRead::Refused(refusal);
+        }
+        let from = row.suffix_at;
+        let to = from + row.suffix_len;
+        let now = match_keys::match_down(target, matched, above, row.shared, &data[from..to]);
+        matched = now.len;
+        above = now.below;
+        len = row.shared + row.suffix_len;
         at = row.next;
-        let order = keys::compare(target, &key[..len]);
-        best = later(order, best, at);
+        best = later(above, best, at);
     }
     LastRead::Ends(best)
+}
+
+// ---- back to a position
+
+// What is known of a row's key, by what is known of the key before: its suffix stands at `place`, and it is `len` bytes long.
+fn known_after(k: Known, place: usize, shared: usize, len: usize) -> Known
+    ensures { λ r. ⌜ r ≡ knownAfter k place shared len ⌝ }
+{
+    if shared == 0 {
+        return Known {
+            first: place,
+            split: len,
+            second: place,
+            len,
+        };
+    }
+    if shared <= k.split {
+        return Known {
+            first: k.first,
+            split: shared,
+            second: place,
+            len,
+        };
+    }
+    if shared < k.len {
+        return Known {
+            first: k.first,
+            split: k.split,
+            second: k.second,
+            len: shared,
+        };
+    }
+    k
+}
+
+fn reach(data: &[u8], region: Region, stop: usize) -> Reached
+    requires { ⌜ region .start < stop ⌝ }
+    ensures { λ r. ⌜ Reaches (now («data» .entry)) (regionFrom region) stop r ⌝ }
+{
+    let mut at = region.start;
+    let mut len: usize = 0;
+    let mut known = Known {
+        first: 0,
+        split: 0,
+        second: 0,
+        len: 0,
+    };
+    loop {
+        let fresh = at == region.start;
+        let row = row_span_v2::span_at(data, at, region.end, len, fresh);
+        if row.next == 0 {
+            return Reached { at, len, known };
+        }
+        if stop <= row.next {
+            return Reached { at, len, known };
+        }
+        len = row.shared + row.suffix_len;
+        known = known_after(known, row.suffix_at, row.shared, len);
+        at = row.next;
+    }
+}
+
+// The first `shared` bytes of the key before the row that was reached, from where they are known to stand, or by a second read.
+fn put_shared(data: &[u8], region: Region, there: Reached, shared: usize, out: &mut [u8])
+    requires { ⌜ shared ≤ length (now out) ⌝ }
+    requires { ⌜ (there .known .first + there .known .split ≤ length (now «data»)) × (there .known .second + (there .known .len - there .known .split) ≤ length (now «data»)) ⌝ }
+    ensures { λ _. ⌜ ((before : Key) → Stands (now («data» .entry)) (regionFrom region) there before → shared ≤ length before → now (out .exit) ≡ splice (now (out .entry)) 0 (take shared before)) ⌝ }
+{
+    let k = there.known;
+    if k.len < shared {
+        rebuild_key(data, region, region.start, 0, there.at, &mut out[..shared]);
+        return;
+    }
+    let n = numbers::least(shared, k.split);
+    let first = k.first;
+    let end = first + n;
+    buf_mut::copy_in(out, 0, &data[first..end]);
+    let second = k.second;
+    let last = second + (shared - n);
+    buf_mut::copy_in(out, n, &data[second..last]);
+}
+
+// The row of a region that ends at `stop`, with its key at the start of `out`: rows up to there are tested as they are read, and no row after it is; then
+// 18, 19. (`load_restart_region` in the Rust, which keeps all rows.)
+pub fn row_ending_at(data: &[u8], region: Region, stop: usize, out: &mut [u8]) -> Ended
+    ensures { λ r. ⌜ EndsAt (now («data» .entry)) region stop (now (out .entry)) r (now (out .exit)) ⌝ }
+{
+    if stop <= region.start {
+        return Ended::Refused(Refusal::BadState);
+    }
+    let there = reach(data, region, stop);
+    let at = there.at;
+    let fresh = at == region.start;
+    let read = row_span_v2::row_at(data, at, region.end, there.len, fresh);
+    let RowRead::Read(row) = read else {
+        return Ended::Refused(row_decode_v2::row_refusal(read));
+    };
+    if stop < row.next {
+        return Ended::Refused(Refusal::BadState);
+    }
+    let shared = row.shared;
+    if out.len() < shared + row.suffix_len {
+        return Ended::Refused(Refusal::KeyBufferTooShort);
+    }
+    put_shared(data, region, there, shared, out);
+    let start = row.suffix_at;
+    let end = start + row.suffix_len;
+    buf_mut::copy_in(out, shared, &data[start..end]);
+    Ended::Row(row)
 }

@@ -11,7 +11,7 @@ use Rattle.block_step_v2.specs.Lent.{nextIn}
 use Rattle.block_step_v2.specs.Says.{viewIn, placeAfter, saysMoved-one}
 use Rattle.block_step_v2.specs.Promise.{Kept, StepsInPlace}
 
-kept-both : {A : Type 0} (want : Res A) (k l key : List ℕ) → Kept want k key → Kept want l key → Kept want k l
+pub kept-both : {A : Type 0} (want : Res A) (k l key : List ℕ) → Kept want k key → Kept want l key → Kept want k l
 kept-both (ok x) k l key m n = tt
 kept-both (refuse i) k l key m n = m ∙ sym n
 

@@ -216,7 +216,7 @@ fn back(p: Place, block: &[u8], t: Trailer, number: usize, region: Region, out: 
     ensures { λ r. ⌜ ((k : List ℕ) → Moves (stepBackIn (viewIn p k) (now (block .entry)) (trailerFrom t) (length (now (out .entry))) number (regionFrom region)) p k (now (out .entry)) r k (now (out .exit))) ⌝ }
 {
     let size = t.size;
-    let ended = region_match_v2::row_ending_at(&block[..size], region, p.at, out);
+    let ended = block_regions_v2::row_ending_at(&block[..size], region, p.at, out);
     let Ended::Row(row) = ended else {
         return Moved::Refused(ended_refusal(ended));
     };

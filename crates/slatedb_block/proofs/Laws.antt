@@ -1,23 +1,17 @@
 -- What the exits of the exports use, over plain variables: what a good, a refused or a done answer sets and leaves.
--- Past the tests of the words the promise is the definition's answer, which the function below has given; a refusal leaves what was lent. Building, a seek and the two questions about
+-- Past the tests of the words the promise is the definition's answer, which the function below has given; a refusal leaves what was lent. Building and the two questions about
 -- emptiness don't read a key's bytes, so that zeros stand in for them.
 use Prim.Native.Nat.{ℕ}
-use mathlib.Core.Bool.{Bool, true, false, cond}
-use mathlib.Core.Logic.{⊎-elim}
+use mathlib.Core.Bool.{Bool}
 use mathlib.Core.Path.{_≡_, refl, ap, sym, _∙_}
-use mathlib.Core.List.{List, [], _∷_}
-use native.Mathlib.Omega.{arith}
-use denote.Enum.Declared.{tagOf}
-use types.Run.{OneOf}
+use mathlib.Core.List.{List, []}
 use lib.ListN.{length, take}
 use borrow.Author.Tests.{eq-eqb, ne-eqb}
-use Rattle.layout.specs.Answer.{Res, ok, refuse, bind}
+use Rattle.layout.specs.Answer.{Res, ok, refuse}
 use Rattle.layout.specs.Builder.{newBuilder, built, isEmpty as isEmptyBuilder, stateTests, build}
-use Rattle.layout.specs.Cursor.{Direction, ascending, descending, Cursor, cursorOr, openBlock, isEmpty}
-use Rattle.layout.specs.Seek.{Sought, seek, soughtAfter}
-use Rattle.layout.specs.Limits.{maxKey}
-use Rattle.layout.specs.Laws.Answer.{ok-inj, whether-good, whether-refused}
-use Rattle.types.specs.Answers.{apart, yes}
+use Rattle.layout.specs.Cursor.{Direction, ascending, descending, cursorOr, openBlock, isEmpty}
+use Rattle.layout.specs.Laws.Answer.{whether-good, whether-refused}
+use Rattle.types.specs.Answers.{yes}
 use Rattle.types.specs.Number.{number}
 use Rattle.types.specs.declared.Refusal.{Refusal}
 use Rattle.types.specs.Says.{saysOrder}
@@ -29,25 +23,19 @@ use Rattle.block_v2.specs.declared.Made.the-variants.{Good as GoodMade, Refused
 use Rattle.block_v2.specs.declared.New.{New}
 use Rattle.block_v2.specs.declared.Built.{Built}
 use Rattle.block_grow_v2.specs.declared.BuildAnswer.the-variants.{Block, Refused as BuildRefused}
-use Rattle.block_iterator_v2.specs.Promise.{Opens, TellsEmpty, SeeksTarget}
-use Rattle.block_iterator_v2.specs.Says.{viewOf, saysOpen, saysEmpty, saysSeek, Report, reportIs, reported}
+use Rattle.block_iterator_v2.specs.Promise.{Opens, TellsEmpty}
+use Rattle.block_iterator_v2.specs.Says.{viewOf, saysOpen, saysEmpty}
 use Rattle.block_iterator_v2.specs.declared.Opened.{Opened}
 use Rattle.block_iterator_v2.specs.declared.OpenAnswer.the-variants.{Good as GoodOpen, Refused as OpenRefused}
 use Rattle.block_iterator_v2.specs.declared.EmptyRead.{EmptyRead}
 use Rattle.block_iterator_v2.specs.declared.EmptyRead.the-variants.{Is as IsEmpty, Refused as EmptyRefused}
-use Rattle.block_iterator_v2.specs.declared.Sought.{Sought as SoughtC}
-use Rattle.block_iterator_v2.specs.declared.SeekAnswer.{SeekAnswer}
-use Rattle.block_iterator_v2.proofs.SeekAnswer.{the-type}
-use Rattle.block_iterator_v2.specs.declared.SeekAnswer.the-variants.{Landed, Done as SeekDone, Refused as SeekRefused}
-use Rattle.block_iterator_v2.specs.declared.BlockIteratorV2.{BlockIteratorV2}
 use Rattle.block_step_v2.specs.declared.Place.{Place}
 use Rattle.block_step_v2.specs.Says.{viewIn}
-use Rattle.row_words.specs.Words.{badWords, doneCode, codeOf, truthWord, orderIn, cursorIn, cursorWords, builderFrom, builderWords, builderCount, cursorCount}
+use Rattle.row_words.specs.Words.{badWords, truthWord, orderIn, cursorIn, cursorWords, builderFrom, builderWords, builderCount, cursorCount}
 use Rattle.block_words.specs.Says.{iteratorFrom, builderAlone, stateIn}
 use Rattle.row_words.proofs.Laws.{counted-not, counted-so}
 use Rattle.row_words.specs.Flat.{sets-good, sets-refused}
-use Rattle.slatedb_block.specs.Says.{TellsSought}
-use Rattle.slatedb_block.specs.Promise.{Tells, MakesFlat, EmptiesFlat, BuildsFlat, OpensFlat, TellsFlat, SeeksAs, SeeksFlat}
+use Rattle.slatedb_block.specs.Promise.{Tells, MakesFlat, EmptiesFlat, BuildsFlat, OpensFlat, TellsFlat}
 
 -- ---- what is set
 
@@ -139,56 +127,3 @@ module _ (b ws : List ℕ) (n : ℕ) (p : Place) (r : EmptyRead) (is : cursorIn 
 
   pub empty-refused : {x : Refusal} {code : ℕ} → r ≡ EmptyRefused x → code ≡ number x → TellsFlat b ws n code n
   empty-refused {x} z q = tells-refused {k = number x} (rw (is, yes saysEmpty said z) refl) q
-
--- ---- a seek
-
-sought : (want : Res Sought) (self it : BlockIteratorV2) (o : Bool) (ws key ws′ key′ : List ℕ) (n k : ℕ)
-    → bind want reported ≡ ok (reportIs o k) → viewOf it ≡ soughtAfter want (viewOf self) → ws′ ≡ cursorWords (viewOf it) → key′ ≡ it .key
-    → SeeksAs want ws key n (cond o doneCode 0) ws′ key′ k
-sought (ok s) self it o ws key ws′ key′ n k e v w b =
-    let over = ap (λ (x : Report). x .over) (ok-inj e) in
-    let reads = ap (λ (x : Report). x .reads) (ok-inj e) in
-    record {
-      answer = sym (ap (λ x. cond x doneCode 0) over);
-      state = w ∙ ap cursorWords v;
-      key-bytes = rw b (sym (ap (λ (x : Cursor). take (x .keyLen) (it .key)) v) ∙ ap (λ (x : Cursor). x .key) v);
-      number = sym reads;
-    }
-sought (refuse m) self it o ws key ws′ key′ n k e v w b = absurd (apart (sym e))
-
-not-sought : (want : Res Sought) (ws key : List ℕ) (n k code : ℕ) → bind want reported ≡ refuse k → code ≡ k → SeeksAs want ws key n code ws key n
-not-sought (ok s) ws key n k code e q = absurd (apart e)
-not-sought (refuse m) ws key n k code e q = record { answer = q ∙ sym (ap codeOf e); state = refl; key-bytes = refl; number = refl }
-
-pub seeks-short : (b target ws key : List ℕ) (n : ℕ) → (length key ≡ maxKey → ⊥) → SeeksFlat b target ws key n badWords ws key n
-seeks-short b target ws key n h = rw (ne-eqb (length key) maxKey h) (record { answer = refl; state = refl; key-bytes = refl; number = refl })
-
-pub seeks-no-cursor : (b target ws key : List ℕ) (n : ℕ) → length key ≡ maxKey → cursorIn ws key ≡ refuse badWords → SeeksFlat b target ws key n badWords ws key n
-seeks-no-cursor b target ws key n h e = rw (eq-eqb (length key) maxKey h, e) (record { answer = refl; state = refl; key-bytes = refl; number = refl })
-
-module _ (b target ws key : List ℕ) (n : ℕ) (p : Place) (r : SoughtC) (h : length key ≡ maxKey) (is : cursorIn ws key ≡ ok (viewIn p key)) (s : SeeksTarget (iteratorFrom p) b target r) where
-  abbrev wanted : List ℕ → List ℕ → ℕ → ℕ → Type 0
-  wanted ws′ key′ code k = SeeksAs (seek (saysOrder (p .order)) b target) ws key n code ws′ key′ k
-
-  asked : {ws′ key′ : List ℕ} {code k : ℕ} → wanted ws′ key′ code k → SeeksFlat b target ws key n code ws′ key′ k
-  asked w = rw (eq-eqb (length key) maxKey h, is) w
-
-  seeks-landed : {k : ℕ} {ws′ key′ : List ℕ} → r .answer ≡ Landed k → ws′ ≡ cursorWords (viewOf (r .iterator)) → key′ ≡ r .iterator .key → SeeksFlat b target ws key n 0 ws′ key′ k
-  seeks-landed {k} {ws′} {key′} e w q = asked (sought (seek (saysOrder (p .order)) b target) (iteratorFrom p) (r .iterator) false ws key ws′ key′ n k (yes saysSeek (s .answer) e) (s .view) w q)
-
-  seeks-done : {k : ℕ} {ws′ key′ : List ℕ} → r .answer ≡ SeekDone k → ws′ ≡ cursorWords (viewOf (r .iterator)) → key′ ≡ r .iterator .key → SeeksFlat b target ws key n doneCode ws′ key′ k
-  seeks-done {k} {ws′} {key′} e w q = asked (sought (seek (saysOrder (p .order)) b target) (iteratorFrom p) (r .iterator) true ws key ws′ key′ n k (yes saysSeek (s .answer) e) (s .view) w q)
-
-  pub seeks-refused : {x : Refusal} {code : ℕ} → r .answer ≡ SeekRefused x → code ≡ number x → SeeksFlat b target ws key n code ws key n
-  seeks-refused {x} {code} e q = asked (not-sought (seek (saysOrder (p .order)) b target) ws key n (number x) code (yes saysSeek (s .answer) e) q)
-
-  -- an answer that is no refusal, by the tag that is tested
-  told-by : {code k : ℕ} {ws′ key′ : List ℕ} (a : SeekAnswer) → r .answer ≡ a → OneOf (0 ∷ 1 ∷ []) (tagOf the-type a) → TellsSought a n code k
-      → ws′ ≡ cursorWords (viewOf (r .iterator)) → key′ ≡ r .iterator .key → SeeksFlat b target ws key n code ws′ key′ k
-  told-by (Landed m) e o t w q = rw (t .answer, t .number) (seeks-landed e w q)
-  told-by (SeekDone m) e o t w q = rw (t .answer, t .number) (seeks-done e w q)
-  told-by (SeekRefused x) e o t w q = absurd (⊎-elim (λ z. omega (arith, z)) (λ z. omega (arith, z)) o)
-
-  pub seeks-told : {code k : ℕ} {ws′ key′ : List ℕ} → OneOf (0 ∷ 1 ∷ []) (tagOf the-type (r .answer)) → TellsSought (r .answer) n code k
-      → ws′ ≡ cursorWords (viewOf (r .iterator)) → key′ ≡ r .iterator .key → SeeksFlat b target ws key n code ws′ key′ k
-  seeks-told o t w q = told-by (r .answer) refl o t w q

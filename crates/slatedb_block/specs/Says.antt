@@ -10,8 +10,8 @@ use Rattle.block_grow_v2.specs.declared.Grown.the-variants.{Row as GrownRow, Re
 use Rattle.block_step_v2.specs.Says.{viewIn}
 use Rattle.block_step_v2.specs.declared.Moved.{Moved}
 use Rattle.block_step_v2.specs.declared.Moved.the-variants.{Found, Done, Refused}
-use Rattle.block_iterator_v2.specs.declared.SeekAnswer.{SeekAnswer}
-use Rattle.block_iterator_v2.specs.declared.SeekAnswer.the-variants.{Landed, Done as SeekDone, Refused as SeekRefused}
+use Rattle.block_seek_v2.specs.declared.Found.{Found as FoundC}
+use Rattle.block_seek_v2.specs.declared.Found.the-variants.{Landed as FoundLanded, Done as FoundDone, Refused as FoundRefused}
 use Rattle.row_words.specs.Words.{doneCode, builderWords, cursorWords, rowWords}
 
 -- ---- a row added
@@ -52,16 +52,22 @@ pub record PutsMoved (m : Moved) (ws row : List ℕ) (code : ℕ) (ws′ row′ 
 
 -- ---- a seek
 
-abbrev pub soughtCode : SeekAnswer → ℕ
-soughtCode (Landed n) = 0
-soughtCode (SeekDone n) = doneCode
-soughtCode (SeekRefused x) = number x
+abbrev pub foundCode : FoundC → ℕ
+foundCode (FoundLanded p n) = 0
+foundCode (FoundDone p n) = doneCode
+foundCode (FoundRefused x) = number x
 
-abbrev pub soughtReads : SeekAnswer → ℕ → ℕ
-soughtReads (Landed n) old = n
-soughtReads (SeekDone n) old = n
-soughtReads (SeekRefused x) old = old
+abbrev pub foundWords : FoundC → List ℕ → List ℕ
+foundWords (FoundLanded p n) ws = cursorWords (viewIn p [])
+foundWords (FoundDone p n) ws = cursorWords (viewIn p [])
+foundWords (FoundRefused x) ws = ws
 
-pub record TellsSought (a : SeekAnswer) (n code n′ : ℕ) : Type 0 where
-  pub answer : code ≡ soughtCode a
-  pub number : n′ ≡ soughtReads a n
+abbrev pub foundReads : FoundC → ℕ → ℕ
+foundReads (FoundLanded p n) old = n
+foundReads (FoundDone p n) old = n
+foundReads (FoundRefused x) old = old
+
+pub record PutsFound (f : FoundC) (ws : List ℕ) (n code : ℕ) (ws′ : List ℕ) (n′ : ℕ) : Type 0 where
+  pub answer : code ≡ foundCode f
+  pub state : ws′ ≡ foundWords f ws
+  pub number : n′ ≡ foundReads f n

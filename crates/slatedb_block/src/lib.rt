@@ -8,7 +8,7 @@ ghost use Rattle.block_rows_v2.specs.Promise.{RowsFlat};
 ghost use Rattle.block_words.specs.Exports.{AddsFlat, StepsFlat};
 ghost use Rattle.block_words.specs.Says.{builderAlone, iteratorFrom};
 ghost use Rattle.row_words.specs.Words.{builderCount, cursorCount, rowCount};
-ghost use Rattle.slatedb_block.specs.Says.{PutsGrown, PutsMoved, TellsSought};
+ghost use Rattle.slatedb_block.specs.Says.{PutsGrown, PutsMoved, PutsFound};
 ghost use Rattle.slatedb_block.specs.Promise.{EncodesFlat, DecodesFlat, MakesFlat, FitsFlat, EmptiesFlat, BuildsFlat, ChecksFlat, OpensFlat, TellsFlat, SeeksFlat};
 use block_check_v2::Checked;
 use block_grow_v2::BuildAnswer;
@@ -18,7 +18,7 @@ use block_grow_v2::State;
 use block_iterator_v2::BlockIteratorV2;
 use block_iterator_v2::EmptyRead;
 use block_iterator_v2::OpenAnswer;
-use block_iterator_v2::SeekAnswer;
+use block_seek_v2::Found;
 use block_step_v2::Moved;
 use block_step_v2::Place;
 use block_v2::BlockBuilderV2;
@@ -384,20 +384,23 @@ pub extern "C" fn slatedb_next_rows(
     block_rows_v2::next_rows(block, cursor, key, keys, rows, count)
 }
 
-// Tells how a seek ended, and how many restart keys it read.
-fn tell_sought(answer: SeekAnswer, reads: &mut u64) -> u8
-    ensures { λ r. ⌜ TellsSought answer (now (reads .entry)) r (now (reads .exit)) ⌝ }
+// Puts the cursor that was sought back, and how many restart keys the search read.
+fn put_found(cursor: &mut [u64], reads: &mut u64, found: Found) -> u8
+    requires { ⌜ length (now cursor) ≡ cursorCount ⌝ }
+    ensures { λ r. ⌜ PutsFound found (now (cursor .entry)) (now (reads .entry)) r (now (cursor .exit)) (now (reads .exit)) ⌝ }
 {
-    match answer {
-        SeekAnswer::Landed(n) => {
+    match found {
+        Found::Landed { place, reads: n } => {
+            block_words::put_cursor(cursor, place);
             *reads = n as u64;
             block_words::GOOD
         }
-        SeekAnswer::Done(n) => {
+        Found::Done { place, reads: n } => {
+            block_words::put_cursor(cursor, place);
             *reads = n as u64;
             block_words::DONE
         }
-        SeekAnswer::Refused(refusal) => types::number(refusal),
+        Found::Refused(refusal) => types::number(refusal),
     }
 }
 
@@ -419,11 +422,6 @@ pub extern "C" fn slatedb_seek(
     let CursorRead::Is(p) = loaded else {
         return block_words::BAD_WORDS;
     };
-    let sought = iterator_of(p).seek(block, target);
-    let answer = sought.answer;
-    if let SeekAnswer::Refused(refusal) = answer {
-        return types::number(refusal);
-    }
-    block_words::put_iterator(cursor, key, sought.iterator);
-    tell_sought(answer, reads)
+    let found = block_seek_v2::seek_in_place(key, p, block, target);
+    put_found(cursor, reads, found)
 }

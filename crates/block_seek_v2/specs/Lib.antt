@@ -1,0 +1,5 @@
+pub mod Says
+pub mod Lent
+pub mod Promise
+pub mod OneOutcome
+pub mod Parts

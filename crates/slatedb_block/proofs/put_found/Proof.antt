@@ -1,0 +1,79 @@
+-- `put_found` answers and leaves by the three cases of a seek's answer: the cursor's words and the count where it landed or was done; a refusal leaves both.
+-- In each arm the case is known, and the definitions compute at it. There are as many words as required, so the stores were made.
+use mathlib.Core.Path.{ap, sym, _∙_}
+use Rattle.block_seek_v2.specs.declared.Found.{Found}
+use Rattle.row_words.proofs.Laws.{stored}
+use Rattle.slatedb_block.specs.Says.{foundCode, foundWords, foundReads}
+use borrow.Author.Needs.{needs}
+use Rattle.slatedb_block.proofs.put_found.Statement.{statement}
+use Rattle.slatedb_block.proofs.put_found.Tie as tie
+
+enum-known-found : tie.Need-enum-known-found
+enum-known-found c = search needs
+
+put-cursor-requires : tie.Need-put-cursor-requires
+put-cursor-requires c κs = search needs
+
+enum-known-found-2 : tie.Need-enum-known-found-2
+enum-known-found-2 c = search needs
+
+put-cursor-requires-2 : tie.Need-put-cursor-requires-2
+put-cursor-requires-2 c κs = search needs
+
+enum-known-found-3 : tie.Need-enum-known-found-3
+enum-known-found-3 c = search needs
+
+number-requires : tie.Need-number-requires
+number-requires c κs = search needs
+
+same-length : tie.Need-same-length
+same-length c = search needs
+
+returns : tie.Need-returns
+returns c =
+    let known = c .before .before .before .before .before .found .given .1 in
+    let start = c .before .before .before .before .before .before .before .before in
+    record {
+      answer = sym (ap foundCode known);
+      state = stored (start .pre) (c .before .before .put-cursor .ensures) ∙ sym (ap (λ (f : Found). foundWords f (start .args .cursor .now)) known);
+      number = sym (ap (λ (f : Found). foundReads f (start .args .reads .now)) known);
+    }
+
+same-length-2 : tie.Need-same-length-2
+same-length-2 c = search needs
+
+returns-2 : tie.Need-returns-2
+returns-2 c =
+    let known = c .before .before .before .before .before .found2 .given .1 in
+    let start = c .before .before .before .before .before .before .before .before in
+    record {
+      answer = sym (ap foundCode known);
+      state = stored (start .pre) (c .before .before .put-cursor2 .ensures) ∙ sym (ap (λ (f : Found). foundWords f (start .args .cursor .now)) known);
+      number = sym (ap (λ (f : Found). foundReads f (start .args .reads .now)) known);
+    }
+
+returns-3 : tie.Need-returns-3
+returns-3 c =
+    let known = c .before .before .found3 .given .1 in
+    let start = c .before .before .before .before .before in
+    record {
+      answer = c .number .ensures ∙ sym (ap foundCode known);
+      state = sym (ap (λ (f : Found). foundWords f (start .args .cursor .now)) known);
+      number = sym (ap (λ (f : Found). foundReads f (start .args .reads .now)) known);
+    }
+
+pub put-found-spec : {M : Type 1} → statement M
+put-found-spec =
+    tie.close
+    (tie.spec
+    enum-known-found
+    put-cursor-requires
+    enum-known-found-2
+    put-cursor-requires-2
+    enum-known-found-3
+    number-requires
+    same-length
+    returns
+    same-length-2
+    returns-2
+    returns-3)
