@@ -24,13 +24,11 @@ pub mod Builder
 pub mod Building
 pub mod Made
 pub mod Carry
-pub mod Parts
 pub mod Check
 pub mod Cursor
 pub mod PlainStep
 pub mod Seek
 pub mod MatchWalk
-pub mod Rebuild
 pub mod Refusals
 pub mod Given
 pub mod Restart

@@ -2,9 +2,8 @@
 -- row's key compares while it still lies in two parts, the carried bytes that it shares and its suffix in the data.
 use Prim.Native.Nat.{ℕ, _+_, _≤_}
 use mathlib.Core.Path.{_≡_, refl, ap, sym, _∙_}
-use mathlib.Core.Bool.{Bool, true, false, not}
+use mathlib.Core.Bool.{Bool, not}
 use mathlib.Core.List.{List, [], _∷_, _++_}
-use mathlib.Core.Logic.{_⊎_, ⊎-elim, inl, inr}
 use native.Mathlib.Omega.{arith}
 use lib.ListN.{length, take, drop, length-append, length-drop, take-append-drop}
 use lib.Seq.{take-take, length-take-le}
@@ -14,7 +13,6 @@ use Rattle.layout.specs.Limits.{maxKey}
 use Rattle.layout.specs.Place.{splice}
 use Rattle.layout.specs.Key.{Key, below, mayFollow}
 use Rattle.layout.specs.RowRead.{RowRead, readRow, keyLength, keyOf}
-use Rattle.layout.specs.Laws.Answer.{ltb-cases}
 use Rattle.layout.specs.Laws.Splice.{length-splice, take-past-splice}
 use Rattle.layout.specs.Laws.Tells.{RowEnds, readRow-ends, row-shares}
 
@@ -79,41 +77,6 @@ pub below-after : (p a b : Key) → below (p ++ a) (p ++ b) ≡ below a b
 unfolding below
 below-after [] a b = refl
 below-after (x ∷ p) a b = rw (le-ltb x x (omega arith)) (below-after p a b)
-
--- a target cut where the first part ends, or one that is no longer than it
-abbrev pub Cut : Key → Key → Key → Type 0
-Cut p t₁ t₂ = (length t₁ ≡ length p) ⊎ ((t₂ ≡ []) × (length t₁ ≤ length p))
-
-onward : (x y : ℕ) (p t₁ t₂ : Key) → Cut (x ∷ p) (y ∷ t₁) t₂ → Cut p t₁ t₂
-onward x y p t₁ t₂ (inl g) = inl (omega arith)
-onward x y p t₁ t₂ (inr g) = inr (g .0, omega (arith, g .1))
-
--- the first part decides, unless it is equal to as much of the target
-pub below-first : (p s t₁ t₂ : Key) → Cut p t₁ t₂ → below p t₁ ≡ true → below (p ++ s) (t₁ ++ t₂) ≡ true
-unfolding below
-below-first p s [] t₂ f e = let z : _≡_ {A = ℕ} 0 1 = cc in absurd (omega arith)
-below-first [] s (y ∷ t₁) t₂ (inl f) e = absurd (omega arith)
-below-first [] s (y ∷ t₁) t₂ (inr f) e = absurd (omega (arith, f .1))
-below-first (x ∷ p) s (y ∷ t₁) t₂ f e =
-    ⊎-elim (λ t. rw (t .0))
-    (λ t.
-    ⊎-elim (λ u. let e′ : false ≡ true = rw (t .0, u .0) at e in let z : _≡_ {A = ℕ} 0 1 = cc in absurd (omega arith))
-    (λ u. rw (t .0, u .0) (below-first p s t₁ t₂ (onward x y p t₁ t₂ f) (rw (t .0, u .0) at e)))
-    (ltb-cases y x))
-    (ltb-cases x y)
-
-pub below-not-first : (p s t₁ t₂ : Key) → below t₁ p ≡ true → Cut p t₁ t₂ → below (p ++ s) (t₁ ++ t₂) ≡ false
-unfolding below
-below-not-first [] s t₁ t₂ e f = let z : _≡_ {A = ℕ} 0 1 = cc in absurd (omega arith)
-below-not-first (x ∷ p) s [] t₂ e (inl f) = absurd (omega arith)
-below-not-first (x ∷ p) s [] t₂ e (inr f) = rw (f .0)
-below-not-first (x ∷ p) s (y ∷ t₁) t₂ e f =
-    ⊎-elim (λ t. rw (le-ltb x y (omega (arith, t .1)), t .0))
-    (λ t.
-    ⊎-elim (λ u. let e′ : false ≡ true = rw (t .0, u .0) at e in let z : _≡_ {A = ℕ} 0 1 = cc in absurd (omega arith))
-    (λ u. rw (u .0, t .0) (below-not-first p s t₁ t₂ (rw (t .0, u .0) at e) (onward x y p t₁ t₂ f)))
-    (ltb-cases x y))
-    (ltb-cases y x)
 
 -- a row's key against the carried one: only what follows the shared bytes is compared
 pub follows-suffix : (key : List ℕ) (len shared : ℕ) (s : List ℕ) → shared ≤ len → mayFollow (take len key) (take shared key ++ s) ≡ not (below s (drop shared (take len key)))

@@ -1,5 +1,5 @@
--- Each way through opening, a step and `is_empty`, by what was met on it: one law for each exit of the code. And the loop of the step back, which reads a
--- region from its start to the row that ends at the cursor's position.
+-- Each way through opening, a step and `is_empty`, by what was met on it: one law for each exit of the code. And what is known of the row that a
+-- step back finds.
 use Prim.Native.Nat.{ℕ, zero, suc, _+_, _-_, _<_, _≤_}
 use mathlib.Core.Path.{_≡_, refl, ap, sym, _∙_, subst}
 use mathlib.Core.Bool.{Bool, true, false, cond}
@@ -8,17 +8,16 @@ use mathlib.Core.Logic.{⊎-elim}
 use native.Mathlib.Nat.{le-antisymm}
 use native.Mathlib.Omega.{arith}
 use lib.Dec.{ltb, leb, eqb}
-use lib.ListN.{length, take}
+use lib.ListN.{length}
 use borrow.Author.Tests.{lt-ltb, le-ltb, le-leb, lt-leb, eq-eqb, ne-eqb, ltb-false}
-use Rattle.layout.specs.Answer.{Res, ok, refuse}
+use Rattle.layout.specs.Answer.{ok, refuse}
 use Rattle.layout.specs.Limits.{maxKey}
-use Rattle.layout.specs.Place.{splice}
 use Rattle.layout.specs.Key.{Key}
 use Rattle.layout.specs.RowRead.{RowRead, readRow, keyLength, keyOf}
 use Rattle.layout.specs.Trailer.{Trailer, trailerOf, dataOf, Region, regionOf, allOffsets}
 use Rattle.layout.specs.Cursor.{Direction, ascending, descending, Cursor, cursorIs, marked, opened, openBlock, Answer, found, done, Step, stepIs, pastRow, stepUp, Keyed, keyed, rowEndingAt, backPast, stepBackIn, stepDown, stepAlong, next, exhausted, isEmpty}
-use Rattle.layout.specs.Laws.Answer.{bind-then, guard-then, cond-ok, ok-inj, spend}
-use Rattle.layout.specs.Laws.Carry.{Carries, read-carried, keyOf-length, suffixOf, key-new, carries-on}
+use Rattle.layout.specs.Laws.Answer.{bind-then, guard-then, cond-ok, ok-inj}
+use Rattle.layout.specs.Laws.Carry.{keyOf-length}
 use Rattle.layout.specs.Laws.Tells.{readRow-ends}
 
 -- ---- opening
@@ -210,59 +209,7 @@ module _ (c : Cursor) (s : Step) where
       ⊎-elim (λ w. heads-of (w .1) refl) (λ w. along-heads b t room (c .direction) refl (w .1))
       (cond-ok (c .mark) _ _ s f)
 
--- ---- the loop of the step back: the array carries the key of the row before
-
-module _ (d : List ℕ) (g : Region) (stop : ℕ) where
-  pub record Backing (key : List ℕ) (at len : ℕ) : Type 0 where
-    pub left : ℕ
-    pub enough : stop ≤ at + left
-    pub before : at < stop
-    pub holds : Carries key len
-    pub makes : rowEndingAt left d g stop at (take len key) ≡ rowEndingAt stop d g stop (g .start) []
-
-  pub backing-start : (key : List ℕ) → length key ≡ maxKey → g .start < stop → Backing key (g .start) 0
-  backing-start key h k = record { left = stop; enough = omega arith; before = k; holds = record { few = omega arith; whole = h }; makes = refl }
-
-  module _ (key : List ℕ) (at len : ℕ) (s : Backing key at len) where
-    alike : {x : Res RowRead} → readRow d at (g .end) len (eqb at (g .start)) ≡ x → readRow d at (g .end) (length (take len key)) (eqb at (g .start)) ≡ x
-    alike e = read-carried d at (g .end) (eqb at (g .start)) key len (s .holds) e
-
-    -- with steps left, one step is the whole
-    stepped : {A : Type 0} → ((left : ℕ) → stop ≤ at + suc left → rowEndingAt (suc left) d g stop at (take len key) ≡ rowEndingAt stop d g stop (g .start) [] → A) → A
-    stepped f =
-        spend (λ (n : ℕ). rowEndingAt n d g stop at (take len key)) (s .left) (λ z. absurd (omega (arith, s .enough, s .before))) (s .makes)
-        λ more is m. f more (omega (arith, s .enough)) m
-
-    pub backing-no : {n : ℕ} → readRow d at (g .end) len (eqb at (g .start)) ≡ refuse n → refuse n ≡ rowEndingAt stop d g stop (g .start) []
-    unfolding rowEndingAt
-    backing-no e = stepped λ left q m. rw (alike e) at m
-
-    module _ (r : RowRead) (e : readRow d at (g .end) len (eqb at (g .start)) ≡ ok r) where
-      pub backing-straddles : stop < r .next → refuse 18 ≡ rowEndingAt stop d g stop (g .start) []
-      unfolding rowEndingAt
-      backing-straddles h = stepped λ left q m. rw (alike e, le-ltb (r .next) stop (omega arith), lt-ltb stop (r .next) h) at m
-
-      -- found: its key, once the suffix is put over the carried one
-      pub backing-found : r .next ≡ stop → ok (keyed r (take (keyLength r) (splice key (r .shared) (suffixOf d r)))) ≡ rowEndingAt stop d g stop (g .start) []
-      unfolding rowEndingAt
-      backing-found h =
-          stepped λ left q m.
-          ap (λ (k : Key). ok (keyed r k)) (key-new d at (g .end) (eqb at (g .start)) key len (s .holds) r e)
-          ∙ rw (alike e, le-ltb (r .next) stop (omega arith), le-ltb stop (r .next) (omega arith)) at m
-
-      pub backing-more : r .next < stop → Backing (splice key (r .shared) (suffixOf d r)) (r .next) (keyLength r)
-      unfolding rowEndingAt
-      backing-more h =
-          stepped λ left q m.
-          record {
-            left = left;
-            enough = omega (arith, readRow-ends d at (g .end) len (eqb at (g .start)) r e .least);
-            before = h;
-            holds = carries-on d at (g .end) (eqb at (g .start)) key len (s .holds) r e;
-            makes =
-                ap (rowEndingAt left d g stop (r .next)) (key-new d at (g .end) (eqb at (g .start)) key len (s .holds) r e)
-                ∙ rw (alike e, lt-ltb (r .next) stop h) at m;
-          }
+-- ---- the step back
 
 -- a row that the step back finds: it is read, and its key is as long as it says
 pub record Ended (d : List ℕ) (g : Region) (stop : ℕ) (k : Keyed) : Type 0 where

@@ -1,26 +1,19 @@
--- Each way through a seek, by what was met on it: the search as a recursive function meets it, the run of equal restarts, the walk of a region up to a target,
--- its read for the last row at or below one, and both from region to region. A loop's record says that what is left to do, from here, answers what the
--- whole does.
+-- Each way through a seek, by what was met on it: the search as a recursive function meets it, the run of equal restarts, and both walks from region to region.
+-- A loop's record says that what is left to do, from here, answers what the whole does.
 use Prim.Native.Nat.{ℕ, zero, suc, _+_, _-_, _<_, _≤_}
 use mathlib.Core.Path.{_≡_, refl, ap, sym, _∙_}
-use mathlib.Core.Bool.{Bool, true, false, cond}
-use mathlib.Core.List.{List, [], _++_}
+use mathlib.Core.Bool.{true, false}
+use mathlib.Core.List.{List, []}
 use native.Mathlib.Omega.{arith}
 use native.Mathlib.Numerals.{add-one}
-use lib.Dec.{eqb}
-use lib.ListN.{length, take}
 use borrow.Author.Tests.{lt-ltb, le-ltb}
 use Rattle.layout.specs.Answer.{Res, ok, refuse, bind}
-use Rattle.layout.specs.Limits.{maxKey}
-use Rattle.layout.specs.Place.{splice}
 use Rattle.layout.specs.Key.{Key, below, same}
-use Rattle.layout.specs.RowRead.{RowRead, KeyRead, readRow, readKey, keyLength, keyOf, joined}
+use Rattle.layout.specs.RowRead.{KeyRead, readKey, joined}
 use Rattle.layout.specs.Trailer.{Trailer, trailerOf, dataOf, Region, regionOf}
 use Rattle.layout.specs.Cursor.{Direction, ascending, descending, Cursor, cursorIs}
-use Rattle.layout.specs.Seek.{Found, foundIs, tick, middle, search, restartKey, restartBelow, searchRestarts, Stop, stopIs, walkRegion, doneUp, walkUp, seekUp, lastEqual, startDown, lastAtOrBelow, doneDown, walkDown, seekDown, soughtIs, seekAlong, seek}
+use Rattle.layout.specs.Seek.{Found, foundIs, tick, middle, search, restartKey, restartBelow, searchRestarts, Stop, walkRegion, doneUp, walkUp, seekUp, lastEqual, startDown, lastAtOrBelow, doneDown, walkDown, seekDown, soughtIs, seekAlong, seek}
 use Rattle.layout.specs.Laws.Answer.{spend}
-use Rattle.layout.specs.Laws.Carry.{Carries, read-carried, suffixOf, key-parts, key-new, carries-on}
-use Rattle.layout.specs.Laws.Tells.{readRow-ends}
 use Rattle.layout.specs.Laws.Search.{search-empty, search-split, search-refuse}
 
 -- ---- a restart's key
@@ -87,112 +80,6 @@ module _ (b : List ℕ) (t : Trailer) (target : Key) where
       pub from-down : restartBelow b t target (middle low high) ≡ ok false → searchFrom b t target low (middle low high) (reads + 1) ≡ searchFrom b t target low high reads
       unfolding searchFrom
       from-down e = rw (search-split (restartBelow b t target) low high false h e) (ticked (search (restartBelow b t target) low (middle low high)))
-
--- ---- the walk of a region up to a target: the array carries the key of the row before
-
-module _ (d : List ℕ) (g : Region) (target : Key) (fuel : ℕ) where
-  pub record Walking (key : List ℕ) (at len : ℕ) : Type 0 where
-    pub left : ℕ
-    pub enough : g .end ≤ at + left
-    pub holds : Carries key len
-    pub makes : walkRegion left d g target at (take len key) ≡ walkRegion fuel d g target (g .start) []
-
-  pub walking-start : (key : List ℕ) → length key ≡ maxKey → g .end ≤ fuel → Walking key (g .start) 0
-  walking-start key h k = record { left = fuel; enough = omega arith; holds = record { few = omega arith; whole = h }; makes = refl }
-
-  module _ (key : List ℕ) (at len : ℕ) (s : Walking key at len) where
-    alike : {x : Res RowRead} → readRow d at (g .end) len (eqb at (g .start)) ≡ x → readRow d at (g .end) (length (take len key)) (eqb at (g .start)) ≡ x
-    alike e = read-carried d at (g .end) (eqb at (g .start)) key len (s .holds) e
-
-    stepped : at < g .end → {A : Type 0} → ((left : ℕ) → g .end ≤ at + suc left → walkRegion (suc left) d g target at (take len key) ≡ walkRegion fuel d g target (g .start) [] → A) → A
-    stepped h f =
-        spend (λ (n : ℕ). walkRegion n d g target at (take len key)) (s .left) (λ z. absurd (omega (arith, s .enough))) (s .makes)
-        λ more is m. f more (omega (arith, s .enough)) m
-
-    -- at the region's end
-    pub walking-over : g .end ≤ at → ok (stopIs at (take len key)) ≡ walkRegion fuel d g target (g .start) []
-    unfolding walkRegion
-    walking-over h = go (s .left) (s .makes)
-      where
-        go : (left : ℕ) → walkRegion left d g target at (take len key) ≡ walkRegion fuel d g target (g .start) [] → ok (stopIs at (take len key)) ≡ walkRegion fuel d g target (g .start) []
-        go zero m = m
-        go (suc left) m = rw (le-ltb at (g .end) h) at m
-
-    module _ (h : at < g .end) where
-      pub walking-no : {n : ℕ} → readRow d at (g .end) len (eqb at (g .start)) ≡ refuse n → refuse n ≡ walkRegion fuel d g target (g .start) []
-      unfolding walkRegion
-      walking-no e = stepped h λ left q m. rw (lt-ltb at (g .end) h, alike e) at m
-
-      module _ (r : RowRead) (e : readRow d at (g .end) len (eqb at (g .start)) ≡ ok r) where
-        -- the row's key, before it is written over the carried one
-        parted : {x : Bool} → below (take (r .shared) key ++ suffixOf d r) target ≡ x → below (keyOf d (take len key) r) target ≡ x
-        parted q = ap (λ (k : Key). below k target) (sym (key-parts d at (g .end) (eqb at (g .start)) key len (s .holds) r e)) ∙ q
-
-        pub walking-stop : below (take (r .shared) key ++ suffixOf d r) target ≡ false → ok (stopIs at (take len key)) ≡ walkRegion fuel d g target (g .start) []
-        unfolding walkRegion
-        walking-stop k = stepped h λ left q m. rw (lt-ltb at (g .end) h, alike e, parted k) at m
-
-        pub walking-more : below (take (r .shared) key ++ suffixOf d r) target ≡ true → Walking (splice key (r .shared) (suffixOf d r)) (r .next) (keyLength r)
-        unfolding walkRegion
-        walking-more k =
-            stepped h λ left q m.
-            record {
-              left = left;
-              enough = omega (arith, readRow-ends d at (g .end) len (eqb at (g .start)) r e .least);
-              holds = carries-on d at (g .end) (eqb at (g .start)) key len (s .holds) r e;
-              makes =
-                  ap (walkRegion left d g target (r .next)) (key-new d at (g .end) (eqb at (g .start)) key len (s .holds) r e)
-                  ∙ rw (lt-ltb at (g .end) h, alike e, parted k) at m;
-            }
-
--- ---- a region's last row at or below a target: the array carries the key of the row before
-
-module _ (d : List ℕ) (g : Region) (target : Key) (fuel : ℕ) where
-  pub record Lasting (key : List ℕ) (at len best : ℕ) : Type 0 where
-    pub left : ℕ
-    pub enough : g .end ≤ at + left
-    pub holds : Carries key len
-    pub makes : lastAtOrBelow left d g target at (take len key) best ≡ lastAtOrBelow fuel d g target (g .start) [] (g .start)
-
-  pub lasting-start : (key : List ℕ) → length key ≡ maxKey → g .end ≤ fuel → Lasting key (g .start) 0 (g .start)
-  lasting-start key h k = record { left = fuel; enough = omega arith; holds = record { few = omega arith; whole = h }; makes = refl }
-
-  module _ (key : List ℕ) (at len best : ℕ) (s : Lasting key at len best) where
-    same-read : {x : Res RowRead} → readRow d at (g .end) len (eqb at (g .start)) ≡ x → readRow d at (g .end) (length (take len key)) (eqb at (g .start)) ≡ x
-    same-read e = read-carried d at (g .end) (eqb at (g .start)) key len (s .holds) e
-
-    one-step : at < g .end → {A : Type 0} → ((left : ℕ) → g .end ≤ at + suc left → lastAtOrBelow (suc left) d g target at (take len key) best ≡ lastAtOrBelow fuel d g target (g .start) [] (g .start) → A) → A
-    one-step h f =
-        spend (λ (n : ℕ). lastAtOrBelow n d g target at (take len key) best) (s .left) (λ z. absurd (omega (arith, s .enough))) (s .makes)
-        λ more is m. f more (omega (arith, s .enough)) m
-
-    pub lasting-over : g .end ≤ at → ok best ≡ lastAtOrBelow fuel d g target (g .start) [] (g .start)
-    unfolding lastAtOrBelow
-    lasting-over h = go (s .left) (s .makes)
-      where
-        go : (left : ℕ) → lastAtOrBelow left d g target at (take len key) best ≡ lastAtOrBelow fuel d g target (g .start) [] (g .start) → ok best ≡ lastAtOrBelow fuel d g target (g .start) [] (g .start)
-        go zero m = m
-        go (suc left) m = rw (le-ltb at (g .end) h) at m
-
-    module _ (h : at < g .end) where
-      pub lasting-no : {n : ℕ} → readRow d at (g .end) len (eqb at (g .start)) ≡ refuse n → refuse n ≡ lastAtOrBelow fuel d g target (g .start) [] (g .start)
-      unfolding lastAtOrBelow
-      lasting-no e = one-step h λ left q m. rw (lt-ltb at (g .end) h, same-read e) at m
-
-      -- the row's key is compared once it is written over the carried one
-      pub lasting-more : (r : RowRead) → readRow d at (g .end) len (eqb at (g .start)) ≡ ok r
-          → Lasting (splice key (r .shared) (suffixOf d r)) (r .next) (keyLength r) (cond (below target (take (keyLength r) (splice key (r .shared) (suffixOf d r)))) best (r .next))
-      unfolding lastAtOrBelow
-      lasting-more r e =
-          one-step h λ left q m.
-          record {
-            left = left;
-            enough = omega (arith, readRow-ends d at (g .end) len (eqb at (g .start)) r e .least);
-            holds = carries-on d at (g .end) (eqb at (g .start)) key len (s .holds) r e;
-            makes =
-                ap (λ (k : Key). lastAtOrBelow left d g target (r .next) k (cond (below target k) best (r .next))) (key-new d at (g .end) (eqb at (g .start)) key len (s .holds) r e)
-                ∙ rw (lt-ltb at (g .end) h, same-read e) at m;
-          }
 
 -- ---- from region to region, up
 
