@@ -1,5 +1,4 @@
 pub mod StepKey
-pub mod PlainStep
 pub mod Found
 pub mod Bounds
 pub mod Region

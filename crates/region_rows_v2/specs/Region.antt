@@ -18,11 +18,11 @@ use Rattle.layout.specs.Trailer.{trailerIs, Region}
 use Rattle.layout.specs.Cursor.{Cursor, found, stepIs, pastRow, next}
 use Rattle.layout.specs.Laws.Carry.{Carries, read-carried, keyOf-length, suffixOf, key-new}
 use Rattle.layout.specs.Laws.Plain.{PlainTells, plainAt-tells}
+use Rattle.layout.specs.Laws.PlainStep.{plain-reads, plain-step}
 use Rattle.layout.specs.Laws.Trailer.{trailerOf-tells}
 use Rattle.block.specs.Says.{regionFrom}
 use Rattle.block_step_v2.specs.Says.{viewIn}
 use Rattle.block_step_v2.specs.declared.Place.{Place}
-use Rattle.region_rows_v2.specs.PlainStep.{plain-reads, plain-step}
 use Rattle.region_rows_v2.specs.declared.Bounds.{Bounds}
 use Rattle.region_rows_v2.specs.Bounds.{Inside, stretch-inside}
 use Rattle.region_rows_v2.specs.Promise.{BoundsOf}
