@@ -181,6 +181,39 @@ static uint8_t step(struct reader *r) {
     return code;
 }
 
+/* Many rows in one call, from where the cursor stands: what as many steps give, call by call. The cursor is put back. */
+static void many_rows(struct reader *r, size_t keys_len, size_t most) {
+    size_t mark = used_pieces;
+    slatedb_cursor cursor = *r->cursor, *many = lend(sizeof *many);
+    uint8_t key[KEY];
+    memcpy(key, r->key, sizeof key);
+    *many = cursor;
+    uint8_t *many_key = lend_copy(key, sizeof key), *keys = lend(keys_len);
+    slatedb_row *rows = lend(most * sizeof *rows);
+    uint64_t *count = lend(sizeof *count), none = UINT64_MAX;
+    *count = none;
+    uint8_t code = slatedb_next_rows(r->block, r->len, slatedb_cursor_words(many), CURSOR, many_key, KEY, keys, keys_len,
+                                     slatedb_row_words(rows), most * ROW, count);
+    size_t given = refused(code) ? 0 : *count, used = 0, room = r->out_len;
+    if (refused(code)) expect("the count of a refused call", *count, none);
+    for (size_t i = 0; i < given; i++) {
+        r->out_len = keys_len - used < room ? keys_len - used : room;
+        expect("a step of many", step(r), SLATEDB_GOOD);
+        expect("a row of many", memcmp(&rows[i], r->row, sizeof *rows), 0);
+        size_t len = rows[i].shared + rows[i].suffix_len;
+        expect("a key of many", memcmp(keys + used, r->out, len), 0);
+        used += len;
+    }
+    r->out_len = keys_len - used < room ? keys_len - used : room;
+    uint8_t after = given < most ? step(r) : SLATEDB_GOOD;
+    if (given < most) expect("a step after many", after == SLATEDB_GOOD, 0);
+    if (!given) expect("a call that gives none", code, after);
+    r->out_len = room;
+    take_back(mark);
+    *r->cursor = cursor;
+    memcpy(r->key, key, sizeof key);
+}
+
 static uint64_t is_empty(const struct reader *r) {
     uint64_t empty;
     uint8_t code = slatedb_is_empty(r->block, r->len, slatedb_cursor_const_words(r->cursor), CURSOR, &empty);
@@ -227,6 +260,9 @@ static void walk(struct reader *r, uint64_t order) {
         cursor_keys[order * HALF + i] = r->key[0];
         /* after the last row, and not yet told that it was */
         expect("empty before a step", is_empty(r), i == ROWS && order == SLATEDB_ASCENDING);
+        for (size_t most = 0; most <= ROWS + 1; most++) {
+            for (size_t keys_len = 0; keys_len <= ROWS + 1; keys_len++) many_rows(r, keys_len, most);
+        }
         uint8_t code = step(r);
         expect("the step", code, i < ROWS ? SLATEDB_GOOD : SLATEDB_DONE);
         if (code == SLATEDB_GOOD && i < ROWS) expect_row(r, order == SLATEDB_ASCENDING ? i : ROWS - 1 - i);
@@ -378,6 +414,10 @@ static uint8_t try_next_by_value(const size_t *n) {
     return slatedb_next_by_value(block, BLOCK, words(n[0]), n[0], lend(n[1]), n[1], lend(1), 1, words(n[2]), n[2]);
 }
 
+static uint8_t try_next_rows(const size_t *n) {
+    return slatedb_next_rows(block, BLOCK, words(n[0]), n[0], lend(n[1]), n[1], lend(1), 1, words(ROW), ROW, words(1));
+}
+
 static uint8_t try_seek(const size_t *n) {
     return slatedb_seek(block, BLOCK, lend(1), 1, words(n[0]), n[0], lend(n[1]), n[1], words(1));
 }
@@ -404,6 +444,7 @@ static const struct {
     {"open", try_open, {CURSOR}},
     {"next", try_next, {CURSOR, KEY, ROW}},
     {"next_by_value", try_next_by_value, {CURSOR, KEY, ROW}},
+    {"next_rows", try_next_rows, {CURSOR, KEY}},
     {"seek", try_seek, {CURSOR, KEY}},
     {"is_empty", try_is_empty, {CURSOR}},
 };
@@ -475,6 +516,7 @@ static void read_damaged(const uint8_t *damaged, size_t len, size_t out_len) {
     for (size_t i = 0; i < STATES; i++) {
         *r.cursor = cursors[i];
         r.key[0] = cursor_keys[i];
+        many_rows(&r, out_len, 3);
         step(&r);
     }
     take_back(0);

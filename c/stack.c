@@ -27,6 +27,10 @@ static ucontext_t desk, painted;
 static void (*job)(void);
 
 static uint8_t data[LARGEST], key[SLATEDB_KEY_BYTES], last[SLATEDB_KEY_BYTES], carried[SLATEDB_KEY_BYTES], out[SLATEDB_KEY_BYTES], encoded[2048];
+enum { MANY = 4 }; /* rows a call */
+
+static uint8_t keys[MANY * SLATEDB_KEY_BYTES];
+static slatedb_row given[MANY];
 static uint16_t restarts[PLACES];
 static slatedb_builder builder;
 static slatedb_cursor cursor;
@@ -119,6 +123,11 @@ static void call_next(void) {
     answer = slatedb_next(data, block_len, LENT_CURSOR, carried, sizeof carried, out, sizeof out, LENT_ROW);
 }
 
+static void call_next_rows(void) {
+    answer = slatedb_next_rows(data, block_len, LENT_CURSOR, carried, sizeof carried, keys, sizeof keys, slatedb_row_words(given),
+                               MANY * SLATEDB_ROW_WORDS, &count);
+}
+
 static void call_next_by_value(void) {
     answer = slatedb_next_by_value(data, block_len, LENT_CURSOR, carried, sizeof carried, out, sizeof out, LENT_ROW);
 }
@@ -168,6 +177,7 @@ static struct {
     {"slatedb_check", call_check, OF_BLOCK, 0, 0},
     {"slatedb_open", call_open, OF_BLOCK, 0, 0},
     {"slatedb_next", call_next, OF_BLOCK, 0, 0},
+    {"slatedb_next_rows", call_next_rows, OF_BLOCK, 0, 0},
     {"slatedb_seek", call_seek, OF_BLOCK, 0, 0},
     {"slatedb_is_empty", call_is_empty, OF_BLOCK, 0, 0},
     {"slatedb_builder_add_by_value", call_builder_add_by_value, FOR_COMPARING, 0, 0},
@@ -229,6 +239,10 @@ static void over_keys_of(size_t len, unsigned rows) {
         for (unsigned i = 0; i <= rows; i++) {
             measure(call_is_empty);
             measure(i % 2 == 0 ? call_next : call_next_by_value);
+        }
+        measure(call_open);
+        for (unsigned i = 0; i <= rows; i += MANY) {
+            measure(call_next_rows);
         }
         for (unsigned i = 0; i < rows; i++) {
             set_key(i, len);

@@ -127,7 +127,7 @@ static inline const uint64_t *slatedb_cursor_const_words(const slatedb_cursor *c
 static inline uint64_t *slatedb_builder_words(slatedb_builder *builder) { return (uint64_t *)builder; }
 static inline const uint64_t *slatedb_builder_const_words(const slatedb_builder *builder) { return (const uint64_t *)builder; }
 static inline const uint64_t *slatedb_fields_words(const slatedb_fields *fields) { return (const uint64_t *)fields; }
-static inline uint64_t *slatedb_row_words(slatedb_row *row) { return (uint64_t *)row; }
+static inline uint64_t *slatedb_row_words(slatedb_row *row) { return (uint64_t *)row; } /* of an array of rows too */
 
 /* ---- one row */
 
@@ -193,6 +193,18 @@ uint8_t slatedb_open(const uint8_t *block, size_t block_len, uint64_t order, uin
 SLATEDB_MUST_USE
 uint8_t slatedb_next(const uint8_t *block, size_t block_len, uint64_t *cursor, size_t cursor_len,
                      uint8_t *key_bytes, size_t key_bytes_len, uint8_t *out, size_t out_len, uint64_t *row, size_t row_len);
+
+/* Many steps in one call: the same as so many calls of slatedb_next, each with what is left of `keys`, which is proved of it.
+ * As many rows are asked for as there are whole times SLATEDB_ROW_WORDS words in `rows`; words that are left over are not
+ * used. 254, then the numbers of slatedb_next and done, but only where the first step answers so: a step that finds no row
+ * after others did is not made, and the next call answers it. Good: *count rows were given, their words one after another
+ * from the start of `rows`, their keys one after another from the start of `keys`, each of shared + suffix_len bytes; other
+ * words and bytes stay, and the cursor stands past the last of these rows. With 1,024 bytes of keys for each row all rows
+ * asked for have room. Done sets *count to 0; with no room for a row nothing is asked: good, and *count is 0. */
+SLATEDB_MUST_USE
+uint8_t slatedb_next_rows(const uint8_t *block, size_t block_len, uint64_t *cursor, size_t cursor_len,
+                          uint8_t *key_bytes, size_t key_bytes_len, uint8_t *keys, size_t keys_len,
+                          uint64_t *rows, size_t rows_len, uint64_t *count);
 
 /* Moves the cursor to the target, in its own order, from wherever it stands: 254, 14, then any of 15, 9 to 13, 1, 2, 3, 16.
  * On a block that slatedb_check accepts, good: the next step gives the first row at or above the target, or descending the

@@ -113,6 +113,7 @@ static uint8_t call(uint8_t function, const struct argument *a) {
     case 16: return slatedb_varint_put(BYTES(0), NUM(1), WORD(2));
     case 17: return slatedb_varint_get(BYTES(0), NUM(1), WORDS(2));
     case 18: return slatedb_decode_key(BYTES(0), NUM(1), NUM(2), NUM(3), NUM(4), WORDS(5));
+    case 19: return slatedb_next_rows(BYTES(0), WORDS(1), BYTES(2), BYTES(3), WORDS(4), WORD(5));
     default: fail("unknown function"); return 0;
     }
 }

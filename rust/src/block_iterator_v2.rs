@@ -55,6 +55,39 @@ impl<B: AsRef<[u8]>> BlockIteratorV2<B> {
         })
     }
 
+    /// The next rows, at most so many, by one call of the library: those that as many calls of `next` would give. None when no
+    /// row is left. A row that is refused ends them; the refusal is answered where no row comes before it.
+    pub fn next_rows(&mut self, most: usize) -> Result<Vec<RowEntry>, Refusal> {
+        let block = self.block.as_ref();
+        let (mut keys, mut rows, mut count) = (
+            vec![0; most * ffi::KEY_BYTES],
+            vec![0; most * ffi::ROW_WORDS],
+            0,
+        );
+        let given = ffi::Given {
+            keys: &mut keys,
+            rows: &mut rows,
+            count: &mut count,
+        };
+        good_or_done(ffi::next_rows(
+            block,
+            &mut self.cursor,
+            &mut self.key[..],
+            given,
+        ))?;
+        let mut rest = &keys[..];
+        let each = rows.chunks_exact(ffi::ROW_WORDS).take(count as usize);
+        Ok(each
+            .map(|words| {
+                let mut row = [0; ffi::ROW_WORDS];
+                row.copy_from_slice(words);
+                let entry = RowEntry::read(row, rest, block);
+                rest = &rest[entry.key.len()..];
+                entry
+            })
+            .collect())
+    }
+
     /// On a block that [`check`](crate::check) accepts, moves to the first row at or above the key, or descending to the last
     /// at or below it, from wherever the iterator stands. On any other block it may pass over that row.
     /// Answers how many restart keys the search has read.

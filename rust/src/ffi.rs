@@ -38,6 +38,9 @@ extern "C" {
     fn slatedb_open(block: *const u8, block_len: usize, order: u64, cursor: *mut u64, cursor_len: usize) -> u8;
     fn slatedb_next(block: *const u8, block_len: usize, cursor: *mut u64, cursor_len: usize,
         key_bytes: *mut u8, key_bytes_len: usize, out: *mut u8, out_len: usize, row: *mut u64, row_len: usize) -> u8;
+    fn slatedb_next_rows(block: *const u8, block_len: usize, cursor: *mut u64, cursor_len: usize,
+        key_bytes: *mut u8, key_bytes_len: usize, keys: *mut u8, keys_len: usize,
+        rows: *mut u64, rows_len: usize, count: *mut u64) -> u8;
     fn slatedb_seek(block: *const u8, block_len: usize, target: *const u8, target_len: usize,
         cursor: *mut u64, cursor_len: usize, key_bytes: *mut u8, key_bytes_len: usize, reads: *mut u64) -> u8;
     fn slatedb_is_empty(block: *const u8, block_len: usize, cursor: *const u64, cursor_len: usize, empty: *mut u64) -> u8;
@@ -99,6 +102,22 @@ pub(crate) fn next(block: &[u8], cursor: &mut [u64], key: &mut [u8], out: &mut [
     unsafe {
         slatedb_next(block.as_ptr(), block.len(), cursor.as_mut_ptr(), cursor.len(), key.as_mut_ptr(), key.len(),
             out.as_mut_ptr(), out.len(), row.as_mut_ptr(), row.len())
+    }
+}
+
+/// Where the rows of one call go.
+pub(crate) struct Given<'a> {
+    pub keys: &'a mut [u8],
+    pub rows: &'a mut [u64],
+    pub count: &'a mut u64,
+}
+
+#[rustfmt::skip]
+pub(crate) fn next_rows(block: &[u8], cursor: &mut [u64], key: &mut [u8], given: Given<'_>) -> u8 {
+    let Given { keys, rows, count } = given;
+    unsafe {
+        slatedb_next_rows(block.as_ptr(), block.len(), cursor.as_mut_ptr(), cursor.len(), key.as_mut_ptr(), key.len(),
+            keys.as_mut_ptr(), keys.len(), rows.as_mut_ptr(), rows.len(), count)
     }
 }
 

@@ -104,6 +104,12 @@ fn arrays_of_another_length_are_refused() {
         let mut builder = vec![0; other(BUILDER_WORDS)];
         assert_eq!(open(&block, ASCENDING, &mut cursor), BAD_WORDS);
         assert_eq!(next(&block, &mut cursor, &mut key, &mut [0], &mut row), BAD_WORDS);
+        let given = Given {
+            keys: &mut [0],
+            rows: &mut row,
+            count: &mut number,
+        };
+        assert_eq!(next_rows(&block, &mut cursor, &mut key, given), BAD_WORDS);
         assert_eq!(seek(&block, b"a", &mut cursor, &mut key, &mut number), BAD_WORDS);
         assert_eq!(is_empty(&block, &cursor, &mut number), BAD_WORDS);
         assert_eq!(builder_new(&mut builder, 4096, 16), BAD_WORDS);

@@ -4,7 +4,7 @@ mod common;
 
 use std::cell::Cell;
 
-use common::{build, open, rows_of, walk, BOTH};
+use common::{build, open, rows_of, walk, walk_by, BOTH};
 use slatedb_block::{check, BlockBuilderV2, BlockIteratorV2, IterationOrder, Refusal, RowEntry};
 
 fn builder() -> BlockBuilderV2 {
@@ -195,6 +195,9 @@ fn reads(block: &[u8]) {
     let rows = check(block).ok();
     for order in BOTH {
         let walked = walk(block, order).map(|rows| rows.len());
+        for most in [1, 3] {
+            assert_eq!(walk_by(block, order, most).map(|rows| rows.len()), walked);
+        }
         if let Some(rows) = rows {
             assert_eq!(walked, Ok(rows));
         }

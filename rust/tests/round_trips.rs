@@ -2,7 +2,7 @@
 
 mod common;
 
-use common::{build, build_within, open, rows_of, walk, BOTH};
+use common::{build, build_within, open, rows_of, walk, walk_by, BOTH};
 use slatedb_block::{check, BlockBuilderV2, BlockIteratorV2, IterationOrder, RowEntry, ValueDeletable};
 
 fn values() -> Vec<ValueDeletable> {
@@ -40,6 +40,10 @@ fn holds(rows: &[RowEntry], block: &[u8]) {
     assert_eq!(check(block), Ok(rows.len()));
     assert_eq!(walk(block, IterationOrder::Ascending).unwrap(), rows);
     assert_eq!(walk(block, IterationOrder::Descending).unwrap(), reversed(rows));
+    for most in [1, 2, 7, rows.len() + 1] {
+        assert_eq!(walk_by(block, IterationOrder::Ascending, most).unwrap(), rows);
+        assert_eq!(walk_by(block, IterationOrder::Descending, most).unwrap(), reversed(rows));
+    }
 }
 
 #[test]

@@ -39,6 +39,7 @@ pub enum Function {
     VarintPut,
     VarintGet,
     DecodeKey,
+    NextRows,
 }
 
 #[derive(Clone, Debug)]
@@ -178,6 +179,7 @@ impl Call {
             Function::VarintPut => varint_put(self, &mut memory),
             Function::VarintGet => varint_get(self, &mut memory),
             Function::DecodeKey => decode_key(self, &mut memory),
+            Function::NextRows => next_rows(self, &mut memory),
         };
         match answer {
             Ok((code, key)) => Expected { code, memory, key },
@@ -271,6 +273,38 @@ fn next(call: &Call, memory: &mut [Vec<u8>]) -> Answer {
     memory[1] = cursor.key.bytes.to_vec();
     memory[3] = bytes_of(&row_words(&row));
     Ok((GOOD, Some((1, cursor.key.len))))
+}
+
+/// Steps while they find rows, each with what is left of the keys' buffer. A refusal, or "done", is the answer of the first alone.
+fn next_rows(call: &Call, memory: &mut [Vec<u8>]) -> Answer {
+    let mut cursor = cursor_of(&call.words(1), call.bytes(2)).ok_or(BAD_WORDS)?;
+    let most = call.words(4).len() / ROW_WORDS;
+    let (mut count, mut used, mut code) = (0, 0, GOOD);
+    while count < most {
+        let before = cursor.clone();
+        match cursor.next(call.bytes(0), &mut memory[2][used..]) {
+            Ok(Some(row)) => {
+                let words = bytes_of(&row_words(&row));
+                memory[3][count * words.len()..][..words.len()].copy_from_slice(&words);
+                used += row.shared + row.suffix_len;
+                count += 1;
+            }
+            Ok(None) if count == 0 => {
+                code = DONE;
+                break;
+            }
+            Err(refusal) if count == 0 => return Err(refusal),
+            _ => {
+                cursor = before;
+                break;
+            }
+        }
+    }
+    memory[0] = bytes_of(&cursor_words(&cursor));
+    memory[1] = cursor.key.bytes.to_vec();
+    memory[4] = bytes_of(&[count as u64]);
+    // with no row asked for the length is not tested
+    Ok((code, Some((1, cursor.key.len.min(KEY_LIMIT)))))
 }
 
 fn seek(call: &Call, memory: &mut [Vec<u8>]) -> Answer {

@@ -124,6 +124,9 @@ fn every_cursor(run: &mut Run, block: &[u8]) {
                 for out_len in [1, 2] {
                     cursor.clone().next(run, block, out_len);
                 }
+                for (keys_len, words) in [(0, 13), (1, 12), (3, 26), (5, 39), (9, 80)] {
+                    cursor.next_rows(run, block, keys_len, words);
+                }
                 cursor.is_empty(run, block);
             }
         }
@@ -188,6 +191,7 @@ fn accepted(run: &mut Run, block: &[u8], rows: usize, targets: &[Vec<u8>]) {
         reading::walk_accepted(run, "scan (Rust)", block, order, &rest);
         let limits: Vec<u64> = (0..=rows as u64 + 1).chain([u64::MAX]).collect();
         reading::walks_accepted(run, block, order, &limits);
+        reading::rows_in_short_buffers(run, block, order, rows, LONGEST_KEY * rows);
         for target in targets {
             let ops = [&[Op::Seek(target.clone())][..], &rest].concat();
             reading::walk_accepted(run, "seek (Rust)", block, order, &ops);

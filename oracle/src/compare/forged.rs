@@ -41,6 +41,8 @@ pub fn cursors(run: &mut Run, block: &[u8], starts: &[usize], targets: &[Vec<u8>
         if one_in(&mut run.rng, 6) {
             wrong_words(run, block, &cursor, out_len);
         } else {
+            let words = below(&mut run.rng, 60);
+            cursor.next_rows(run, block, 2 * out_len, words);
             cursor.apply(run, block, &op, out_len);
         }
     }
@@ -80,7 +82,8 @@ fn wrong_words(run: &mut Run, block: &[u8], cursor: &Arrays, out_len: usize) {
     let lent = |bytes: &[u8]| Arg::Written(bytes.to_vec());
     let args = vec![block.clone(), lent(&words), lent(&key), lent(&out), lent(&row)];
     run.call("words that are no state", Function::Next, args.clone());
-    run.call("words that are no state", Function::NextByValue, args);
+    run.call("words that are no state", Function::NextByValue, args.clone());
+    run.call("words that are no state", Function::NextRows, [&args[..], &[lent(&bytes_of(&[1]))]].concat());
     run.call("words that are no state", Function::Seek, vec![block.clone(), Arg::Read(out), lent(&words), lent(&key), lent(&bytes_of(&[1]))]);
     run.call("words that are no state", Function::IsEmpty, vec![block.clone(), Arg::Read(words.clone()), lent(&bytes_of(&[1]))]);
     let order = pick(&mut run.rng, &[0, 1, 2, any]);

@@ -61,6 +61,56 @@ impl Arrays {
         }
     }
 
+    /// Many rows in one call, and the same by one call a row, each with what is left of the keys' buffer: nothing may differ.
+    pub fn next_rows(&self, run: &mut Run, block: &[u8], keys_len: usize, rows_words: usize) {
+        let (keys, rows) = (run.pattern(keys_len), run.pattern(rows_words * 8));
+        let (keys_lent, rows_lent, count) = (Arg::Written(keys.clone()), Arg::Written(rows.clone()), Arg::Written(bytes_of(&[77])));
+        let lent = vec![Arg::Read(block.to_vec()), Arg::Written(self.cursor.clone()), Arg::Written(self.key.clone()), keys_lent, rows_lent, count];
+        let many = run.call("many rows in a call", Function::NextRows, lent);
+        let singly = self.rows_singly(run, block, keys, rows);
+        let kind = "many rows in a call, and one call a row";
+        // the carried key's bytes count as far as it goes
+        let carried = words_of(&singly.memory[0]).get(3).map_or(0, |&len| len as usize).min(self.key.len());
+        let settled = |answer: &Expected| {
+            let mut memory = answer.memory.clone();
+            memory[1].truncate(carried);
+            (answer.code, memory)
+        };
+        if settled(&many) == settled(&singly) {
+            run.tally.same(kind);
+        } else {
+            let asked = || format!("cursor {:?}, {keys_len} bytes of keys, {rows_words} words, block {}", words_of(&self.cursor), short_hex(block));
+            run.tally.differs(kind, block.len(), || format!("{}: {many:?}, singly {singly:?}", asked()));
+        }
+    }
+
+    fn rows_singly(&self, run: &mut Run, block: &[u8], mut keys: Vec<u8>, mut rows: Vec<u8>) -> Expected {
+        let (mut cursor, mut key) = (self.cursor.clone(), self.key.clone());
+        let (most, mut count, mut used, mut code) = (rows.len() / (13 * 8), 0, 0, GOOD);
+        while count < most && code == GOOD {
+            let row = run.pattern(13 * 8);
+            let lent = [&cursor, &key, &keys[used..].to_vec(), &row].map(|bytes| Arg::Written(bytes.clone()));
+            let step = run.call("step of many", Function::Next, [&[Arg::Read(block.to_vec())][..], &lent].concat());
+            code = step.code;
+            if code == GOOD {
+                (cursor, key) = (step.memory[0].clone(), step.memory[1].clone());
+                keys[used..].copy_from_slice(&step.memory[2]);
+                rows[count * 13 * 8..][..13 * 8].copy_from_slice(&step.memory[3]);
+                let words = words_of(&step.memory[3]);
+                used += (words[2] + words[4]) as usize;
+                count += 1;
+            } else if count > 0 {
+                code = GOOD;
+                break;
+            } else if code == DONE {
+                cursor = step.memory[0].clone();
+            }
+        }
+        let refused = !matches!(code, GOOD | DONE);
+        let count = bytes_of(&[if refused { 77 } else { count as u64 }]);
+        Expected { code, memory: vec![cursor, key, keys, rows, count], key: None }
+    }
+
     pub fn seek(&mut self, run: &mut Run, block: &[u8], target: &[u8]) -> Word {
         let args = vec![
             Arg::Read(block.to_vec()),
@@ -128,6 +178,17 @@ pub fn walk_accepted(run: &mut Run, kind: &'static str, block: &[u8], order: u64
     }
 }
 
+/// All rows of a block by many in a call, with buffers of every length up to enough for all.
+pub fn rows_in_short_buffers(run: &mut Run, block: &[u8], order: u64, rows: usize, key_bytes: usize) {
+    let Ok(cursor) = open(run, block, order) else { return };
+    for keys_len in 0..=key_bytes + 1 {
+        cursor.next_rows(run, block, keys_len, 13 * (rows + 1));
+    }
+    for words in (0..=rows + 1).flat_map(|rows| [13 * rows, 13 * rows + 12]) {
+        cursor.next_rows(run, block, key_bytes, words);
+    }
+}
+
 /// Both walks inside the library. They must answer alike: what the model answers once.
 pub fn walks(run: &mut Run, block: &[u8], order: u64, limit: u64) -> Expected {
     let sums = run.pattern(2 * 8);
@@ -174,6 +235,7 @@ pub fn walk_any(run: &mut Run, block: &[u8], order: u64, ops: &[Op], out_len: us
     };
     for op in ops {
         cursor.apply(run, block, op, out_len);
+        cursor.next_rows(run, block, 3 * out_len, 13 * 3 + 1);
     }
     walks(run, block, order, u64::MAX);
 }

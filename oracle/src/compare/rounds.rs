@@ -124,12 +124,26 @@ fn good_block(run: &mut Run, block: &[u8], keys: &[Vec<u8>]) {
         }
         let out_len = pick(&mut run.rng, &[0, 1, 2, 3, 4, 5, 1_023]);
         reading::walk_any(run, block, order, &mixed, out_len);
+        many_rows(run, block, order, keys);
     }
     if !accepted {
         let targets = targets(run, keys, 4);
         refused::compare(run, block, &targets);
     }
     forge(run, block, keys, 8);
+}
+
+/// Many rows in a call from the opening, and from where a seek lands: all of them, and as many as some buffers hold.
+fn many_rows(run: &mut Run, block: &[u8], order: u64, keys: &[Vec<u8>]) {
+    let Ok(mut cursor) = reading::open(run, block, order) else { return };
+    let all: usize = keys.iter().map(Vec::len).sum();
+    cursor.next_rows(run, block, all, 13 * (keys.len() + 1));
+    let target = inputs::target(&mut run.rng, keys);
+    cursor.seek(run, block, &target);
+    for _ in 0..3 {
+        let (keys_len, words) = (below(&mut run.rng, all + 2), below(&mut run.rng, 13 * (keys.len() + 2)));
+        cursor.next_rows(run, block, keys_len, words);
+    }
 }
 
 /// The places where the rows of a block start, as far as they can be read.

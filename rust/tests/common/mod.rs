@@ -39,3 +39,16 @@ pub fn walk(block: &[u8], order: IterationOrder) -> Result<Vec<RowEntry>, Refusa
     assert!(iterator.is_empty());
     Ok(rows)
 }
+
+/// By so many rows a call.
+pub fn walk_by(block: &[u8], order: IterationOrder, most: usize) -> Result<Vec<RowEntry>, Refusal> {
+    let mut iterator = BlockIteratorV2::new(block, order)?;
+    let mut rows = Vec::new();
+    loop {
+        let given = iterator.next_rows(most)?;
+        if given.is_empty() {
+            return Ok(rows);
+        }
+        rows.extend(given);
+    }
+}
