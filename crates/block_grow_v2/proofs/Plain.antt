@@ -3,7 +3,7 @@
 use Prim.Native.Nat.{ℕ, _+_, _-_, _≤_, _<_}
 use mathlib.Core.Path.{_≡_, refl, ap, sym, _∙_}
 use mathlib.Core.Bool.{Bool, true, false}
-use mathlib.Core.List.{List, [], _∷_, _++_, append-assoc}
+use mathlib.Core.List.{List, _++_, append-assoc}
 use native.Mathlib.Nat.{zero-add}
 use native.Mathlib.Omega.{arith}
 use lib.ListN.{length, take, drop, set, length-append, length-take, length-drop}
@@ -13,7 +13,7 @@ use Rattle.layout.specs.Block.{shareOf}
 use Rattle.layout.specs.Fixed.{big}
 use Rattle.layout.specs.Key.{Key}
 use Rattle.layout.specs.Place.{splice}
-use Rattle.layout.specs.Row.{Kind, value, tombstone, merge, Time, Absent, At, Fields, kept, present, flagsOf, timeBytes, rowBytes, lengthTests}
+use Rattle.layout.specs.Row.{Kind, value, tombstone, merge, Time, Absent, At, present, flagsOf, timeBytes, rowBytes, lengthTests}
 use Rattle.layout.specs.RowRead.{mayShare}
 use Rattle.layout.specs.Varint.{varint}
 use Rattle.layout.specs.Laws.Block.{shares-is}
