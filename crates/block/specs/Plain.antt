@@ -1,6 +1,7 @@
--- The trailer and a region as numbers alone: all 0 where they are refused, which no good one is. What these numbers tell; and one law for each exit of the code.
+-- The trailer and a region as numbers alone: all 0 where they are refused, which no good one is. What these
+-- numbers tell; and one law for each exit of the code.
 use Prim.Native.Nat.{ℕ, _+_, _-_, _*_, _≤_, _<_}
-use mathlib.Core.Path.{_≡_, refl, ap, sym, _∙_}
+use mathlib.Core.Path.{_≡_, ap, sym, _∙_}
 use mathlib.Core.Bool.{Bool, true, false, cond, not, _||_}
 use mathlib.Core.List.{List}
 use mathlib.Core.Logic.{⊎-elim}

@@ -343,9 +343,8 @@ fn put_moved(cursor: &mut [u64], row: &mut [u64], moved: Moved) -> u8
     }
 }
 
-// One step, in place: 254, 14, 18, then done, 15, 18, the row's, 19. Good gives the row, and its key to the start of `out`.
-#[no_mangle]
-pub extern "C" fn slatedb_next(
+// One step in place, of any row: what is left where it is not plain.
+fn next_words(
     block: &[u8],
     cursor: &mut [u64],
     key: &mut [u8],
@@ -366,6 +365,33 @@ pub extern "C" fn slatedb_next(
     };
     let moved = block_step_v2::next_in_place(key, p, block, out);
     put_moved(cursor, row, moved)
+}
+
+// One step, in place: 254, 14, 18, then done, 15, 18, the row's, 19. Good gives the row, and its key to the start of `out`.
+#[no_mangle]
+pub extern "C" fn slatedb_next(
+    block: &[u8],
+    cursor: &mut [u64],
+    key: &mut [u8],
+    out: &mut [u8],
+    row: &mut [u64],
+) -> u8
+    ensures { λ r. ⌜ StepsFlat (now (block .entry)) (now (cursor .entry)) (now (key .entry)) (now (out .entry)) (now (row .entry)) r (now (cursor .exit)) (now (key .exit)) (now (out .exit)) (now (row .exit)) ⌝ }
+{
+    // 254 before all else; so the lengths are known to the compiler where the plain step and the rest of the step are.
+    if row.len() != row_words::ROW_WORDS {
+        return block_words::BAD_WORDS;
+    }
+    if key.len() != types::MAX_KEY {
+        return block_words::BAD_WORDS;
+    }
+    if cursor.len() != block_words::CURSOR_WORDS {
+        return block_words::BAD_WORDS;
+    }
+    if words_plain::plain_next(block, cursor, key, out, row) {
+        return block_words::GOOD;
+    }
+    next_words(block, cursor, key, out, row)
 }
 
 // Many steps, in place, as many as `rows` has whole rows' words for: 254, then what the first step answers, unless it finds a row. Good gives `count` rows, their

@@ -1,5 +1,6 @@
--- Copies that overlap: what is written twice is written once. A suffix of up to 16 bytes is two copies of a power of two, or three of one byte; and a key
--- is the first 16 bytes of the one before it with the suffix over them.
+-- Copies that overlap: what is written twice is written once. A suffix of up to 16 bytes is two copies of a
+-- power of two, or three of one byte; and a key is the first 16 bytes of the one before it with the suffix
+-- over them.
 use Prim.Native.Nat.{ℕ, _+_, _-_, _≤_}
 use mathlib.Core.Path.{_≡_, ap, sym, _∙_}
 use mathlib.Core.Bool.{false, _||_}

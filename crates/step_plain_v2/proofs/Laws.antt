@@ -1,4 +1,5 @@
--- When a step is plain, one law for each exit of the look; what a plain step stands on; and that it is the rules' own step, with the key carried and given.
+-- When a step is plain, one law for each exit of the look; what a plain step stands on; and that it is the
+-- rules' own step, with the key carried and given.
 use Prim.Native.Nat.{ℕ, _+_, _-_, _*_, _≤_, _<_}
 use mathlib.Core.Path.{_≡_, refl, ap, sym, _∙_, subst}
 use mathlib.Core.Bool.{Bool, true, false, cond, not, _||_}
@@ -28,7 +29,7 @@ use Rattle.block.specs.Plain.{regionOr, regionBy, region-is, regionBy-tells}
 use Rattle.step_plain_v2.specs.declared.Ahead.{Ahead}
 use Rattle.step_plain_v2.specs.declared.Stepped.{Stepped}
 use Rattle.step_plain_v2.specs.Ahead.{noAhead, aheadWith, aheadAt, ascends, plainStep, noStep, steppedOf, steppedTo, rowMade, Moved}
-use Rattle.step_plain_v2.specs.Promise.{KeyMoved, Goes}
+use Rattle.step_plain_v2.specs.Promise.{Goes}
 use Rattle.step_plain_v2.proofs.Copies.{part-length}
 
 shares : (t : Bool) (n : ℕ) → cond t 0 n ≡ mayShare t n

@@ -1,4 +1,5 @@
--- When a step is plain: the cursor stands in its region, before a plain row, and the lent buffer holds the row's key. What that row is, as numbers: all 0 where it is not so.
+-- When a step is plain: the cursor stands in its region, before a plain row, and the lent buffer holds the
+-- row's key. What that row is, as numbers: all 0 where it is not so.
 use Prim.Native.Nat.{ℕ, _+_}
 use mathlib.Core.Path.{_≡_}
 use mathlib.Core.Bool.{false, cond, not, _||_}

@@ -1,5 +1,5 @@
--- The promise admits one outcome: two results, with the key bytes and the buffers that they leave, that both keep it are equal; but for the key bytes past the
--- length of the key that a moved cursor carries.
+-- The promise admits one outcome: two results, with the key bytes and the buffers that they leave, that both
+-- keep it are equal; but for the key bytes past the length of the key that a moved cursor carries.
 use Prim.Native.Nat.{ℕ}
 use mathlib.Core.Path.{_≡_, sym, _∙_}
 use mathlib.Core.List.{List}

@@ -1,5 +1,5 @@
--- What the step promises: equations to the definitions, that settle each number answered and each byte lent; but for the key bytes past the length of the key
--- that a moved cursor carries.
+-- What the step promises: equations to the definitions, that settle each number answered and each byte lent;
+-- but for the key bytes past the length of the key that a moved cursor carries.
 use Prim.Native.Nat.{ℕ}
 use mathlib.Core.Path.{_≡_}
 use mathlib.Core.List.{List}

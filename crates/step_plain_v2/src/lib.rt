@@ -1,6 +1,7 @@
-// One step of an ascending cursor past a plain row, by numbers alone: no enum is made, and the key goes from the block to where it is carried and to the
-// lent buffer at once. What is not plain is not stepped past here, and nothing is written then.
-// Follows slatedb 0.16.0, `advance` of src/block_iterator_v2.rs (Apache License 2.0), for the rows that most rows are.
+// One step of an ascending cursor past a plain row, by numbers alone: no enum is made, and the key goes from
+// the block to where it is carried and to the lent buffer at once. What is not plain is not stepped past
+// here, and nothing is written then. Follows slatedb 0.16.0, src/block_iterator_v2.rs (Apache License 2.0),
+// for the rows that most rows are.
 ghost use mathlib.Core.Bool.{cond};
 ghost use mathlib.Core.Path.{_≡_};
 ghost use Prim.Native.Nat.{_≤_, _<_, _+_};
@@ -10,7 +11,8 @@ ghost use Rattle.layout.specs.Place.{splice};
 ghost use Rattle.step_plain_v2.specs.Ahead.{noAhead, aheadAt, noStep, Moved};
 ghost use Rattle.step_plain_v2.specs.Promise.{StepsPlain};
 
-// A step that was made: where the cursor stands then, and the row's numbers. `next` is 0, as all are, where none was.
+// A step that was made: where the cursor stands then, and the row's numbers. `next` is 0, as all are, where
+// none was.
 pub struct Stepped {
     pub region: usize,
     pub key_len: usize,
@@ -21,7 +23,8 @@ pub struct Stepped {
     pub seq: u64,
 }
 
-// The plain row that a cursor stands before, and the last position in its region; all 0 where it is not plain.
+// The plain row that a cursor stands before, and the last position in its region; all 0 where it is not
+// plain.
 struct Ahead {
     next: usize,
     reach: usize,
@@ -63,7 +66,8 @@ fn pick(first: bool, a: usize, b: usize) -> usize
     if first { a } else { b }
 }
 
-// All that the step tests, with nothing written. A region that is refused ends at 0; that is tested by itself, so that the compiler knows its numbers after it.
+// All that the step tests, with nothing written. A region that is refused ends at 0; that is tested by
+// itself, so that the compiler knows its numbers after it.
 fn look_plain(
     block: &[u8],
     region: usize,
@@ -199,8 +203,9 @@ fn put_both(key: &mut [u8], out: &mut [u8], at: usize, src: &[u8], from: usize, 
     copy_ones(key, at, src, from, n);
 }
 
-// Puts the `n` bytes of the suffix over the carried key, and gives the key that it carries then. Bytes that were just stored are not loaded again: of a key
-// of 16 bytes or more `out` has the first 16 that were carried, and the suffix over them.
+// Puts the `n` bytes of the suffix over the carried key, and gives the key that it carries then. Bytes that
+// were just stored are not loaded again: of a key of 16 bytes or more `out` has the first 16 that were
+// carried, and the suffix over them.
 fn carry(key: &mut [u8], out: &mut [u8], block: &[u8], shared: usize, from: usize, n: usize)
     requires { ⌜ (shared + n ≤ length (now key)) × (shared + n ≤ length (now out)) × (from + n ≤ length (now block)) ⌝ }
     ensures { λ _. ⌜ Moved (now (key .entry)) (now (out .entry)) shared (take n (drop from (now (block .entry)))) (now (key .exit)) (now (out .exit)) ⌝ }
@@ -238,7 +243,8 @@ fn four(s: &[u8], at: usize) -> u64
     ((a * 256 + b) * 256 + c) * 256 + d
 }
 
-// One step past a plain row, of an ascending cursor that is not marked. Its key's bytes are lent, 1,024 of them.
+// One step past a plain row, of an ascending cursor that is not marked. Its key's bytes are lent, 1,024 of
+// them.
 pub fn plain_step(
     key: &mut [u8],
     region: usize,

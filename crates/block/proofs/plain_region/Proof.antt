@@ -1,5 +1,6 @@
--- `plain_region` keeps its promise for any numbers: all 0 where they are not this block's or there is no such region, else `region_in`'s answer.
--- The joined test is the definition's two; what it tells is what `region_in` requires.
+-- `plain_region` keeps its promise for any numbers: all 0 where they are not this block's or there is no such
+-- region, else `region_in`'s answer. The joined test is the definition's two; what it tells is what
+-- `region_in` requires.
 use mathlib.Core.Path.{ap, _∙_}
 use Rattle.block.specs.Plain.{regionOr, region-odd, region-known, region-even}
 use borrow.Author.Needs.{needs}

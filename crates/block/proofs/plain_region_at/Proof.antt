@@ -1,5 +1,6 @@
--- `plain_region_at` keeps its promise: all 0 where the trailer or the region is refused, else `region_in`'s answer for the trailer that was read.
--- The joined test is the definition's once the count that was read is the definition's; it is also true for a count of 0.
+-- `plain_region_at` keeps its promise: all 0 where the trailer or the region is refused, else `region_in`'s
+-- answer for the trailer that was read. The joined test is the definition's once the count that was read is
+-- the definition's; it is also true for a count of 0.
 use mathlib.Core.Path.{ap, _∙_}
 use native.Mathlib.Omega.{arith}
 use Rattle.block.specs.Plain.{regionOr, by-short, by-bad, by-inside, by-fine}

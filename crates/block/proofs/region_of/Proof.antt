@@ -1,5 +1,6 @@
--- `region_of` keeps its promise for any numbers: 14 where they are not this block's, 18 where there is no such region, else what `region_in`'s numbers tell.
--- The two tests are the definition's; what they tell is what `region_in` requires. An end of 0 is that of a refused region, and then it is 15.
+-- `region_of` keeps its promise for any numbers: 14 where they are not this block's, 18 where there is no
+-- such region, else what `region_in`'s numbers tell. The two tests are the definition's; what they tell is
+-- what `region_in` requires. An end of 0 is that of a refused region, and then it is 15.
 use mathlib.Core.Path.{sym, _∙_}
 use Rattle.block.specs.Laws.{belongs-is, region-strange, region-beyond, region-there}
 use Rattle.block.specs.Plain.{region-is, region-not}

@@ -1,4 +1,5 @@
--- `trailer_of` keeps its promise: a count of 0 is that of a refused trailer, and then it is 14; else the numbers are the trailer's.
+-- `trailer_of` keeps its promise: a count of 0 is that of a refused trailer, and then it is 14; else the
+-- numbers are the trailer's.
 use mathlib.Core.Path.{sym}
 use native.Mathlib.Omega.{arith}
 use Rattle.block.specs.Plain.{trailer-is, trailer-not}

@@ -1,4 +1,5 @@
--- `carry` keeps its promise: by two copies of the whole, or, of a key of 16 bytes or more, by the carried bytes and the suffix over them (`given-over`).
+-- `carry` keeps its promise: by two copies of the whole, or, of a key of 16 bytes or more, by the carried
+-- bytes and the suffix over them (`given-over`).
 use Prim.Native.Nat.{_+_, _≤_}
 use mathlib.Core.Path.{sym}
 use native.Mathlib.Omega.{arith}

@@ -1,4 +1,5 @@
--- `copy_4` keeps its promise: four bytes of `src`, from `from` on, at `at`. All are read before the first store, and four stores in a row are one write (`all-copied`).
+-- `copy_4` keeps its promise: four bytes of `src`, from `from` on, at `at`. All are read before the first
+-- store, and four stores in a row are one write (`all-copied`).
 use native.Mathlib.Omega.{arith}
 use lib.ListN.{length-set}
 use Rattle.buf_mut.proofs.Copies.{all-copied}

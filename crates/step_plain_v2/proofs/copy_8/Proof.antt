@@ -1,4 +1,5 @@
--- `copy_8` keeps its promise: eight bytes of `src`, from `from` on, at `at`. All are read before the first store, and eight stores in a row are one write (`all-copied`).
+-- `copy_8` keeps its promise: eight bytes of `src`, from `from` on, at `at`. All are read before the first
+-- store, and eight stores in a row are one write (`all-copied`).
 use native.Mathlib.Omega.{arith}
 use lib.ListN.{length-set}
 use Rattle.buf_mut.proofs.Copies.{all-copied}

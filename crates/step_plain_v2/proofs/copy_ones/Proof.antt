@@ -1,4 +1,5 @@
--- `copy_ones` keeps its promise: of one, two or three bytes the first, the one in the middle and the last are all (`parts`, twice).
+-- `copy_ones` keeps its promise: of one, two or three bytes the first, the one in the middle and the last are
+-- all (`parts`, twice).
 use native.Mathlib.Omega.{arith}
 use mathlib.Core.Path.{_≡_}
 use Prim.Native.Nat.{_+_, _-_, _/_}

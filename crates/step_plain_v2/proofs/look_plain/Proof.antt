@@ -1,5 +1,6 @@
 -- `look_plain` keeps its promise: one law of the definition for each exit.
--- A region that is good ends inside the block, and a plain row's lengths are small, so that no slice and no sum fails.
+-- A region that is good ends inside the block, and a plain row's lengths are small, so that no slice and no
+-- sum fails.
 use mathlib.Core.Path.{sym, _∙_}
 use native.Mathlib.Omega.{arith}
 use lib.Seq.{length-take-le}

@@ -1,5 +1,5 @@
--- `plain_step` keeps its promise: no step where the look finds none, else the rules' own step, with the key carried and given.
--- What the look found tells that no sum fails and that all places are inside the block.
+-- `plain_step` keeps its promise: no step where the look finds none, else the rules' own step, with the key
+-- carried and given. What the look found tells that no sum fails and that all places are inside the block.
 use native.Mathlib.Omega.{arith}
 use lib.ListN.{length}
 use Rattle.step_plain_v2.proofs.Laws.{Numbers, standing, numbers, step-not, step-goes}

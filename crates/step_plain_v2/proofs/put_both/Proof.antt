@@ -1,4 +1,5 @@
--- `put_both` keeps its promise: in each branch one copy to each buffer, of all bytes; of none nothing is written.
+-- `put_both` keeps its promise: in each branch one copy to each buffer, of all bytes; of none nothing is
+-- written.
 use Rattle.step_plain_v2.proofs.Copies.{put-none}
 use borrow.Author.Needs.{needs}
 use Rattle.step_plain_v2.proofs.put_both.Statement.{statement}
