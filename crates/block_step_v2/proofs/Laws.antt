@@ -14,11 +14,12 @@ use Rattle.layout.specs.Place.{splice}
 use Rattle.layout.specs.Key.{Key}
 use Rattle.layout.specs.RowRead.{RowRead, keyOf}
 use Rattle.layout.specs.Trailer.{Trailer, dataOf, offsetAt, Region, regionOf}
-use Rattle.layout.specs.Cursor.{ascending, Cursor, cursorIs, marked, found, done, Step, stepIs, stepUp, Keyed, backPast, stepBackIn, stepDown}
+use Rattle.layout.specs.Cursor.{Direction, ascending, Cursor, cursorIs, marked, found, done, Step, stepIs, stepUp, Keyed, backPast, stepBackIn, stepDown, next}
 use Rattle.layout.specs.Laws.Carry.{Carries, read-carried, keyOf-length, suffixOf, key-new, carries-on}
 use Rattle.layout.specs.Laws.Trailer.{regionOf-tells}
 use Rattle.types.specs.Answers.{yes}
 use Rattle.types.specs.Number.{number}
+use Rattle.types.specs.Says.{saysOrder}
 use Rattle.types.specs.declared.Refusal.{Refusal}
 use Rattle.row_decode_v2.specs.Says.{rowFrom}
 use Rattle.row_decode_v2.specs.declared.Row.{Row}
@@ -36,8 +37,10 @@ use Rattle.block_step_v2.specs.declared.Ahead.{Ahead}
 use Rattle.block_step_v2.specs.declared.Ahead.the-variants.{At, End, Refused as AheadRefused}
 use Rattle.block_step_v2.specs.declared.Behind.{Behind}
 use Rattle.block_step_v2.specs.declared.Behind.the-variants.{In, Start, Refused as BehindRefused}
+use Rattle.block_step_v2.specs.declared.Standing.{Standing}
+use Rattle.block_step_v2.specs.Lent.{nextIn, lent-other, lent-whole}
 use Rattle.block_step_v2.specs.Says.{viewIn, row}
-use Rattle.block_step_v2.specs.Parts.{refusalOfEnded, finished, Stands, passed, saysAhead, Fits, Ready, LooksAhead, saysBehind, Before, LooksBehind}
+use Rattle.block_step_v2.specs.Parts.{refusalOfEnded, finished, Stands, Going, StandsAs, passed, saysAhead, Fits, Ready, LooksAhead, saysBehind, Before, LooksBehind}
 use Rattle.block_step_v2.specs.Promise.{Moves}
 
 -- ---- a step
@@ -58,6 +61,22 @@ module _ (want : Res Step) (p : Place) (key out : List ℕ) where
 
   pub moves-as : {w : Res Step} {r : Moved} {key′ out′ : List ℕ} → want ≡ w → Moves w p key out r key′ out′ → Moves want p key out r key′ out′
   moves-as e s = rw e s
+
+-- ---- before the direction matters
+
+module _ (p : Place) (held : ℕ) (b : List ℕ) where
+  pub stand-other : (held ≡ maxKey → ⊥) → (k : List ℕ) (room : ℕ) → length k ≡ held → nextIn p k b room ≡ refuse 18
+  stand-other h k room e = lent-other p k b room (λ q. h (sym e ∙ q))
+
+  pub stand-as : held ≡ maxKey → {w : List ℕ → ℕ → Res Step} → ((k : List ℕ) (room : ℕ) → next (viewIn p k) b room ≡ w k room) → (k : List ℕ) (room : ℕ) → length k ≡ held → nextIn p k b room ≡ w k room
+  stand-as h f k room e = lent-whole p k b room (e ∙ h) (f k room)
+
+  -- the look's answer is the case y
+  pub stand-said : {a y : Standing} → StandsAs p held b a → a ≡ y → StandsAs p held b y
+  stand-said l e = subst (StandsAs p held b) e l
+
+pub heads-on : (p : Place) (b : List ℕ) {d : Direction} {t : Trailer} → Going p b t → saysOrder (p .order) ≡ d → Stands d p b t
+heads-on p b g h = record { read = g .read; inside = g .inside; few = g .few; unmarked = g .unmarked; heads = h }
 
 -- ---- what the two looks find
 

@@ -4,6 +4,7 @@ use mathlib.Core.Bool.{true, false}
 use mathlib.Core.List.{List}
 use mathlib.Core.Path.{_≡_}
 use lib.Dec.{eqb}
+use lib.ListN.{length}
 use Rattle.layout.specs.Answer.{Res, ok, refuse}
 use Rattle.layout.specs.Limits.{maxKey}
 use Rattle.layout.specs.RowRead.{RowRead as RowReadL, readRow, keyLength, keyOf}
@@ -14,7 +15,7 @@ use Rattle.types.specs.Says.{saysOrder}
 use Rattle.types.specs.declared.Refusal.{Refusal}
 use Rattle.types.specs.declared.Refusal.the-variants.{BadState}
 use Rattle.row_decode_v2.specs.Says.{rowFrom}
-use Rattle.block.specs.Says.{regionFrom}
+use Rattle.block.specs.Says.{trailerFrom, regionFrom}
 use Rattle.block_regions_v2.specs.declared.Ended.{Ended}
 use Rattle.block_regions_v2.specs.declared.Ended.the-variants.{Row as EndedRow, Refused as EndedRefused}
 use Rattle.block_step_v2.specs.declared.Place.{Place}
@@ -24,6 +25,9 @@ use Rattle.block_step_v2.specs.declared.Ahead.{Ahead}
 use Rattle.block_step_v2.specs.declared.Ahead.the-variants.{At, End, Refused as AheadRefused}
 use Rattle.block_step_v2.specs.declared.Behind.{Behind}
 use Rattle.block_step_v2.specs.declared.Behind.the-variants.{In, Start, Refused as BehindRefused}
+use Rattle.block_step_v2.specs.declared.Standing.{Standing}
+use Rattle.block_step_v2.specs.declared.Standing.the-variants.{Goes, Over, Refused as StandingRefused}
+use Rattle.block_step_v2.specs.Lent.{nextIn}
 use Rattle.block_step_v2.specs.Says.{viewIn}
 
 -- ---- the refusal that an answer hands on: where an answer is none, it does not matter which
@@ -45,6 +49,19 @@ pub record Stands (d : Direction) (p : Place) (b : List ℕ) (t : TrailerL) : Ty
   pub few : p .«key_len» ≤ maxKey
   pub unmarked : p .done ≡ false
   pub heads : saysOrder (p .order) ≡ d
+
+-- the same before its direction matters
+pub record Going (p : Place) (b : List ℕ) (t : TrailerL) : Type 0 where
+  pub read : trailerOf b ≡ ok t
+  pub inside : p .region < t .count
+  pub few : p .«key_len» ≤ maxKey
+  pub unmarked : p .done ≡ false
+
+-- of any key bytes, as many as are lent
+abbrev pub StandsAs : Place → ℕ → List ℕ → Standing → Type 0
+StandsAs p held b (Goes t) = (held ≡ maxKey) × Going p b (trailerFrom t)
+StandsAs p held b Over = (k : List ℕ) (room : ℕ) → length k ≡ held → nextIn p k b room ≡ ok (stepIs (viewIn p k) done)
+StandsAs p held b (StandingRefused r) = (k : List ℕ) (room : ℕ) → length k ≡ held → nextIn p k b room ≡ refuse (number r)
 
 -- ---- ascending: the row that comes next, whatever the bytes of the key are
 

@@ -12,34 +12,42 @@ ghost use Rattle.layout.specs.Laws.Carry.{suffixOf};
 ghost use Rattle.layout.specs.Limits.{maxKey};
 ghost use Rattle.layout.specs.Place.{splice};
 ghost use Rattle.layout.specs.Trailer.{trailerOf, dataOf};
+ghost use Rattle.types.specs.Says.{saysOrder};
 ghost use Rattle.row_decode_v2.specs.Says.{rowFrom};
 ghost use Rattle.block.specs.Says.{trailerFrom, regionFrom};
 ghost use Rattle.block_step_v2.specs.Says.{viewIn};
-ghost use Rattle.block_step_v2.specs.Parts.{refusalOfEnded, finished, Stands, passed, Fits, LooksAhead, LooksBehind};
+ghost use Rattle.block_step_v2.specs.Parts.{refusalOfEnded, finished, Stands, StandsAs, passed, Fits, LooksAhead, LooksBehind};
 ghost use Rattle.block_step_v2.specs.Promise.{Moves, StepsInPlace};
 use block::Region;
 use block::RegionRead;
 use block::Trailer;
-use block::TrailerRead;
 use block_regions_v2::Ended;
 use row_decode_v2::Row;
 use row_decode_v2::RowRead;
 use types::IterationOrder;
 use types::Refusal;
 
-// A cursor without the bytes of its key: those stay where they are.
+// A cursor without the bytes of its key: those stay where they are. The numbers that change from step to step do not stand side by side, so that none is loaded
+// in one with another that was stored apart.
 pub struct Place {
-    pub order: IterationOrder,
     pub region: usize,
+    pub order: IterationOrder,
     pub at: usize,
-    pub key_len: usize,
     pub done: bool,
+    pub key_len: usize,
 }
 
 // What a step answers, with the place past the row. A refusal moves nothing.
 pub enum Moved {
     Found { place: Place, row: Row },
     Done(Place),
+    Refused(Refusal),
+}
+
+// What a step finds before its direction matters: the trailer that it goes on with, or that the cursor is marked.
+enum Standing {
+    Goes(Trailer),
+    Over,
     Refused(Refusal),
 }
 
@@ -238,30 +246,63 @@ fn next_descending(p: Place, block: &[u8], t: Trailer, out: &mut [u8]) -> Moved
     }
 }
 
+// ---- one step
+
+// What is tested before the direction matters: that the lent key bytes are 1,024 (18), the trailer (14), the region number and the key's length (18), the mark.
+fn stand(held: usize, p: Place, block: &[u8]) -> Standing
+    ensures { λ r. ⌜ StandsAs p held (now (block .entry)) r ⌝ }
+{
+    if held != types::MAX_KEY {
+        return Standing::Refused(Refusal::BadState);
+    }
+    let t = block::plain_trailer(block);
+    if t.count == 0 {
+        return Standing::Refused(Refusal::BadTrailer);
+    }
+    if t.count <= p.region {
+        return Standing::Refused(Refusal::BadState);
+    }
+    if types::MAX_KEY < p.key_len {
+        return Standing::Refused(Refusal::BadState);
+    }
+    if p.done {
+        return Standing::Over;
+    }
+    Standing::Goes(t)
+}
+
+fn up_in_place(key: &mut [u8], p: Place, block: &[u8], out: &mut [u8]) -> Moved
+    requires { ⌜ saysOrder (p .order) ≡ ascending ⌝ }
+    ensures { λ r. ⌜ StepsInPlace p (now (key .entry)) (now (block .entry)) (now (out .entry)) r (now (key .exit)) (now (out .exit)) ⌝ }
+{
+    let standing = stand(key.len(), p, block);
+    match standing {
+        Standing::Goes(t) => next_ascending(key, p, block, t, out),
+        Standing::Over => Moved::Done(p),
+        Standing::Refused(refusal) => Moved::Refused(refusal),
+    }
+}
+
+fn down_in_place(held: usize, p: Place, block: &[u8], out: &mut [u8]) -> Moved
+    requires { ⌜ saysOrder (p .order) ≡ descending ⌝ }
+    ensures { λ r. ⌜ ((k : List ℕ) → length k ≡ held → StepsInPlace p k (now (block .entry)) (now (out .entry)) r k (now (out .exit))) ⌝ }
+{
+    let standing = stand(held, p, block);
+    match standing {
+        Standing::Goes(t) => next_descending(p, block, t, out),
+        Standing::Over => Moved::Done(p),
+        Standing::Refused(refusal) => Moved::Refused(refusal),
+    }
+}
+
 // One step, over a cursor whose key bytes are lent. Tested in this order: that they are 1,024 (18), the trailer (14), the region number and the key's length
 // (18), the mark, then what the step's direction asks for. All tests come before the first write.
 pub fn next_in_place(key: &mut [u8], p: Place, block: &[u8], out: &mut [u8]) -> Moved
     ensures { λ r. ⌜ StepsInPlace p (now (key .entry)) (now (block .entry)) (now (out .entry)) r (now (key .exit)) (now (out .exit)) ⌝ }
 {
-    if key.len() != types::MAX_KEY {
-        return Moved::Refused(Refusal::BadState);
-    }
-    let read = block::trailer_of(block);
-    let TrailerRead::Good(t) = read else {
-        return Moved::Refused(block::trailer_refusal(read));
-    };
-    if t.count <= p.region {
-        return Moved::Refused(Refusal::BadState);
-    }
-    if types::MAX_KEY < p.key_len {
-        return Moved::Refused(Refusal::BadState);
-    }
-    if p.done {
-        return Moved::Done(p);
-    }
     let order = p.order;
     match order {
-        IterationOrder::Ascending => next_ascending(key, p, block, t, out),
-        IterationOrder::Descending => next_descending(p, block, t, out),
+        IterationOrder::Ascending => up_in_place(key, p, block, out),
+        IterationOrder::Descending => down_in_place(key.len(), p, block, out),
     }
 }
