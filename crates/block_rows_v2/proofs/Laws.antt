@@ -4,8 +4,10 @@ use Prim.Native.Nat.{ℕ, _+_, _-_, _*_, _<_, _≤_}
 use mathlib.Core.Path.{_≡_, refl, ap, ap₂, sym, _∙_}
 use mathlib.Core.Bool.{Bool, true, false, cond}
 use mathlib.Core.List.{List, [], _∷_, append-nil}
+use mathlib.Core.Logic.{⊎-elim}
 use native.Mathlib.Nat.{add-zero}
 use native.Mathlib.Omega.{arith}
+use lib.Dec.{eqb}
 use lib.ListN.{length, take, drop-of-length-le}
 use lib.Seq.{length-take-le}
 use borrow.Author.Tests.{eq-eqb, ne-eqb}
@@ -16,7 +18,7 @@ use Rattle.layout.specs.Place.{splice}
 use Rattle.layout.specs.Row.{Time, Absent, At}
 use Rattle.layout.specs.RowRead.{Held, holds, gone, merges, RowRead, keyLength}
 use Rattle.layout.specs.Cursor.{Cursor, done, Step, stepIs, Keyed, next}
-use Rattle.layout.specs.Laws.Answer.{ok-inj}
+use Rattle.layout.specs.Laws.Answer.{ok-inj, ltb-cases, eqb-cases}
 use Rattle.layout.specs.Laws.Splice.{Wrote, wrote-rest, splice-lent, splice-none}
 use Rattle.types.specs.Answers.{apart}
 use Rattle.types.specs.Number.{number}
@@ -32,7 +34,7 @@ use Rattle.region_rows_v2.specs.StepKey.{next-given}
 use Rattle.block_rows_v2.specs.declared.Gave.{Gave}
 use Rattle.block_rows_v2.specs.declared.Gave.the-variants.{Rows, Refused}
 use Rattle.block_rows_v2.specs.Rows.{Run, runIs, nextRows, keysOf, wordsOf}
-use Rattle.block_rows_v2.specs.Chain.{Gone, gone-more, gone-full, gone-stop, gone-first, Stops, rows-refused, rows-done}
+use Rattle.block_rows_v2.specs.Chain.{Gone, gone-more, gone-full, gone-stop, gone-first, Stops, stops-refused, stops-done, rows-refused, rows-done}
 use Rattle.block_rows_v2.specs.Promise.{RowsAs, mostRows, RowsFlat}
 use Rattle.block_rows_v2.specs.Says.{End, endIs, Gives, PutsGave}
 
@@ -78,6 +80,10 @@ gives-rows : {want : Res Run} {o : Bool} {c : Cursor} {ks : List Keyed} (key key
     → n ≡ length ks → keys′ ≡ splice keys 0 (keysOf ks) → rows′ ≡ splice rows 0 (wordsOf ks) → Gives want key keys rows (Rows o p n) key′ keys′ rows′
 gives-rows {o = o} key keys rows e v m k w = rw e (record { answer = ap₂ (λ (x : Cursor) (y : ℕ). ok (endIs o x y)) v m; whole = tt; keys-given = k; row-words = w })
 
+-- a key that is found fits what is left
+pub key-fits : (used : ℕ) (keys : List ℕ) → used ≤ length keys → {b : List ℕ} {c d : Cursor} {r : RowRead} {out′ : List ℕ} → Finds b c d r (midOf used (length keys - used) keys) out′ → used + keyLength r ≤ length keys
+key-fits used keys h f = omega (arith, f .well .held, mid-len used (length keys) keys (omega arith))
+
 -- ---- a turn of the loop: the row that was found, with its key and its words
 
 module _ {b keys₀ rows₀ : List ℕ} {c₀ c : Cursor} {keys rows : List ℕ} {used n : ℕ} (g : Gone b keys₀ rows₀ c₀ c keys rows used n) (long : length keys ≡ length keys₀) (inside : used ≤ length keys) where
@@ -88,45 +94,50 @@ module _ {b keys₀ rows₀ : List ℕ} {c₀ c : Cursor} {keys rows : List ℕ}
   rest-long = mid-len used (length keys) keys (omega arith) ∙ omega arith
 
   module _ {d : Cursor} {r : RowRead} {out′ : List ℕ} (f : Finds b c d r rest out′) where
-    pub key-fits : used + keyLength r ≤ length keys
-    key-fits = omega (arith, f .well .held, rest-long)
-
     pub turn : {rows′ : List ℕ} → Wrote rows (n * rowCount) (rowWords r) rows′ ((n + 1) * rowCount)
         → Gone b keys₀ rows₀ c₀ d (putMid used (length keys - used) keys out′) rows′ (used + keyLength r) (n + 1)
     turn v =
         gone-more g (length rest) d r (f .key) rest-long (f .is)
-        (wrote-rest keys used (used + keyLength r) (f .key) out′ (omega (arith, key-fits, f .well .whole)) (omega (arith, f .well .whole)) (f .lent)) v
+        (wrote-rest keys used (used + keyLength r) (f .key) out′ (omega (arith, key-fits used keys inside f, f .well .whole)) (omega (arith, f .well .whole)) (f .lent)) v
 
   -- ---- the exits: the rows so far; or, with none yet, what the first step answers
 
-  module _ (most : ℕ) (key : List ℕ) {out′ : List ℕ} (o : out′ ≡ rest) where
-    back : putMid used (length keys - used) keys out′ ≡ keys
-    back = ap (putMid used (length keys - used) keys) o ∙ put-same used (length keys - used) keys
+  pub back : {out′ : List ℕ} → out′ ≡ rest → putMid used (length keys - used) keys out′ ≡ keys
+  back o = ap (putMid used (length keys - used) keys) o ∙ put-same used (length keys - used) keys
 
-    pub stopped : {p : Place} {key′ : List ℕ} → n < most → (n ≡ 0 → ⊥) → Stops c b (length rest) → viewIn p key′ ≡ c
-        → Gives (nextRows most c₀ b (length keys₀)) key keys₀ rows₀ (Rows false p n) key′ (putMid used (length keys - used) keys out′) rows
-    stopped h some stop v = gives-rows key keys₀ rows₀ (gone-stop g most (length rest) h some rest-long stop) v (g .many) (back ∙ g .keys-are .is) (g .rows-are .is)
+  module _ (most : ℕ) (key : List ℕ) {keys′ : List ℕ} (same : keys′ ≡ keys) (few : n ≤ most) (some : 0 < most) where
+    so-far : {p : Place} {key′ : List ℕ} → (n ≡ 0 → ⊥) → Stops c b (length rest) → viewIn p key′ ≡ c → Gives (nextRows most c₀ b (length keys₀)) key keys₀ rows₀ (Rows false p n) key′ keys′ rows
+    so-far z stop v = gives-rows key keys₀ rows₀ (⊎-elim (λ t. gone-stop g most (length rest) (t .1) z rest-long stop) (λ t. gone-full g most (omega (arith, t .1))) (ltb-cases n most)) v (g .many) (same ∙ g .keys-are .is) (g .rows-are .is)
 
-    module _ (z : n ≡ 0) (h : n < most) where
+    module _ (z : n ≡ 0) where
       first : (c ≡ c₀) × (keys ≡ keys₀) × (rows ≡ rows₀) × (used ≡ 0)
       first = gone-first g z
 
       from : {w : Res Step} → next c b (length rest) ≡ w → next c₀ b (length keys₀) ≡ w
       from e =
-          let same : length rest ≡ length keys₀ = omega (arith, rest-long, first .3) in
-          rw (← first .0, ← same) e
+          let long : length rest ≡ length keys₀ = omega (arith, rest-long, first .3) in
+          rw (← first .0, ← long) e
 
-      pub first-done : {q : Place} {key′ : List ℕ} → next c b (length rest) ≡ ok (stepIs (viewIn q key′) done)
-          → Gives (nextRows most c₀ b (length keys₀)) key keys₀ rows₀ (Rows true q 0) key′ (putMid used (length keys - used) keys out′) rows
+      first-done : {q : Place} {key′ : List ℕ} → next c b (length rest) ≡ ok (stepIs (viewIn q key′) done) → Gives (nextRows most c₀ b (length keys₀)) key keys₀ rows₀ (Rows true q 0) key′ keys′ rows
       first-done e =
-          gives-rows key keys₀ rows₀ (rows-done c₀ b (length keys₀) most (omega arith) (from e)) refl refl
-          (back ∙ first .1 ∙ sym (splice-none keys₀ 0)) (first .2 ∙ sym (splice-none rows₀ 0))
+          gives-rows key keys₀ rows₀ (rows-done c₀ b (length keys₀) most some (from e)) refl refl
+          (same ∙ first .1 ∙ sym (splice-none keys₀ 0)) (first .2 ∙ sym (splice-none rows₀ 0))
 
-      pub first-refused : {x : Refusal} {key′ : List ℕ} → next c b (length rest) ≡ refuse (number x) → key′ ≡ key
-          → Gives (nextRows most c₀ b (length keys₀)) key keys₀ rows₀ (Refused x) key′ (putMid used (length keys - used) keys out′) rows
-      first-refused {x} e k =
-          rw (rows-refused c₀ b (length keys₀) most (omega arith) (from e))
-          (record { answer = refl; whole = k; keys-given = back ∙ first .1; row-words = first .2 })
+      first-refused : {x : Refusal} {key′ : List ℕ} → next c b (length rest) ≡ refuse (number x) → key′ ≡ key → Gives (nextRows most c₀ b (length keys₀)) key keys₀ rows₀ (Refused x) key′ keys′ rows
+      first-refused e k =
+          rw (rows-refused c₀ b (length keys₀) most some (from e))
+          (record { answer = refl; whole = k; keys-given = same ∙ first .1; row-words = first .2 })
+
+    -- by whether there is a row yet
+    pub gives-stop : {r : Gave} (p q : Place) (key′ : List ℕ) → viewIn p key′ ≡ c → next c b (length rest) ≡ ok (stepIs (viewIn q key′) done) → r ≡ cond (eqb n 0) (Rows true q 0) (Rows false p n)
+        → Gives (nextRows most c₀ b (length keys₀)) key keys₀ rows₀ r key′ keys′ rows
+    gives-stop p q key′ v e is =
+        ⊎-elim (λ t. rw (is, t .0) (first-done (t .1) e)) (λ t. rw (is, t .0) (so-far (t .1) (stops-done c b (length rest) e) v)) (eqb-cases n 0)
+
+    pub gives-refusal : {r : Gave} (p : Place) (x : Refusal) (key′ : List ℕ) → viewIn p key′ ≡ c → next c b (length rest) ≡ refuse (number x) → (n ≡ 0 → key′ ≡ key)
+        → r ≡ cond (eqb n 0) (Refused x) (Rows false p n) → Gives (nextRows most c₀ b (length keys₀)) key keys₀ rows₀ r key′ keys′ rows
+    gives-refusal p x key′ v e k is =
+        ⊎-elim (λ t. rw (is, t .0) (first-refused (t .1) e (k (t .1)))) (λ t. rw (is, t .0) (so-far (t .1) (stops-refused c b (length rest) e) v)) (eqb-cases n 0)
 
 pub all-given : {b keys₀ rows₀ : List ℕ} {c₀ c : Cursor} {keys rows : List ℕ} {used n : ℕ} → Gone b keys₀ rows₀ c₀ c keys rows used n → (most : ℕ) (key : List ℕ) {p : Place} {key′ : List ℕ} → n ≡ most → viewIn p key′ ≡ c
     → Gives (nextRows most c₀ b (length keys₀)) key keys₀ rows₀ (Rows false p n) key′ keys rows

@@ -1,14 +1,15 @@
 -- A plain row of the region in which a cursor goes on: the step past it, whatever room there is for its key, and the cursor that it leaves, which goes on in the
 -- region or is handed over to the next.
-use Prim.Native.Nat.{ℕ, _+_, _<_, _≤_}
+use Prim.Native.Nat.{ℕ, _+_, _-_, _<_, _≤_}
 use mathlib.Core.Path.{_≡_, refl, ap, _∙_}
-use mathlib.Core.List.{List, []}
+use mathlib.Core.List.{List, [], _++_}
 use native.Mathlib.Omega.{arith}
 use lib.Dec.{eqb}
-use lib.ListN.{length, take}
+use lib.ListN.{length, take, drop}
 use lib.Seq.{length-take-le}
 use borrow.Author.Tests.{lt-ltb, le-ltb, eq-eqb, ne-eqb}
 use Rattle.layout.specs.Answer.{ok}
+use Rattle.layout.specs.Fixed.{unbig}
 use Rattle.layout.specs.Limits.{maxKey}
 use Rattle.layout.specs.Key.{Key}
 use Rattle.layout.specs.Place.{splice}
@@ -16,16 +17,30 @@ use Rattle.layout.specs.Plain.{Plain, plainAt, plainRead}
 use Rattle.layout.specs.RowRead.{mayShare, readRow, RowRead, keyOf}
 use Rattle.layout.specs.Trailer.{trailerIs, Region}
 use Rattle.layout.specs.Cursor.{Cursor, found, stepIs, pastRow, next}
-use Rattle.layout.specs.Laws.Carry.{Carries, read-carried, keyOf-length, suffixOf, key-new}
-use Rattle.layout.specs.Laws.Plain.{PlainTells, plainAt-tells}
+use Rattle.layout.specs.Laws.Carry.{Carries, read-carried, keyOf-length, suffixOf, key-parts, key-new}
+use Rattle.layout.specs.Laws.Plain.{PlainTells, plainAt-tells, fixedAt-is}
 use Rattle.layout.specs.Laws.PlainStep.{plain-reads, plain-step}
 use Rattle.layout.specs.Laws.Trailer.{trailerOf-tells}
+use Rattle.row_plain_v2.specs.Promise.{plainFrom}
+use Rattle.row_plain_v2.specs.declared.PlainRow.{PlainRow}
 use Rattle.block.specs.Says.{regionFrom}
 use Rattle.block_step_v2.specs.Says.{viewIn}
 use Rattle.block_step_v2.specs.declared.Place.{Place}
 use Rattle.region_rows_v2.specs.declared.Bounds.{Bounds}
 use Rattle.region_rows_v2.specs.Bounds.{Inside, stretch-inside}
-use Rattle.region_rows_v2.specs.Promise.{BoundsOf}
+use Rattle.region_rows_v2.specs.Promise.{BoundsOf, orZero, ReadsSeq}
+
+-- a plain row that stands in so many bytes
+pub record PlainFits (len at : ℕ) (r : PlainRow) : Type 0 where
+  pub ends : r .next ≡ at + 12 + r .unshared + r .«value_len»
+  pub inside : r .next ≤ len
+  pub some : 1 ≤ r .shared + r .unshared
+  pub shared-small : r .shared ≤ 127
+  pub unshared-small : r .unshared ≤ 127
+
+-- its sequence number is read
+pub seq-read : (d : List ℕ) (at : ℕ) (r : PlainRow) {q : ℕ} → PlainFits (length d) at r → ReadsSeq d (r .next - 9) q → q ≡ unbig (take 8 (drop (r .next - 9) d))
+seq-read d at r f e = e ∙ ap orZero (fixedAt-is 8 d (r .next - 9) (omega (arith, f .ends, f .inside)))
 
 -- a place whose region, position and key length are set
 abbrev pub movedTo : Place → ℕ → ℕ → ℕ → Place
@@ -49,6 +64,21 @@ module _ (b : List ℕ) (size : ℕ) (g : Region) (p : Place) (key : List ℕ) (
       plain-step (viewIn p key) b room (trailerIs (i .count) size) g r (i .heads) (i .unmarked) (i .read) (i .counted) (i .few) (i .bounds) (i .from)
       (omega (arith, here-tells .next-is, here-tells .within)) m e (omega arith) held
 
+  pub here-fits : (x : PlainRow) → plainFrom x ≡ r → PlainFits (length (take size b)) (p .at) x
+  here-fits x q =
+      let t = here-tells in
+      let n : x .next ≡ r .next = ap (λ (y : Plain). y .next) q in
+      let s : x .shared ≡ r .shared = ap (λ (y : Plain). y .shared) q in
+      let u : x .unshared ≡ r .unshared = ap (λ (y : Plain). y .unshared) q in
+      let v : x .«value_len» ≡ r .vlen = ap (λ (y : Plain). y .vlen) q in
+      record {
+        ends = omega (arith, t .next-is);
+        inside = omega (arith, t .within, t .inside);
+        some = omega (arith, t .some);
+        shared-small = omega (arith, t .shared-small);
+        unshared-small = omega (arith, t .unshared-small);
+      }
+
   module _ (whole : length key ≡ maxKey) where
     carries : Carries key (p .«key_len»)
     carries = record { few = i .few; whole = whole }
@@ -58,6 +88,10 @@ module _ (b : List ℕ) (size : ℕ) (g : Region) (p : Place) (key : List ℕ) (
     here-carried q =
         ap (take (r .shared + r .unshared)) q
         ∙ key-new (take size b) (p .at) (g .end) (eqb (p .at) (g .start)) key (p .«key_len») carries rowHere here-read
+
+    -- the key in its two parts
+    pub here-parts : take (r .shared) key ++ take (r .unshared) (drop (p .at + 3) (take size b)) ≡ keyHere
+    here-parts = key-parts (take size b) (p .at) (g .end) (eqb (p .at) (g .start)) key (p .«key_len») carries rowHere here-read
 
     pub here-long : length keyHere ≡ r .shared + r .unshared
     here-long =

@@ -1,48 +1,32 @@
 -- Plain rows of a region, gone over one after another: the row that is met is the step's, so a walk that is under way goes on past it.
 use Prim.Native.Nat.{ℕ, _+_, _<_, _≤_}
-use mathlib.Core.Path.{_≡_, ap, ap₂, sym, _∙_}
+use mathlib.Core.Path.{_≡_, refl, ap₂, sym, _∙_}
 use mathlib.Core.List.{List}
 use native.Mathlib.Omega.{arith}
 use lib.Dec.{eqb}
-use lib.ListN.{length, take, drop}
-use Rattle.layout.specs.Answer.{Res, ok, refuse}
-use Rattle.layout.specs.Fixed.{unbig}
+use lib.ListN.{length, take}
+use Rattle.layout.specs.Answer.{Res, ok}
 use Rattle.layout.specs.Key.{Key}
 use Rattle.layout.specs.Limits.{maxKey}
-use Rattle.layout.specs.Place.{NumAt, numAt, fixedAt}
 use Rattle.layout.specs.Plain.{plainAt}
 use Rattle.layout.specs.RowRead.{mayShare}
 use Rattle.layout.specs.Trailer.{Region}
 use Rattle.layout.specs.Cursor.{Cursor, found, stepIs, pastRow, next}
-use Rattle.layout.specs.Laws.Answer.{ok-inj}
-use Rattle.layout.specs.Laws.Plain.{fixedAt-is}
-use Rattle.types.specs.Answers.{apart}
 use Rattle.row_plain_v2.specs.Promise.{plainFrom}
 use Rattle.row_plain_v2.specs.declared.PlainRow.{PlainRow}
 use Rattle.block_step_v2.specs.Says.{viewIn}
 use Rattle.block_step_v2.specs.declared.Place.{Place}
 use Rattle.region_rows_v2.specs.Bounds.{Inside}
-use Rattle.region_rows_v2.specs.Region.{movedTo, rowHere, keyHere, here-tells, here-step, here-carried, here-over, here-stays, here-inside}
+use Rattle.region_rows_v2.specs.Region.{PlainFits, movedTo, rowHere, keyHere, here-tells, here-fits, here-step, here-carried, here-over, here-stays, here-inside}
 use Rattle.slatedb_walks.specs.Walk.{Walk}
-use Rattle.slatedb_walks.specs.Loop.{Walking, PlainFits, PassesPlain}
+use Rattle.slatedb_walks.specs.Loop.{Walking, PassesPlain}
 use Rattle.slatedb_walks.proofs.Laws.{walking-more}
-
--- ---- eight bytes that are there
-
-module _ (d : List ℕ) (at : ℕ) (h : at + 8 ≤ length d) where
-  pub word-is : {v n : ℕ} → fixedAt 8 d at ≡ ok (numAt v n) → v ≡ unbig (take 8 (drop at d))
-  word-is e = ap (λ (x : NumAt). x .val) (ok-inj (sym e ∙ fixedAt-is 8 d at h))
-
-  pub word-there : {n : ℕ} → fixedAt 8 d at ≡ refuse n → ⊥
-  word-there e = apart (sym (fixedAt-is 8 d at h) ∙ e)
 
 -- ---- a row that `plain_at` met, and what `pass_plain` left of it
 
 module _ (b : List ℕ) (size : ℕ) (g : Region) (p : Place) (key : List ℕ) (i : Inside b size g (viewIn p key)) (whole : length key ≡ maxKey) {most : ℕ} (r : PlainRow) (m : most ≡ mayShare (eqb (p .at) (g .start)) (p .«key_len»)) (e : plainFrom r ≡ plainAt (take size b) (p .at) (g .end) most) (h : r .next ≡ 0 → ⊥) where
   pub plain-fits : PlainFits (length (take size b)) (p .at) r
-  plain-fits =
-      let t = here-tells b size g p key i (plainFrom r) m e h in
-      record { ends = t .next-is; inside = omega (arith, t .within, t .inside); some = t .some; shared-small = t .shared-small; unshared-small = t .unshared-small }
+  plain-fits = here-fits b size g p key i (plainFrom r) m e h r refl
 
   module _ {limit rows sum sum′ : ℕ} {key′ : List ℕ} (few : rows < limit) (q : PassesPlain key (take size b) (p .at) r sum sum′ key′) where
     carried : take (r .shared + r .unshared) key′ ≡ keyHere b size g p key i (plainFrom r) m e h

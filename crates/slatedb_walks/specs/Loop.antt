@@ -28,15 +28,7 @@ pub record Walking (want : Res Walk) (b : List ℕ) (limit : ℕ) (c : Cursor) (
 abbrev pub added : ℕ → ℕ → Key → ℕ
 added seq held key = seq + length key + held + lastByte key
 
--- a plain row that stands in so many bytes
-pub record PlainFits (len at : ℕ) (r : PlainRow) : Type 0 where
-  pub ends : r .next ≡ at + 12 + r .unshared + r .«value_len»
-  pub inside : r .next ≤ len
-  pub some : 1 ≤ r .shared + r .unshared
-  pub shared-small : r .shared ≤ 127
-  pub unshared-small : r .unshared ≤ 127
-
--- its suffix over the key of the row before, and what it adds
+-- the suffix of a plain row over the key of the row before, and what it adds
 pub record PassesPlain (key d : List ℕ) (at : ℕ) (r : PlainRow) (sum sum′ : ℕ) (key′ : List ℕ) : Type 0 where
   pub carried : key′ ≡ splice key (r .shared) (take (r .unshared) (drop (at + 3) d))
   pub summed : sum′ ≡ (sum + added (unbig (take 8 (drop (r .next - 9) d))) (r .«value_len») (take (r .shared + r .unshared) key′)) % 2 ^ 64

@@ -4,9 +4,8 @@
 // for words that mean nothing, which is tested first, and 255 for "done"; what else it answers goes to lent words.
 ghost use mathlib.Core.Path.{_≡_};
 ghost use Prim.Native.Nat.{_≤_, _+_, _%_, _^_};
-ghost use lib.ListN.{length, take, drop, replicate};
+ghost use lib.ListN.{length, take, replicate};
 ghost use Rattle.layout.specs.Answer.{bind};
-ghost use Rattle.layout.specs.Fixed.{unbig};
 ghost use Rattle.layout.specs.Limits.{maxKey};
 ghost use Rattle.types.specs.Says.{saysHeld};
 ghost use Rattle.row_decode_v2.specs.Says.{rowFrom};
@@ -14,8 +13,9 @@ ghost use Rattle.block.specs.Says.{regionFrom};
 ghost use Rattle.block_step_v2.specs.Says.{viewIn};
 ghost use Rattle.block_iterator_v2.specs.Says.{viewOf};
 ghost use Rattle.region_rows_v2.specs.Bounds.{Inside};
+ghost use Rattle.region_rows_v2.specs.Region.{PlainFits};
 ghost use Rattle.slatedb_walks.specs.Walk.{heldLength, amount, walk, wrapped};
-ghost use Rattle.slatedb_walks.specs.Loop.{added, PlainFits, PassesPlain, RunsOn};
+ghost use Rattle.slatedb_walks.specs.Loop.{added, PassesPlain, RunsOn};
 ghost use Rattle.slatedb_walks.specs.Says.{saysWalked};
 ghost use Rattle.slatedb_walks.specs.Promise.{Tells, WalksFlat};
 use block_iterator_v2::BlockIteratorV2;
@@ -24,7 +24,6 @@ use block_iterator_v2::OpenAnswer;
 use block_step_v2::Moved;
 use block_step_v2::Place;
 use block_words::OrderRead;
-use buf::WordRead;
 use region_rows_v2::Bounds;
 use row_decode_v2::Row;
 use row_plain_v2::PlainRow;
@@ -169,18 +168,6 @@ pub extern "C" fn slatedb_walk_by_value(
 
 // ---- in place
 
-// The eight bytes at `at`.
-fn seq_at(data: &[u8], at: usize) -> u64
-    requires { ⌜ at + 8 ≤ length (now «data») ⌝ }
-    ensures { λ r. ⌜ r ≡ unbig (take 8 (drop at (now («data» .entry)))) ⌝ }
-{
-    let word = buf::get_u64(data, at);
-    match word {
-        WordRead::Word { value, next: _ } => value,
-        WordRead::Refused(_) => 0,
-    }
-}
-
 // Puts the suffix of a plain row over the key of the row before, and gives the sum with it.
 fn pass_plain(key: &mut [u8], data: &[u8], at: usize, row: PlainRow, sum: u64) -> u64
     requires { ⌜ (length (now key) ≡ maxKey) × PlainFits (length (now «data»)) at row ⌝ }
@@ -189,7 +176,7 @@ fn pass_plain(key: &mut [u8], data: &[u8], at: usize, row: PlainRow, sum: u64) -
     let from = at + 3;
     let end = from + row.unshared;
     buf_mut::copy_in(key, row.shared, &data[from..end]);
-    let seq = seq_at(data, row.next - 9);
+    let seq = region_rows_v2::seq_at(data, row.next - 9);
     with_parts(
         sum,
         seq,

@@ -12,9 +12,9 @@ use Rattle.layout.specs.RowRead.{mayShare}
 use Rattle.block.specs.Says.{regionFrom}
 use Rattle.block_step_v2.specs.Says.{viewIn}
 use Rattle.region_rows_v2.specs.Bounds.{Inside}
-use Rattle.region_rows_v2.specs.Region.{movedTo, inside-long, inside-region, share-none, share-key}
+use Rattle.region_rows_v2.specs.Region.{PlainFits, movedTo, inside-long, inside-region, share-none, share-key}
 use Rattle.slatedb_walks.specs.Walk.{Walk}
-use Rattle.slatedb_walks.specs.Loop.{Walking, PlainFits}
+use Rattle.slatedb_walks.specs.Loop.{Walking}
 use Rattle.slatedb_walks.proofs.Plain.{plain-fits, plain-over, plain-stays, plain-inside}
 use Rattle.slatedb_walks.proofs.run.Statement.{statement}
 use Rattle.slatedb_walks.proofs.run.Tie as tie

@@ -1,0 +1,26 @@
+-- `seq_at` answers the number that was read, or 0: in each arm the case is known, and the definition computes at it.
+use mathlib.Core.Path.{ap, sym}
+use Rattle.types.specs.Answers.{yes}
+use Rattle.buf.specs.Says.{saysWord}
+use Rattle.region_rows_v2.specs.Promise.{orZero}
+use borrow.Author.Needs.{needs}
+use Rattle.region_rows_v2.proofs.seq_at.Statement.{statement}
+use Rattle.region_rows_v2.proofs.seq_at.Tie as tie
+
+get-u64-requires : tie.Need-get-u64-requires
+get-u64-requires c κs = search needs
+
+enum-known-word : tie.Need-enum-known-word
+enum-known-word c = search needs
+
+enum-told : tie.Need-enum-told
+enum-told c = search needs
+
+returns : tie.Need-returns
+returns c = sym (ap orZero (yes saysWord (c .before .before .before .get-u64 .ensures) (c .before .word .given .1)))
+
+returns-2 : tie.Need-returns-2
+returns-2 c = sym (ap orZero (yes saysWord (c .before .before .get-u64 .ensures) (c .enum-told .given .1)))
+
+pub seq-at-spec : {M : Type 1} → statement M
+seq-at-spec = tie.close (tie.spec get-u64-requires enum-known-word enum-told returns returns-2)
