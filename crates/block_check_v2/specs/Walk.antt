@@ -6,7 +6,7 @@ use Rattle.layout.specs.Answer.{Res, refuse}
 use Rattle.layout.specs.Check.{passedIs, checkFrom}
 use Rattle.layout.specs.Trailer.{Trailer, offsetAt}
 use Rattle.layout.specs.Laws.Check.{Checking}
-use Rattle.types.specs.Number.{number}
+use Rattle.basics.specs.Number.{number}
 use Rattle.block_check_v2.specs.declared.Passed.{Passed}
 use Rattle.block_check_v2.specs.declared.Walked.{Walked}
 use Rattle.block_check_v2.specs.declared.Walked.the-variants.{Over, Refused}

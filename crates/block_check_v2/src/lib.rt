@@ -6,14 +6,14 @@ ghost use mathlib.Core.Path.{_≡_};
 ghost use Prim.Native.Nat.{_<_};
 ghost use Rattle.layout.specs.Answer.{ok};
 ghost use Rattle.layout.specs.Trailer.{trailerOf};
-ghost use Rattle.block.specs.Says.{trailerFrom};
+ghost use Rattle.trailer.specs.Says.{trailerFrom};
 ghost use Rattle.block_check_v2.specs.Walk.{Stands, Leaves};
 ghost use Rattle.block_check_v2.specs.Promise.{Checks};
-use block::RegionRead;
-use block::Tested;
-use block::Trailer;
-use block::TrailerRead;
-use types::Refusal;
+use basics::Refusal;
+use trailer::RegionRead;
+use trailer::Tested;
+use trailer::Trailer;
+use trailer::TrailerRead;
 
 // How many rows the block has, or why it is refused.
 pub enum Checked {
@@ -42,9 +42,9 @@ fn check_region(block: &[u8], t: Trailer, key: &mut [u8], p: Passed) -> Walked
     requires { ⌜ Stands (now block) (trailerFrom t) p (now key) ⌝ }
     ensures { λ r. ⌜ Leaves (now (block .entry)) (trailerFrom t) p r (now (key .exit)) ⌝ }
 {
-    let bounds = block::region_of(block, t, p.region);
+    let bounds = trailer::region_of(block, t, p.region);
     let RegionRead::Good(g) = bounds else {
-        return Walked::Refused(block::region_refusal(bounds));
+        return Walked::Refused(trailer::region_refusal(bounds));
     };
     let size = t.size;
     let data = &block[..size];
@@ -81,16 +81,16 @@ fn check_region(block: &[u8], t: Trailer, key: &mut [u8], p: Passed) -> Walked
 pub fn check(block: &[u8]) -> Checked
     ensures { λ r. ⌜ Checks (now (block .entry)) r ⌝ }
 {
-    let trailer = block::trailer_of(block);
+    let trailer = trailer::trailer_of(block);
     let TrailerRead::Good(t) = trailer else {
-        return Checked::Refused(block::trailer_refusal(trailer));
+        return Checked::Refused(trailer::trailer_refusal(trailer));
     };
-    let tested = block::all_offsets(block, t);
+    let tested = trailer::all_offsets(block, t);
     if let Tested::Refused(refusal) = tested {
         return Checked::Refused(refusal);
     }
     let size = t.size;
-    let mut key = [0; types::MAX_KEY];
+    let mut key = [0; basics::MAX_KEY];
     let mut p = Passed {
         at: 0,
         region: 0,

@@ -14,21 +14,21 @@ use Rattle.layout.specs.Cursor.{Direction, ascending, descending, Cursor, opene
 use Rattle.layout.specs.Seek.{searchRestarts, walkRegion, walkUp, seekUp, startDown, lastAtOrBelow, walkDown, seekDown, Sought, seekAlong, seek, soughtAfter}
 use Rattle.layout.specs.Laws.Answer.{bind-then, cond-ok, ok-inj}
 use Rattle.layout.specs.Laws.Cursor.{next-heads, empty-is}
-use Rattle.types.specs.Answers.{apart}
-use Rattle.types.specs.Number.{number}
-use Rattle.types.specs.Says.{saysOrder, saysOrder-one}
-use Rattle.types.specs.declared.IterationOrder.{IterationOrder}
-use Rattle.types.specs.declared.IterationOrder.the-variants.{Ascending, Descending}
-use Rattle.types.specs.declared.Refusal.{Refusal}
-use Rattle.block_step_v2.specs.declared.Place.{Place}
-use Rattle.block_step_v2.specs.declared.Moved.{Moved}
-use Rattle.block_step_v2.specs.declared.Moved.the-variants.{Found as StepFound, Done as StepDone, Refused as StepRefused}
-use Rattle.block_step_v2.specs.Promise.{Kept, Moves}
-use Rattle.block_step_v2.specs.Says.{told, saysMoved, placeAfter}
-use Rattle.block_seek_v2.specs.declared.Found.{Found as FoundC}
-use Rattle.block_seek_v2.specs.declared.Found.the-variants.{Landed as FoundLanded, Done as FoundDone, Refused as FoundRefused}
-use Rattle.block_seek_v2.specs.Promise.{Finds}
-use Rattle.block_seek_v2.specs.Says.{reported, saysFound, placeFound}
+use Rattle.basics.specs.Answers.{apart}
+use Rattle.basics.specs.Number.{number}
+use Rattle.basics.specs.Says.{saysOrder, saysOrder-one}
+use Rattle.basics.specs.declared.IterationOrder.{IterationOrder}
+use Rattle.basics.specs.declared.IterationOrder.the-variants.{Ascending, Descending}
+use Rattle.basics.specs.declared.Refusal.{Refusal}
+use Rattle.step_in_place_v2.specs.declared.Place.{Place}
+use Rattle.step_in_place_v2.specs.declared.Moved.{Moved}
+use Rattle.step_in_place_v2.specs.declared.Moved.the-variants.{Found as StepFound, Done as StepDone, Refused as StepRefused}
+use Rattle.step_in_place_v2.specs.Promise.{Kept, Moves}
+use Rattle.step_in_place_v2.specs.Says.{told, saysMoved, placeAfter}
+use Rattle.seek_in_place_v2.specs.declared.Found.{Found as FoundC}
+use Rattle.seek_in_place_v2.specs.declared.Found.the-variants.{Landed as FoundLanded, Done as FoundDone, Refused as FoundRefused}
+use Rattle.seek_in_place_v2.specs.Promise.{Finds}
+use Rattle.seek_in_place_v2.specs.Says.{reported, saysFound, placeFound}
 use Rattle.block_iterator_v2.specs.declared.BlockIteratorV2.{BlockIteratorV2}
 use Rattle.block_iterator_v2.specs.declared.OpenAnswer.the-variants.{Good, Refused as OpenRefused}
 use Rattle.block_iterator_v2.specs.declared.NextAnswer.{NextAnswer}

@@ -7,8 +7,8 @@ use lib.ListN.{length}
 use Rattle.layout.specs.Answer.{Res, ok, refuse}
 use Rattle.layout.specs.Cursor.{next}
 use Rattle.layout.specs.Seek.{seek}
-use Rattle.types.specs.Says.{saysOrder}
-use Rattle.types.specs.declared.IterationOrder.{IterationOrder}
+use Rattle.basics.specs.Says.{saysOrder}
+use Rattle.basics.specs.declared.IterationOrder.{IterationOrder}
 use Rattle.block_iterator_v2.specs.declared.BlockIteratorV2.{BlockIteratorV2}
 use Rattle.block_iterator_v2.specs.declared.OpenAnswer.{OpenAnswer}
 use Rattle.block_iterator_v2.specs.declared.Opened.{Opened}
@@ -16,7 +16,7 @@ use Rattle.block_iterator_v2.specs.declared.Next.{Next}
 use Rattle.block_iterator_v2.specs.declared.Sought.{Sought}
 use Rattle.block_iterator_v2.specs.declared.EmptyRead.{EmptyRead}
 use Rattle.block_iterator_v2.specs.Says.{viewOf, viewOf-one, saysOpen-one, saysNext-one, saysSeek-one, saysEmpty-one}
-use Rattle.block_step_v2.specs.declared.Place.{Place}
+use Rattle.step_in_place_v2.specs.declared.Place.{Place}
 use Rattle.block_iterator_v2.specs.Promise.{Opens, Whole, StepsNext, SeeksTarget, TellsEmpty, PlacesCursor}
 
 pub new-settled : (b : List ℕ) (order : IterationOrder) (r q : Opened) → Opens b order r → Opens b order q → r ≡ q

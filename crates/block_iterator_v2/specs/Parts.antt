@@ -3,11 +3,11 @@ use Prim.Native.Nat.{ℕ}
 use mathlib.Core.Bool.{Bool}
 use lib.ListN.{replicate}
 use Rattle.layout.specs.Limits.{maxKey}
-use Rattle.types.specs.declared.IterationOrder.{IterationOrder}
-use Rattle.block_step_v2.specs.declared.Moved.{Moved}
-use Rattle.block_step_v2.specs.declared.Moved.the-variants.{Found as StepFound, Done as StepDone, Refused as StepRefused}
-use Rattle.block_seek_v2.specs.declared.Found.{Found as FoundC}
-use Rattle.block_seek_v2.specs.declared.Found.the-variants.{Landed as FoundLanded, Done as FoundDone, Refused as FoundRefused}
+use Rattle.basics.specs.declared.IterationOrder.{IterationOrder}
+use Rattle.step_in_place_v2.specs.declared.Moved.{Moved}
+use Rattle.step_in_place_v2.specs.declared.Moved.the-variants.{Found as StepFound, Done as StepDone, Refused as StepRefused}
+use Rattle.seek_in_place_v2.specs.declared.Found.{Found as FoundC}
+use Rattle.seek_in_place_v2.specs.declared.Found.the-variants.{Landed as FoundLanded, Done as FoundDone, Refused as FoundRefused}
 use Rattle.block_iterator_v2.specs.declared.BlockIteratorV2.{BlockIteratorV2}
 use Rattle.block_iterator_v2.specs.declared.NextAnswer.{NextAnswer}
 use Rattle.block_iterator_v2.specs.declared.NextAnswer.the-variants.{Found, Done as NextDone, Refused as NextRefused}

@@ -8,11 +8,11 @@ use Rattle.layout.specs.Answer.{Res, ok, refuse, bind, whether}
 use Rattle.layout.specs.Limits.{maxKey}
 use Rattle.layout.specs.Cursor.{cursorOr, openBlock, Step, next, cursorAfter, keyAfter, isEmpty}
 use Rattle.layout.specs.Seek.{Sought as SoughtL, seek, soughtAfter}
-use Rattle.types.specs.Says.{saysOrder}
-use Rattle.types.specs.declared.IterationOrder.{IterationOrder}
-use Rattle.block_step_v2.specs.Says.{told}
-use Rattle.block_step_v2.specs.declared.Place.{Place}
-use Rattle.block_seek_v2.specs.Says.{reported}
+use Rattle.basics.specs.Says.{saysOrder}
+use Rattle.basics.specs.declared.IterationOrder.{IterationOrder}
+use Rattle.step_in_place_v2.specs.Says.{told}
+use Rattle.step_in_place_v2.specs.declared.Place.{Place}
+use Rattle.seek_in_place_v2.specs.Says.{reported}
 use Rattle.block_iterator_v2.specs.declared.BlockIteratorV2.{BlockIteratorV2}
 use Rattle.block_iterator_v2.specs.declared.Opened.{Opened}
 use Rattle.block_iterator_v2.specs.declared.Next.{Next}

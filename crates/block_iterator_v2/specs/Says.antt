@@ -6,12 +6,12 @@ use mathlib.Core.Path.{_≡_, refl, ap, ap₂, sym}
 use Rattle.layout.specs.Answer.{Res, ok, refuse}
 use Rattle.layout.specs.Cursor.{Cursor}
 use Rattle.layout.specs.Laws.Answer.{ok-inj}
-use Rattle.types.specs.Answers.{apart, refused-one}
-use Rattle.types.specs.Number.{number}
+use Rattle.basics.specs.Answers.{apart, refused-one}
+use Rattle.basics.specs.Number.{number}
 use Rattle.row_decode_v2.specs.Says.{rowFrom, rowFrom-one}
-use Rattle.block_step_v2.specs.declared.Place.{Place}
-use Rattle.block_step_v2.specs.Says.{viewIn, Told, row, none, viewIn-one, told-row, told-apart}
-use Rattle.block_seek_v2.specs.Says.{Report, reportIs, over-apart}
+use Rattle.step_in_place_v2.specs.declared.Place.{Place}
+use Rattle.step_in_place_v2.specs.Says.{viewIn, Told, row, none, viewIn-one, told-row, told-apart}
+use Rattle.seek_in_place_v2.specs.Says.{Report, reportIs, over-apart}
 use Rattle.block_iterator_v2.specs.declared.BlockIteratorV2.{BlockIteratorV2}
 use Rattle.block_iterator_v2.specs.declared.OpenAnswer.{OpenAnswer}
 use Rattle.block_iterator_v2.specs.declared.OpenAnswer.the-variants.{Good, Refused as OpenRefused}

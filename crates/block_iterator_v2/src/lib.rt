@@ -7,28 +7,28 @@ ghost use lib.ListN.{length};
 ghost use Rattle.layout.specs.Cursor.{next};
 ghost use Rattle.layout.specs.Limits.{maxKey};
 ghost use Rattle.layout.specs.Seek.{seek};
-ghost use Rattle.types.specs.Says.{saysOrder};
-ghost use Rattle.block_step_v2.specs.Promise.{Moves};
-ghost use Rattle.block_step_v2.specs.Says.{viewIn, placeAfter};
-ghost use Rattle.block_seek_v2.specs.Promise.{Finds};
-ghost use Rattle.block_seek_v2.specs.Says.{placeFound};
+ghost use Rattle.basics.specs.Says.{saysOrder};
+ghost use Rattle.step_in_place_v2.specs.Promise.{Moves};
+ghost use Rattle.step_in_place_v2.specs.Says.{viewIn, placeAfter};
+ghost use Rattle.seek_in_place_v2.specs.Promise.{Finds};
+ghost use Rattle.seek_in_place_v2.specs.Says.{placeFound};
 ghost use Rattle.block_iterator_v2.specs.Parts.{placed, answerOf, answerFound};
 ghost use Rattle.block_iterator_v2.specs.Promise.{PlacesCursor, Opens, StepsNext, SeeksTarget, TellsEmpty};
-use block::Tested;
-use block::TrailerRead;
-use block_seek_v2::Found;
-use block_step_v2::Moved;
-use block_step_v2::Place;
+use basics::IterationOrder;
+use basics::Refusal;
 use row_decode_v2::Row;
-use types::IterationOrder;
-use types::Refusal;
+use seek_in_place_v2::Found;
+use step_in_place_v2::Moved;
+use step_in_place_v2::Place;
+use trailer::Tested;
+use trailer::TrailerRead;
 
 // A cursor: its order, the region that it stands in and its position there, the first `key_len` bytes of `key` as the key before, and the mark "done".
 pub struct BlockIteratorV2 {
     pub order: IterationOrder,
     pub region: usize,
     pub at: usize,
-    pub key: [u8; types::MAX_KEY],
+    pub key: [u8; basics::MAX_KEY],
     pub key_len: usize,
     pub done: bool,
 }
@@ -76,11 +76,11 @@ pub enum EmptyRead {
 // ---- a step over the cursor's own key bytes
 
 // Lends the array as the bytes that a step works on.
-fn next_in_array(key: &mut [u8; types::MAX_KEY], p: Place, block: &[u8], out: &mut [u8]) -> Moved
+fn next_in_array(key: &mut [u8; basics::MAX_KEY], p: Place, block: &[u8], out: &mut [u8]) -> Moved
     requires { ⌜ length (now key) ≡ maxKey ⌝ }
     ensures { λ r. ⌜ Moves (next (viewIn p (now (key .entry))) (now (block .entry)) (length (now (out .entry)))) p (now (key .entry)) (now (out .entry)) r (now (key .exit)) (now (out .exit)) ⌝ }
 {
-    block_step_v2::next_in_place(key, p, block, out)
+    step_in_place_v2::next_in_place(key, p, block, out)
 }
 
 // The place that a step gives back: a refused one gives it as it came.
@@ -107,11 +107,11 @@ fn answer_of(moved: Moved) -> NextAnswer
 // ---- a seek over them
 
 // Lends the array as the bytes that a seek works on.
-fn seek_in_array(key: &mut [u8; types::MAX_KEY], p: Place, block: &[u8], target: &[u8]) -> Found
+fn seek_in_array(key: &mut [u8; basics::MAX_KEY], p: Place, block: &[u8], target: &[u8]) -> Found
     requires { ⌜ length (now key) ≡ maxKey ⌝ }
     ensures { λ r. ⌜ Finds (seek (saysOrder (p .order)) (now (block .entry)) (now (target .entry))) p (now (key .entry)) r (now (key .exit)) ⌝ }
 {
-    block_seek_v2::seek_in_place(key, p, block, target)
+    seek_in_place_v2::seek_in_place(key, p, block, target)
 }
 
 // The place that a seek gives back: a refused one gives it as it came.
@@ -158,7 +158,7 @@ impl BlockIteratorV2 {
             order,
             region,
             at,
-            key: [0; types::MAX_KEY],
+            key: [0; basics::MAX_KEY],
             key_len: 0,
             done,
         }
@@ -169,14 +169,14 @@ impl BlockIteratorV2 {
         ensures { λ r. ⌜ Opens (now (block .entry)) order r ⌝ }
     {
         let start = BlockIteratorV2::placed(order, 0, 0, false);
-        let read = block::trailer_of(block);
+        let read = trailer::trailer_of(block);
         let TrailerRead::Good(t) = read else {
             return Opened {
                 iterator: start,
-                answer: OpenAnswer::Refused(block::trailer_refusal(read)),
+                answer: OpenAnswer::Refused(trailer::trailer_refusal(read)),
             };
         };
-        let offsets = block::all_offsets(block, t);
+        let offsets = trailer::all_offsets(block, t);
         if let Tested::Refused(refusal) = offsets {
             return Opened {
                 iterator: start,
@@ -203,9 +203,9 @@ impl BlockIteratorV2 {
     pub fn is_empty(self, block: &[u8]) -> EmptyRead
         ensures { λ r. ⌜ TellsEmpty self (now (block .entry)) r ⌝ }
     {
-        let read = block::trailer_of(block);
+        let read = trailer::trailer_of(block);
         let TrailerRead::Good(t) = read else {
-            return EmptyRead::Refused(block::trailer_refusal(read));
+            return EmptyRead::Refused(trailer::trailer_refusal(read));
         };
         if self.done {
             return EmptyRead::Is(true);

@@ -29,15 +29,15 @@ use Rattle.layout.specs.Laws.Plain.{span-no}
 use Rattle.layout.specs.Laws.Splice.{then-write}
 use Rattle.layout.specs.Laws.Tells.{readRow-ends}
 use Rattle.layout.specs.Laws.Trailer.{trailerOf-tells, regionOf-tells}
-use Rattle.types.specs.Answers.{apart}
-use Rattle.types.specs.Number.{number}
-use Rattle.types.specs.declared.Refusal.{Refusal}
-use Rattle.types.specs.declared.Refusal.the-variants.{BadState, KeyBufferTooShort}
+use Rattle.basics.specs.Answers.{apart}
+use Rattle.basics.specs.Number.{number}
+use Rattle.basics.specs.declared.Refusal.{Refusal}
+use Rattle.basics.specs.declared.Refusal.the-variants.{BadState, KeyBufferTooShort}
 use Rattle.row_decode_v2.specs.Says.{rowFrom}
 use Rattle.row_decode_v2.specs.declared.Row.{Row}
 use Rattle.row_span_v2.specs.Promise.{refusedWith, RefusesAt}
-use Rattle.block.specs.Says.{regionFrom}
-use Rattle.block.specs.declared.Region.{Region as RegionC}
+use Rattle.trailer.specs.Says.{regionFrom}
+use Rattle.trailer.specs.declared.Region.{Region as RegionC}
 use Rattle.block_regions_v2.specs.declared.Ended.{Ended as EndedC}
 use Rattle.block_regions_v2.specs.declared.Ended.the-variants.{Row as EndedRow, Refused as EndedRefused}
 use Rattle.block_regions_v2.specs.declared.Halted.{Halted}

@@ -6,8 +6,8 @@ use lib.ListN.{length}
 use Rattle.layout.specs.Answer.{Res, ok, bind}
 use Rattle.layout.specs.Cursor.{Keyed}
 use Rattle.layout.specs.Laws.MatchWalk.{haltOf}
-use Rattle.block.specs.Says.{regionFrom}
-use Rattle.block.specs.declared.Region.{Region}
+use Rattle.trailer.specs.Says.{regionFrom}
+use Rattle.trailer.specs.declared.Region.{Region}
 use Rattle.block_regions_v2.specs.declared.Ended.{Ended}
 use Rattle.block_regions_v2.specs.declared.PlaceRead.{PlaceRead}
 use Rattle.block_regions_v2.specs.declared.LastRead.{LastRead}

@@ -5,8 +5,8 @@ use Rattle.layout.specs.Answer.{Res, ok, refuse}
 use Rattle.layout.specs.RowRead.{RowRead as RowReadL}
 use Rattle.layout.specs.Laws.Answer.{ok-inj}
 use Rattle.layout.specs.Laws.MatchWalk.{Halt, haltIs}
-use Rattle.types.specs.Answers.{apart, refused-one}
-use Rattle.types.specs.Number.{number}
+use Rattle.basics.specs.Answers.{apart, refused-one}
+use Rattle.basics.specs.Number.{number}
 use Rattle.row_decode_v2.specs.Says.{rowFrom, rowFrom-one}
 use Rattle.block_regions_v2.specs.declared.Ended.{Ended}
 use Rattle.block_regions_v2.specs.declared.Ended.the-variants.{Row as EndedRow, Refused as EndedRefused}

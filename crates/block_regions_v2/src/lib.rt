@@ -10,16 +10,16 @@ ghost use lib.Dec.{ltb};
 ghost use lib.ListN.{length, take};
 ghost use Rattle.layout.specs.Key.{Key};
 ghost use Rattle.layout.specs.Place.{splice};
-ghost use Rattle.block.specs.Says.{regionFrom};
+ghost use Rattle.trailer.specs.Says.{regionFrom};
 ghost use Rattle.block_regions_v2.specs.Rows.{clipped, Filling};
 ghost use Rattle.block_regions_v2.specs.Climb.{Based};
 ghost use Rattle.block_regions_v2.specs.Known.{knownAfter};
 ghost use Rattle.block_regions_v2.specs.Parts.{haltedIs, Halts, Stands, Reaches};
 ghost use Rattle.block_regions_v2.specs.Promise.{EndsAt, WalksInto, EndsLast};
-use block::Region;
+use basics::Refusal;
 use row_decode_v2::Row;
 use row_decode_v2::RowRead;
-use types::Refusal;
+use trailer::Region;
 
 // The row that ends at a position. Its key stands in the lent buffer.
 pub enum Ended {

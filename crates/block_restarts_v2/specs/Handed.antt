@@ -9,7 +9,7 @@ use Rattle.layout.specs.Answer.{Res, ok, bind, guard}
 use Rattle.layout.specs.Key.{Key}
 use Rattle.layout.specs.Trailer.{Trailer}
 use Rattle.layout.specs.Seek.{Found, searchRestarts, startDown}
-use Rattle.block.specs.Handed.{belongs}
+use Rattle.trailer.specs.Handed.{belongs}
 use Rattle.block_restarts_v2.specs.declared.Start.{Start}
 
 abbrev pub startIs : ℕ → ℕ → Start

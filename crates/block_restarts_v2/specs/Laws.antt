@@ -21,9 +21,9 @@ use Rattle.layout.specs.Laws.Trailer.{trailerOf-tells}
 use Rattle.layout.specs.Laws.Seek.{restart-region, restart-no, restart-is, below-no, below-is, searchFrom, search-whole, from-no, from-up, from-down, Running, running-over, running-no, running-ends, running-more, start-past, start-no, start-earlier, start-run, up-from, down-no as fall-no, down-from, seek-search, seek-no, seek-is}
 use Rattle.layout.specs.Laws.Compare.{isLess, isEqual, compare-less-below, compare-equal-same}
 use Rattle.layout.specs.Laws.Restart.{readKey-ends, middle-is, search-inside, start-inside}
-use Rattle.types.specs.Answers.{apart}
-use Rattle.block.specs.Handed.{belongs, regionAt}
-use Rattle.block.specs.Laws.{belongs-is, region-there}
+use Rattle.basics.specs.Answers.{apart}
+use Rattle.trailer.specs.Handed.{belongs, regionAt}
+use Rattle.trailer.specs.Laws.{belongs-is, region-there}
 use Rattle.block_restarts_v2.specs.declared.Start.{Start}
 use Rattle.block_restarts_v2.specs.Handed.{startIs, handed, searchAt, startUpAt, startDownAt}
 use Rattle.block_restarts_v2.specs.Reading.{restartCompared, startAfter, runFrom}

@@ -2,7 +2,7 @@
 use Prim.Native.Nat.{ℕ}
 use mathlib.Core.Path.{_≡_, sym, _∙_}
 use mathlib.Core.List.{List}
-use Rattle.block.specs.declared.Trailer.{Trailer}
+use Rattle.trailer.specs.declared.Trailer.{Trailer}
 use Rattle.block_restarts_v2.specs.declared.StartRead.{StartRead}
 use Rattle.block_restarts_v2.specs.Promise.{StartsUp, StartsDown}
 use Rattle.block_restarts_v2.specs.Says.{saysStart-one}

@@ -2,8 +2,8 @@
 use Prim.Native.Nat.{ℕ}
 use mathlib.Core.Path.{_≡_}
 use mathlib.Core.List.{List}
-use Rattle.block.specs.Says.{trailerFrom}
-use Rattle.block.specs.declared.Trailer.{Trailer}
+use Rattle.trailer.specs.Says.{trailerFrom}
+use Rattle.trailer.specs.declared.Trailer.{Trailer}
 use Rattle.block_restarts_v2.specs.declared.StartRead.{StartRead}
 use Rattle.block_restarts_v2.specs.Handed.{startUpAt, startDownAt}
 use Rattle.block_restarts_v2.specs.Says.{saysStart}

@@ -6,10 +6,10 @@ use Rattle.layout.specs.Answer.{Res, ok, refuse, bind}
 use Rattle.layout.specs.Key.{Key, Ordering, compare}
 use Rattle.layout.specs.Trailer.{Trailer}
 use Rattle.layout.specs.Seek.{Found as FoundL, foundIs, restartKey, lastEqual}
-use Rattle.types.specs.Number.{number}
+use Rattle.basics.specs.Number.{number}
 use Rattle.keys.specs.Says.{saysOrdering}
-use Rattle.types.specs.declared.Refusal.{Refusal}
-use Rattle.types.specs.declared.Refusal.the-variants.{BadTrailer}
+use Rattle.basics.specs.declared.Refusal.{Refusal}
+use Rattle.basics.specs.declared.Refusal.the-variants.{BadTrailer}
 use Rattle.row_decode_v2.specs.declared.KeyRead.{KeyRead}
 use Rattle.row_decode_v2.specs.declared.KeyRead.the-variants.{Read as ReadKey, Refused as KeyRefused}
 use Rattle.block_restarts_v2.specs.declared.Start.{Start}

@@ -2,8 +2,8 @@
 use mathlib.Core.Path.{_≡_, ap, sym}
 use Rattle.layout.specs.Answer.{Res, ok, refuse}
 use Rattle.layout.specs.Laws.Answer.{ok-inj}
-use Rattle.types.specs.Answers.{apart, refused-one}
-use Rattle.types.specs.Number.{number}
+use Rattle.basics.specs.Answers.{apart, refused-one}
+use Rattle.basics.specs.Number.{number}
 use Rattle.block_restarts_v2.specs.declared.Start.{Start}
 use Rattle.block_restarts_v2.specs.declared.StartRead.{StartRead}
 use Rattle.block_restarts_v2.specs.declared.StartRead.the-variants.{At, Refused}

@@ -20,12 +20,12 @@ use Rattle.layout.specs.RowRead.{Held, holds, gone, merges, RowRead, keyLength}
 use Rattle.layout.specs.Cursor.{Cursor, done, Step, stepIs, Keyed, next}
 use Rattle.layout.specs.Laws.Answer.{ok-inj, ltb-cases, eqb-cases}
 use Rattle.layout.specs.Laws.Splice.{Wrote, wrote-rest, splice-lent, splice-none}
-use Rattle.types.specs.Answers.{apart}
-use Rattle.types.specs.Number.{number}
-use Rattle.types.specs.Says.{saysOrder}
-use Rattle.types.specs.declared.Refusal.{Refusal}
-use Rattle.block_step_v2.specs.Says.{viewIn}
-use Rattle.block_step_v2.specs.declared.Place.{Place}
+use Rattle.basics.specs.Answers.{apart}
+use Rattle.basics.specs.Number.{number}
+use Rattle.basics.specs.Says.{saysOrder}
+use Rattle.basics.specs.declared.Refusal.{Refusal}
+use Rattle.step_in_place_v2.specs.Says.{viewIn}
+use Rattle.step_in_place_v2.specs.declared.Place.{Place}
 use Rattle.row_words.specs.Words.{badWords, doneCode, codeOf, cursorIn, cursorWords, heldWords, timeWords, rowWords, rowCount}
 use Rattle.row_words.specs.Promise.{Stores}
 use Rattle.row_words.proofs.Laws.{stored}

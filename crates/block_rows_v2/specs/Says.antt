@@ -8,11 +8,11 @@ use Rattle.layout.specs.Answer.{Res, ok, refuse, bind}
 use Rattle.layout.specs.Cursor.{Cursor, done, stepIs, next}
 use Rattle.layout.specs.Limits.{maxKey}
 use Rattle.layout.specs.Place.{splice}
-use Rattle.types.specs.Number.{number}
-use Rattle.block_step_v2.specs.Promise.{Kept}
+use Rattle.basics.specs.Number.{number}
+use Rattle.step_in_place_v2.specs.Promise.{Kept}
 use Rattle.row_plain_v2.specs.declared.PlainRow.{PlainRow}
-use Rattle.block_step_v2.specs.Says.{viewIn}
-use Rattle.block_step_v2.specs.declared.Place.{Place}
+use Rattle.step_in_place_v2.specs.Says.{viewIn}
+use Rattle.step_in_place_v2.specs.declared.Place.{Place}
 use Rattle.row_words.specs.Words.{doneCode, setBy, cursorWords, rowCount}
 use Rattle.block_rows_v2.specs.declared.Gave.{Gave}
 use Rattle.block_rows_v2.specs.declared.Gave.the-variants.{Rows, Refused}

@@ -12,8 +12,8 @@ ghost use Rattle.layout.specs.Place.{splice};
 ghost use Rattle.layout.specs.Plain.{plainRead};
 ghost use Rattle.row_decode_v2.specs.Says.{rowFrom};
 ghost use Rattle.row_plain_v2.specs.Promise.{plainFrom};
-ghost use Rattle.block.specs.Says.{regionFrom};
-ghost use Rattle.block_step_v2.specs.Says.{viewIn};
+ghost use Rattle.trailer.specs.Says.{regionFrom};
+ghost use Rattle.step_in_place_v2.specs.Says.{viewIn};
 ghost use Rattle.row_words.specs.Words.{cursorCount, rowCount, rowWords};
 ghost use Rattle.block_rows_v2.specs.Rows.{nextRows};
 ghost use Rattle.block_rows_v2.specs.Promise.{mostRows, RowsFlat};
@@ -21,15 +21,15 @@ ghost use Rattle.region_rows_v2.specs.Bounds.{Inside};
 ghost use Rattle.region_rows_v2.specs.Region.{PlainFits};
 ghost use Rattle.block_rows_v2.specs.Says.{Gives, PutsGave, Roomy, Ended, RunsOn, StepsOn, Carried, ranTo, markedAt};
 ghost use Rattle.block_rows_v2.specs.declared.Gave.the-variants.{Rows, Refused};
-use block_step_v2::Moved;
-use block_step_v2::Place;
+use basics::Refusal;
+use basics::Time;
+use basics::ValueDeletable;
 use block_words::CursorRead;
 use region_rows_v2::Bounds;
 use row_decode_v2::Row;
 use row_plain_v2::PlainRow;
-use types::Refusal;
-use types::Time;
-use types::ValueDeletable;
+use step_in_place_v2::Moved;
+use step_in_place_v2::Place;
 
 // The cursor past the rows that were given, how many these are, and whether "done" came at once; or the refusal of the first row.
 enum Gave {
@@ -278,7 +278,7 @@ fn step_row(block: &[u8], key: &mut [u8], keys: &mut [u8], rows: &mut [u64], her
     if here.ended {
         return Went::Stopped(stop(n, p, marked(p)));
     }
-    let moved = block_step_v2::next_in_place(key, p, block, &mut keys[used..]);
+    let moved = step_in_place_v2::next_in_place(key, p, block, &mut keys[used..]);
     match moved {
         Moved::Found { place, row } => {
             put_nth(rows, n, row);
@@ -348,7 +348,7 @@ fn put_gave(cursor: &mut [u64], count: &mut u64, gave: Gave) -> u8
                 block_words::GOOD
             }
         }
-        Gave::Refused(refusal) => types::number(refusal),
+        Gave::Refused(refusal) => basics::number(refusal),
     }
 }
 
@@ -364,7 +364,7 @@ pub fn next_rows(
 ) -> u8
     ensures { λ r. ⌜ RowsFlat (now (block .entry)) (now (cursor .entry)) (now (key .entry)) (now (keys .entry)) (now (rows .entry)) (now (count .entry)) r (now (cursor .exit)) (now (key .exit)) (now (keys .exit)) (now (rows .exit)) (now (count .exit)) ⌝ }
 {
-    if key.len() != types::MAX_KEY {
+    if key.len() != basics::MAX_KEY {
         return block_words::BAD_WORDS;
     }
     let loaded = block_words::cursor_in(cursor);

@@ -1,4 +1,4 @@
--- The promises of the builder's methods, from what `block_grow_v2` did with its numbers and the bytes of its last key: these are always as many as the longest
+-- The promises of the builder's methods, from what `build_in_place_v2` did with its numbers and the bytes of its last key: these are always as many as the longest
 -- key has, so nothing is refused for them.
 use Prim.Native.Nat.{ℕ, _≤_}
 use mathlib.Core.Path.{_≡_, refl, ap, sym, _∙_}
@@ -14,15 +14,15 @@ use Rattle.layout.specs.Place.{splice}
 use Rattle.layout.specs.Row.{Fields}
 use Rattle.layout.specs.Laws.Made.{add-tells}
 use Rattle.layout.specs.Laws.Splice.{take-past-splice}
-use Rattle.types.specs.declared.Refusal.{Refusal}
-use Rattle.block_grow_v2.specs.Promise.{entered, AddsInPlaceAs, Finishes}
-use Rattle.block_grow_v2.specs.Says.{stateFrom}
-use Rattle.block_grow_v2.specs.declared.State.{State}
-use Rattle.block_grow_v2.specs.declared.BuildAnswer.{BuildAnswer}
-use Rattle.block_grow_v2.specs.declared.Grown.{Grown}
-use Rattle.block_grow_v2.specs.declared.Grown.the-variants.{Row as GrownRow, Refused as GrownRefused}
-use Rattle.block_grow_v2.proofs.Tests.{passed-not, passed}
-use Rattle.block_grow_v2.proofs.Writes.{entered-is}
+use Rattle.basics.specs.declared.Refusal.{Refusal}
+use Rattle.build_in_place_v2.specs.Promise.{entered, AddsInPlaceAs, Finishes}
+use Rattle.build_in_place_v2.specs.Says.{stateFrom}
+use Rattle.build_in_place_v2.specs.declared.State.{State}
+use Rattle.build_in_place_v2.specs.declared.BuildAnswer.{BuildAnswer}
+use Rattle.build_in_place_v2.specs.declared.Grown.{Grown}
+use Rattle.build_in_place_v2.specs.declared.Grown.the-variants.{Row as GrownRow, Refused as GrownRefused}
+use Rattle.build_in_place_v2.proofs.Tests.{passed-not, passed}
+use Rattle.build_in_place_v2.proofs.Writes.{entered-is}
 use Rattle.block_v2.specs.declared.BlockBuilderV2.{BlockBuilderV2}
 use Rattle.block_v2.specs.declared.New.{New}
 use Rattle.block_v2.specs.declared.Made.the-variants.{Good as GoodMade}

@@ -10,10 +10,10 @@ use Rattle.layout.specs.Key.{Key}
 use Rattle.layout.specs.Limits.{defaultInterval}
 use Rattle.row_size_v2.specs.Says.{fieldsFrom}
 use Rattle.row_size_v2.specs.declared.RowFields.{RowFields}
-use Rattle.block_grow_v2.specs.Says.{stateFrom, saysFit-one, saysBuild-one}
-use Rattle.block_grow_v2.specs.declared.Fit.{Fit}
-use Rattle.block_grow_v2.specs.declared.BuildAnswer.{BuildAnswer}
-use Rattle.block_grow_v2.specs.declared.State.{State}
+use Rattle.build_in_place_v2.specs.Says.{stateFrom, saysFit-one, saysBuild-one}
+use Rattle.build_in_place_v2.specs.declared.Fit.{Fit}
+use Rattle.build_in_place_v2.specs.declared.BuildAnswer.{BuildAnswer}
+use Rattle.build_in_place_v2.specs.declared.State.{State}
 use Rattle.block_v2.specs.declared.BlockBuilderV2.{BlockBuilderV2}
 use Rattle.block_v2.specs.declared.Made.{Made}
 use Rattle.block_v2.specs.declared.New.{New}

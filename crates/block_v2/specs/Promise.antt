@@ -11,9 +11,9 @@ use Rattle.layout.specs.Place.{splice}
 use Rattle.layout.specs.Row.{Fields}
 use Rattle.row_size_v2.specs.Says.{fieldsFrom}
 use Rattle.row_size_v2.specs.declared.RowFields.{RowFields}
-use Rattle.block_grow_v2.specs.Says.{stateFrom, saysFit, saysBuild}
-use Rattle.block_grow_v2.specs.declared.Fit.{Fit}
-use Rattle.block_grow_v2.specs.declared.State.{State}
+use Rattle.build_in_place_v2.specs.Says.{stateFrom, saysFit, saysBuild}
+use Rattle.build_in_place_v2.specs.declared.Fit.{Fit}
+use Rattle.build_in_place_v2.specs.declared.State.{State}
 use Rattle.block_v2.specs.declared.BlockBuilderV2.{BlockBuilderV2}
 use Rattle.block_v2.specs.declared.New.{New}
 use Rattle.block_v2.specs.declared.Added.{Added}

@@ -6,11 +6,11 @@ use lib.ListN.{replicate}
 use Rattle.layout.specs.Limits.{maxKey}
 use Rattle.layout.specs.Answer.{Res, ok, refuse}
 use Rattle.layout.specs.Builder.{Builder, fresh}
-use Rattle.types.specs.Answers.{apart, refused-one}
-use Rattle.types.specs.Number.{number}
-use Rattle.types.specs.declared.Refusal.the-variants.{BadSettings}
-use Rattle.block_grow_v2.specs.Says.{viewFrom, stateFrom}
-use Rattle.block_grow_v2.specs.declared.State.{State}
+use Rattle.basics.specs.Answers.{apart, refused-one}
+use Rattle.basics.specs.Number.{number}
+use Rattle.basics.specs.declared.Refusal.the-variants.{BadSettings}
+use Rattle.build_in_place_v2.specs.Says.{viewFrom, stateFrom}
+use Rattle.build_in_place_v2.specs.declared.State.{State}
 use Rattle.block_v2.specs.declared.BlockBuilderV2.{BlockBuilderV2}
 use Rattle.block_v2.specs.declared.Made.{Made}
 use Rattle.block_v2.specs.declared.Made.the-variants.{Good as GoodMade, Refused as MadeRefused}

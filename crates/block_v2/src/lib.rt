@@ -1,20 +1,20 @@
 // The builder of a V2 block, by value: rows with prefix compression, and restarts. It is numbers and the last key, and its work is done over those by
-// `block_grow_v2`; the rows' bytes and the restarts' offsets are in buffers that are lent to each call.
+// `build_in_place_v2`; the rows' bytes and the restarts' offsets are in buffers that are lent to each call.
 // Follows slatedb 0.16.0, src/format/block_v2.rs (Apache License 2.0), and is changed: rows go into the free rest of the lent data buffer, the builder comes in and
 // goes out by value, and what the settings, the row, the room or the state itself can break is a refusal. A refused call changes nothing.
 ghost use mathlib.Core.Path.{_≡_};
 ghost use Rattle.layout.specs.Builder.{fresh};
 ghost use Rattle.layout.specs.Limits.{defaultInterval};
-ghost use Rattle.block_grow_v2.specs.Promise.{AddsInPlace};
-ghost use Rattle.block_grow_v2.specs.Says.{stateFrom};
+ghost use Rattle.build_in_place_v2.specs.Promise.{AddsInPlace};
+ghost use Rattle.build_in_place_v2.specs.Says.{stateFrom};
 ghost use Rattle.block_v2.specs.Says.{builderFrom, noKey, badSettings};
 ghost use Rattle.block_v2.specs.Promise.{TakesState, Makes, Fits, Adds, Empties, Builds};
-use block_grow_v2::BuildAnswer;
-use block_grow_v2::Fit;
-use block_grow_v2::Grown;
-use block_grow_v2::State;
+use basics::Refusal;
+use build_in_place_v2::BuildAnswer;
+use build_in_place_v2::Fit;
+use build_in_place_v2::Grown;
+use build_in_place_v2::State;
 use row_size_v2::RowFields;
-use types::Refusal;
 
 // The numbers of `State`, and the most recent key. Bytes past its length tell nothing.
 pub struct BlockBuilderV2 {
@@ -23,7 +23,7 @@ pub struct BlockBuilderV2 {
     pub used: usize,
     pub restarts: usize,
     pub counter: usize,
-    pub last_key: [u8; types::MAX_KEY],
+    pub last_key: [u8; basics::MAX_KEY],
     pub last_key_len: usize,
 }
 
@@ -76,7 +76,7 @@ fn empty_builder(block_size: usize, restart_interval: usize) -> BlockBuilderV2
         used: 0,
         restarts: 0,
         counter: 0,
-        last_key: [0; types::MAX_KEY],
+        last_key: [0; basics::MAX_KEY],
         last_key_len: 0,
     }
 }
@@ -92,7 +92,7 @@ fn bad_settings() -> New
 
 // Adds a row where the last key lies. A builder's own array can be lent only as one.
 fn add_in_array(
-    last_key: &mut [u8; types::MAX_KEY],
+    last_key: &mut [u8; basics::MAX_KEY],
     s: State,
     data: &mut [u8],
     restarts: &mut [u16],
@@ -102,7 +102,7 @@ fn add_in_array(
 ) -> Grown
     ensures { λ r. ⌜ AddsInPlace s (now («last_key» .entry)) (now («data» .entry)) (now (restarts .entry)) (now (key .entry)) (now (value .entry)) row r (now («last_key» .exit)) (now («data» .exit)) (now (restarts .exit)) ⌝ }
 {
-    block_grow_v2::add_in_place(last_key, s, data, restarts, key, value, row)
+    build_in_place_v2::add_in_place(last_key, s, data, restarts, key, value, row)
 }
 
 impl BlockBuilderV2 {
@@ -110,20 +110,20 @@ impl BlockBuilderV2 {
     pub fn new(block_size: usize) -> New
         ensures { λ r. ⌜ Makes «block_size» defaultInterval r ⌝ }
     {
-        BlockBuilderV2::new_with_restart_interval(block_size, types::DEFAULT_RESTART_INTERVAL)
+        BlockBuilderV2::new_with_restart_interval(block_size, basics::DEFAULT_RESTART_INTERVAL)
     }
 
     // Creates a new builder with a custom restart interval: 8.
     pub fn new_with_restart_interval(block_size: usize, restart_interval: usize) -> New
         ensures { λ r. ⌜ Makes «block_size» «restart_interval» r ⌝ }
     {
-        if types::MAX_BLOCK < block_size {
+        if basics::MAX_BLOCK < block_size {
             return bad_settings();
         }
         if restart_interval == 0 {
             return bad_settings();
         }
-        if types::MAX_INTERVAL < restart_interval {
+        if basics::MAX_INTERVAL < restart_interval {
             return bad_settings();
         }
         New {
@@ -152,7 +152,15 @@ impl BlockBuilderV2 {
             counter: self.counter,
             last_key_len: self.last_key_len,
         };
-        block_grow_v2::would_fit_in_place(&self.last_key, s, data_len, places_len, key, value, row)
+        build_in_place_v2::would_fit_in_place(
+            &self.last_key,
+            s,
+            data_len,
+            places_len,
+            key,
+            value,
+            row,
+        )
     }
 
     // Adds a row: 18, 1, 2, 3, 4, 5, 6.
@@ -198,7 +206,7 @@ impl BlockBuilderV2 {
     pub fn build(self, data: &mut [u8], restarts: &[u16]) -> Built
         ensures { λ r. ⌜ Builds self (now («data» .entry)) (now (restarts .entry)) r (now («data» .exit)) ⌝ }
     {
-        let answer = block_grow_v2::build_in_place(state_of(self), data, restarts);
+        let answer = build_in_place_v2::build_in_place(state_of(self), data, restarts);
         Built {
             builder: self,
             answer,

@@ -16,14 +16,14 @@ use Rattle.layout.specs.Place.{splice, afterPut}
 use Rattle.buf_mut.specs.Promise.{Puts}
 use Rattle.buf_mut.specs.declared.Put.{Put}
 use Rattle.buf_mut.proofs.Laws.{copied}
-use Rattle.types.specs.Answers.{apart, yes}
-use Rattle.types.specs.Says.{saysOrder}
+use Rattle.basics.specs.Answers.{apart, yes}
+use Rattle.basics.specs.Says.{saysOrder}
 use Rattle.block_v2.specs.Says.{builderFrom as builderOver}
 use Rattle.block_v2.specs.declared.BlockBuilderV2.{BlockBuilderV2}
-use Rattle.block_grow_v2.specs.declared.State.{State}
+use Rattle.build_in_place_v2.specs.declared.State.{State}
 use Rattle.block_iterator_v2.specs.Says.{viewOf}
 use Rattle.block_iterator_v2.specs.declared.BlockIteratorV2.{BlockIteratorV2}
-use Rattle.block_step_v2.specs.declared.Place.{Place}
+use Rattle.step_in_place_v2.specs.declared.Place.{Place}
 use Rattle.row_words.specs.Words.{badWords, truthIn, orderIn, wordAt, cursorFrom, cursorIn, cursorWords, builderCount, cursorCount}
 use Rattle.block_words.specs.Says.{saysCursor, saysState, stateIn}
 use Rattle.block_words.specs.declared.CursorRead.the-variants.{Is as IsCursor}

@@ -10,9 +10,9 @@ use Rattle.layout.specs.Cursor.{Cursor, Answer, found, done, Step, stepIs, next
 use Rattle.layout.specs.Limits.{maxKey}
 use Rattle.layout.specs.RowRead.{RowRead as RowReadL}
 use Rattle.layout.specs.Laws.Answer.{ok-inj}
-use Rattle.types.specs.Answers.{apart}
-use Rattle.block_step_v2.specs.Says.{viewIn, row as row-told, none, toldOf, told, told-row, told-apart}
-use Rattle.block_step_v2.specs.declared.Place.{Place}
+use Rattle.basics.specs.Answers.{apart}
+use Rattle.step_in_place_v2.specs.Says.{viewIn, row as row-told, none, toldOf, told, told-row, told-apart}
+use Rattle.step_in_place_v2.specs.declared.Place.{Place}
 use Rattle.row_words.specs.Words.{badWords, doneCode, codeOf, cursorIn, cursorWords, rowWords, rowCount}
 use Rattle.block_words.specs.Exports.{StepsAs, StepsFlat}
 

@@ -9,12 +9,12 @@ use Rattle.layout.specs.Limits.{maxKey}
 use Rattle.layout.specs.Laws.Answer.{ok-inj}
 use Rattle.block_iterator_v2.specs.declared.BlockIteratorV2.{BlockIteratorV2}
 use Rattle.block_v2.specs.declared.BlockBuilderV2.{BlockBuilderV2}
-use Rattle.block_grow_v2.specs.declared.State.{State}
+use Rattle.build_in_place_v2.specs.declared.State.{State}
 use Rattle.block_v2.specs.Says.{builderFrom}
-use Rattle.types.specs.Answers.{apart}
-use Rattle.types.specs.Says.{saysOrder, saysOrder-one}
-use Rattle.block_step_v2.specs.declared.Place.{Place}
-use Rattle.block_step_v2.specs.Says.{viewIn, viewIn-one}
+use Rattle.basics.specs.Answers.{apart}
+use Rattle.basics.specs.Says.{saysOrder, saysOrder-one}
+use Rattle.step_in_place_v2.specs.declared.Place.{Place}
+use Rattle.step_in_place_v2.specs.Says.{viewIn, viewIn-one}
 use Rattle.block_words.specs.declared.OrderRead.{OrderRead}
 use Rattle.block_words.specs.declared.OrderRead.the-variants.{Is as IsOrder, Bad as BadOrder}
 use Rattle.block_words.specs.declared.CursorRead.{CursorRead}

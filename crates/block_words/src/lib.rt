@@ -1,15 +1,15 @@
 // What crosses the C interface as lent words: a cursor and a builder, loaded from words and stored to them, and the codes that a call answers.
 // Words that are not as many as they must be are neither loaded nor stored to.
 ghost use mathlib.Core.Path.{_≡_};
-ghost use Rattle.types.specs.Says.{saysOrder};
+ghost use Rattle.basics.specs.Says.{saysOrder};
 ghost use Rattle.row_words.specs.Words.{orderWord};
 ghost use Rattle.block_words.specs.Promise.{LoadsOrder, LoadsCursor, PutsCursor, PutsIterator, LoadsState, PutsState, MakesOver};
-use block_grow_v2::State;
+use basics::IterationOrder;
 use block_iterator_v2::BlockIteratorV2;
-use block_step_v2::Place;
 use block_v2::BlockBuilderV2;
+use build_in_place_v2::State;
 use row_words::TruthRead;
-use types::IterationOrder;
+use step_in_place_v2::Place;
 
 // ---- codes: beside these, the number of a refusal
 
@@ -117,7 +117,7 @@ pub fn put_iterator(cursor: &mut [u64], key: &mut [u8], c: BlockIteratorV2) -> b
     if cursor.len() != CURSOR_WORDS {
         return false;
     }
-    if key.len() != types::MAX_KEY {
+    if key.len() != basics::MAX_KEY {
         return false;
     }
     put_cursor(cursor, block_iterator_v2::place_of(c));
@@ -162,7 +162,7 @@ pub fn put_state(words: &mut [u64], s: State) -> bool
 pub fn builder_over(s: State, last_key: &[u8]) -> BlockBuilderV2
     ensures { λ r. ⌜ MakesOver s (now («last_key» .entry)) r ⌝ }
 {
-    let mut key = [0; types::MAX_KEY];
+    let mut key = [0; basics::MAX_KEY];
     buf_mut::copy_in(&mut key, 0, last_key);
     BlockBuilderV2 {
         block_size: s.block_size,

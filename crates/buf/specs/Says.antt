@@ -3,8 +3,8 @@ use mathlib.Core.Path.{_≡_, ap, sym}
 use Rattle.layout.specs.Answer.{Res, ok, refuse}
 use Rattle.layout.specs.Place.{NumAt, numAt, SignedAt, signed}
 use Rattle.layout.specs.Laws.Answer.{ok-inj}
-use Rattle.types.specs.Answers.{apart, refused-one}
-use Rattle.types.specs.Number.{number}
+use Rattle.basics.specs.Answers.{apart, refused-one}
+use Rattle.basics.specs.Number.{number}
 use Rattle.buf.specs.declared.ShortRead.{ShortRead}
 use Rattle.buf.specs.declared.ShortRead.the-variants.{Short, Refused as ShortRefused}
 use Rattle.buf.specs.declared.WordRead.{WordRead}

@@ -6,7 +6,7 @@ ghost use Prim.Native.Nat.{_≤_, _<_, _+_};
 ghost use lib.ListN.{length};
 ghost use Rattle.layout.specs.Laws.Place.{fourAt};
 ghost use Rattle.buf.specs.Promise.{ReadsShort, ReadsWord, ReadsSigned};
-use types::Refusal;
+use basics::Refusal;
 
 pub enum ShortRead {
     Short { value: u16, next: usize },

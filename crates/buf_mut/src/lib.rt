@@ -7,7 +7,7 @@ ghost use lib.ListN.{length, take, drop};
 ghost use Rattle.layout.specs.Fixed.{big, bits};
 ghost use Rattle.layout.specs.Place.{splice};
 ghost use Rattle.buf_mut.specs.Promise.{Puts, PlaceAfter};
-use types::Refusal;
+use basics::Refusal;
 
 // The place after what was written.
 pub enum Put {

@@ -2,12 +2,12 @@
 use crate::show;
 use crate::writing::add;
 use crate::writing::built;
+use basics::IterationOrder;
 use block_check_v2::Checked;
 use block_iterator_v2::BlockIteratorV2;
 use block_iterator_v2::NextAnswer;
 use block_iterator_v2::SeekAnswer;
 use block_v2::BlockBuilderV2;
-use types::IterationOrder;
 
 fn checked(block: &[u8]) {
     match block_check_v2::check(block) {

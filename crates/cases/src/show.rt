@@ -1,6 +1,6 @@
 // Answers, as lines of text.
+use basics::Refusal;
 use libc::STDOUT_FILENO;
-use types::Refusal;
 
 pub fn text(words: &[u8]) {
     io::write_all(STDOUT_FILENO, words);
@@ -32,6 +32,6 @@ pub fn bytes(buf: &[u8], n: usize) {
 
 pub fn refusal(r: Refusal) {
     text(b"refusal ");
-    number(types::number(r) as u64);
+    number(basics::number(r) as u64);
     text(b"\n");
 }

@@ -1,14 +1,14 @@
 // Cases 1 to 7 and 11, and the slips on writing.
 use crate::show;
-use block_grow_v2::BuildAnswer;
+use basics::Kind;
+use basics::Time;
 use block_v2::AddAnswer;
 use block_v2::BlockBuilderV2;
 use buf_mut::Put;
+use build_in_place_v2::BuildAnswer;
 use row_decode_v2::RowRead;
 use row_encode_v2::Encoded;
 use row_size_v2::RowFields;
-use types::Kind;
-use types::Time;
 use utils::VarintRead;
 
 fn fields(seq: u64) -> RowFields {
@@ -76,11 +76,11 @@ fn two_rows(block_size: usize, restart_interval: usize) {
 
 pub fn blocks() {
     show::text(b"case 2\n");
-    two_rows(4096, types::DEFAULT_RESTART_INTERVAL);
+    two_rows(4096, basics::DEFAULT_RESTART_INTERVAL);
     show::text(b"case 3, block size 31\n");
-    two_rows(31, types::DEFAULT_RESTART_INTERVAL);
+    two_rows(31, basics::DEFAULT_RESTART_INTERVAL);
     show::text(b"case 3, block size 30\n");
-    two_rows(30, types::DEFAULT_RESTART_INTERVAL);
+    two_rows(30, basics::DEFAULT_RESTART_INTERVAL);
     show::text(b"case 4\n");
     two_rows(4096, 1);
 }

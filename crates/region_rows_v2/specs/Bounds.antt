@@ -11,7 +11,7 @@ use Rattle.layout.specs.Limits.{maxKey}
 use Rattle.layout.specs.Trailer.{Trailer, trailerIs, trailerOf, Region, regionIs, regionOf}
 use Rattle.layout.specs.Cursor.{Direction, ascending, descending, Cursor}
 use Rattle.layout.specs.Laws.Answer.{bind-then, guard-then, ok-inj}
-use Rattle.block.specs.Says.{regionFrom}
+use Rattle.trailer.specs.Says.{regionFrom}
 use Rattle.region_rows_v2.specs.declared.Bounds.{Bounds}
 
 pub record Stretch : Type 0 where

@@ -14,17 +14,17 @@ use Rattle.layout.specs.RowRead.{RowRead}
 use Rattle.layout.specs.Cursor.{Cursor, Answer, found, done, Step, stepIs, next, cursorAfter, keyAfter}
 use Rattle.layout.specs.Laws.Answer.{ok-inj}
 use Rattle.region_rows_v2.specs.StepKey.{KeyedWell, next-given}
-use Rattle.types.specs.Answers.{apart, yes}
-use Rattle.types.specs.Number.{number}
-use Rattle.types.specs.declared.Refusal.{Refusal}
+use Rattle.basics.specs.Answers.{apart, yes}
+use Rattle.basics.specs.Number.{number}
+use Rattle.basics.specs.declared.Refusal.{Refusal}
 use Rattle.row_decode_v2.specs.Says.{rowFrom}
 use Rattle.row_decode_v2.specs.declared.Row.{Row}
-use Rattle.block_step_v2.specs.Lent.{lent-whole}
-use Rattle.block_step_v2.specs.Promise.{Moves, StepsInPlace}
-use Rattle.block_step_v2.specs.Says.{viewIn, row, none, told, toldOf, told-row, told-apart, saysMoved, placeAfter}
-use Rattle.block_step_v2.specs.declared.Moved.{Moved}
-use Rattle.block_step_v2.specs.declared.Moved.the-variants.{Found, Done, Refused}
-use Rattle.block_step_v2.specs.declared.Place.{Place}
+use Rattle.step_in_place_v2.specs.Lent.{lent-whole}
+use Rattle.step_in_place_v2.specs.Promise.{Moves, StepsInPlace}
+use Rattle.step_in_place_v2.specs.Says.{viewIn, row, none, told, toldOf, told-row, told-apart, saysMoved, placeAfter}
+use Rattle.step_in_place_v2.specs.declared.Moved.{Moved}
+use Rattle.step_in_place_v2.specs.declared.Moved.the-variants.{Found, Done, Refused}
+use Rattle.step_in_place_v2.specs.declared.Place.{Place}
 
 -- a row found: the step from c to d, and its key, which stands at the start of the lent bytes then
 pub record Finds (b : List ℕ) (c d : Cursor) (r : RowRead) (out out′ : List ℕ) : Type 0 where

@@ -4,8 +4,8 @@ use mathlib.Core.List.{List, []}
 use Prim.Native.Nat.{ℕ}
 use Rattle.layout.specs.Answer.{Res, ok, refuse}
 use Rattle.layout.specs.Place.{NumAt, fixedAt}
-use Rattle.block_step_v2.specs.Says.{viewIn}
-use Rattle.block_step_v2.specs.declared.Place.{Place}
+use Rattle.step_in_place_v2.specs.Says.{viewIn}
+use Rattle.step_in_place_v2.specs.declared.Place.{Place}
 use Rattle.region_rows_v2.specs.declared.Bounds.{Bounds}
 use Rattle.region_rows_v2.specs.Bounds.{stretchFrom, stretchOf}
 

@@ -3,12 +3,12 @@
 ghost use mathlib.Core.Path.{_≡_};
 ghost use Rattle.region_rows_v2.specs.Bounds.{noStretch, stretchFrom};
 ghost use Rattle.region_rows_v2.specs.Promise.{BoundsOf, ReadsSeq};
-use block::Region;
-use block::RegionRead;
-use block::TrailerRead;
-use block_step_v2::Place;
+use basics::IterationOrder;
 use buf::WordRead;
-use types::IterationOrder;
+use step_in_place_v2::Place;
+use trailer::Region;
+use trailer::RegionRead;
+use trailer::TrailerRead;
 
 // How many bytes of rows a block has, and the bounds of one of its regions.
 pub struct Bounds {
@@ -38,17 +38,17 @@ pub fn bounds_of(block: &[u8], p: Place) -> Bounds
     if p.done {
         return no_bounds();
     }
-    let read = block::trailer_of(block);
+    let read = trailer::trailer_of(block);
     let TrailerRead::Good(trailer) = read else {
         return no_bounds();
     };
     if trailer.count <= p.region {
         return no_bounds();
     }
-    if types::MAX_KEY < p.key_len {
+    if basics::MAX_KEY < p.key_len {
         return no_bounds();
     }
-    let bounds = block::region_of(block, trailer, p.region);
+    let bounds = trailer::region_of(block, trailer, p.region);
     let RegionRead::Good(region) = bounds else {
         return no_bounds();
     };

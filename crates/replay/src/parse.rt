@@ -2,10 +2,10 @@
 ghost use Prim.Native.Nat.{_≤_};
 ghost use Rattle.io.specs.Counts.{Counts};
 use crate::words;
+use basics::Kind;
+use basics::Time;
 use buf::SignedRead;
 use row_size_v2::RowFields;
-use types::Kind;
-use types::Time;
 
 // The digit that `b` spells, else 16.
 fn digit(b: u8) -> u8 {

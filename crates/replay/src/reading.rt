@@ -2,11 +2,11 @@
 use crate::parse;
 use crate::show;
 use crate::words;
+use basics::IterationOrder;
 use block_check_v2::Checked;
 use block_iterator_v2::BlockIteratorV2;
 use block_iterator_v2::EmptyRead;
 use block_iterator_v2::NextAnswer;
-use types::IterationOrder;
 
 // The numbers of the commands.
 pub const SCAN: usize = 2;
@@ -31,7 +31,7 @@ fn say(answer: NextAnswer, key: &[u8], block: &[u8]) {
 }
 
 fn step(cursor: BlockIteratorV2, block: &[u8]) -> BlockIteratorV2 {
-    let mut key = [0u8; types::MAX_KEY];
+    let mut key = [0u8; basics::MAX_KEY];
     let next = cursor.next(block, &mut key);
     let answer = next.answer;
     say(answer, &key, block);
@@ -66,7 +66,7 @@ fn empty(cursor: BlockIteratorV2, block: &[u8]) {
 
 // A step of which nothing is said.
 fn pass(cursor: BlockIteratorV2, block: &[u8]) -> BlockIteratorV2 {
-    let mut key = [0u8; types::MAX_KEY];
+    let mut key = [0u8; basics::MAX_KEY];
     cursor.next(block, &mut key).iterator
 }
 

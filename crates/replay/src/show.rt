@@ -1,11 +1,11 @@
 // Answers, in the words of the list.
 use crate::words;
+use basics::Refusal;
+use basics::Time;
+use basics::ValueDeletable;
 use buf::WordRead;
 use libc::STDOUT_FILENO;
 use row_decode_v2::Row;
-use types::Refusal;
-use types::Time;
-use types::ValueDeletable;
 
 pub fn text(s: &[u8]) {
     io::write_all(STDOUT_FILENO, s);
@@ -32,7 +32,7 @@ pub fn bytes(s: &[u8], start: usize, len: usize) {
 pub fn refusal(r: Refusal) {
     let rust =
         b"- E:EmptyKey - - 0 - - E:EmptyBlock - - - E:InvalidRowFlags E:InvalidRowFlags - - - - - - -";
-    let n = types::number(r);
+    let n = basics::number(r);
     let word = words::word(rust, b' ', n as usize);
     if words::byte(word, 0) != b'-' {
         text(word);

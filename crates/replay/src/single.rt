@@ -63,7 +63,7 @@ pub fn varint(line: &[u8]) {
 
 // The share, the row with its suffix as its key, and how many bytes were read.
 fn decoded_row(s: &[u8]) {
-    match row_decode_v2::decode(s, types::MAX_KEY) {
+    match row_decode_v2::decode(s, basics::MAX_KEY) {
         RowRead::Read(row) => {
             show::number(row.shared as u64);
             show::mark(b' ');
@@ -87,7 +87,7 @@ fn suffix(s: &[u8], at: usize, len: usize) {
 }
 
 fn decoded_key(s: &[u8]) {
-    match row_decode_v2::decode_key_only(s, 0, s.len(), types::MAX_KEY, false) {
+    match row_decode_v2::decode_key_only(s, 0, s.len(), basics::MAX_KEY, false) {
         KeyRead::Read(place) => {
             show::number(place.shared as u64);
             show::mark(b' ');

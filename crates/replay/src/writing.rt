@@ -2,11 +2,11 @@
 use crate::parse;
 use crate::show;
 use crate::words;
-use block_grow_v2::BuildAnswer;
-use block_grow_v2::Fit;
 use block_v2::AddAnswer;
 use block_v2::BlockBuilderV2;
 use block_v2::Made;
+use build_in_place_v2::BuildAnswer;
+use build_in_place_v2::Fit;
 
 // The builder with the settings of the line. A refusal is said, as a word by itself, whatever follows.
 fn fresh(line: &[u8]) -> BlockBuilderV2 {

@@ -1,8 +1,8 @@
 // The report on one block, from a zero tally.
+use basics::Refusal;
 use libc::STDOUT_FILENO;
 use tally::Tally;
 use tally::TallyAnswer;
-use types::Refusal;
 
 const MOST_BLOCK: usize = 65536;
 
@@ -13,7 +13,7 @@ fn line(name: &[u8], n: u64) {
 }
 
 fn refused(r: Refusal) {
-    let n = types::number(r);
+    let n = basics::number(r);
     line(b"refused ", n as u64);
 }
 

@@ -3,7 +3,7 @@ use Prim.Native.Nat.{ℕ}
 use mathlib.Core.Path.{_≡_, sym, _∙_}
 use mathlib.Core.Bool.{Bool}
 use mathlib.Core.List.{List}
-use Rattle.types.specs.declared.Refusal.{Refusal}
+use Rattle.basics.specs.declared.Refusal.{Refusal}
 use Rattle.row_decode_v2.specs.declared.RowRead.{RowRead}
 use Rattle.row_decode_v2.specs.declared.KeyRead.{KeyRead}
 use Rattle.row_decode_v2.specs.Promise.{Decodes, DecodesAt, RowRefusal, DecodesKey}

@@ -4,7 +4,7 @@ use mathlib.Core.Path.{_≡_}
 use mathlib.Core.Bool.{Bool}
 use mathlib.Core.List.{List}
 use Rattle.layout.specs.RowRead.{decodeRow, readRow, readKey}
-use Rattle.types.specs.declared.Refusal.{Refusal}
+use Rattle.basics.specs.declared.Refusal.{Refusal}
 use Rattle.row_decode_v2.specs.declared.RowRead.{RowRead}
 use Rattle.row_decode_v2.specs.declared.KeyRead.{KeyRead}
 use Rattle.row_decode_v2.specs.Says.{saysRow, refusalOfRow, saysKey}

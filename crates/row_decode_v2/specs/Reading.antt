@@ -3,11 +3,11 @@ use Prim.Native.Nat.{ℕ}
 use mathlib.Core.Bool.{Bool}
 use Rattle.layout.specs.Answer.{Res, ok, refuse}
 use Rattle.layout.specs.RowRead.{Lengths, lengthsIs, Flags, flagsIs, Held, heldAs, Body as BodyL, bodyIs, TimeAt, timeIs, Times as TimesL, timesIs}
-use Rattle.types.specs.Number.{number}
-use Rattle.types.specs.Says.{saysKind, saysHeld, saysTime}
-use Rattle.types.specs.declared.Kind.{Kind}
-use Rattle.types.specs.declared.Refusal.{Refusal}
-use Rattle.types.specs.declared.Refusal.the-variants.{InputEnds}
+use Rattle.basics.specs.Number.{number}
+use Rattle.basics.specs.Says.{saysKind, saysHeld, saysTime}
+use Rattle.basics.specs.declared.Kind.{Kind}
+use Rattle.basics.specs.declared.Refusal.{Refusal}
+use Rattle.basics.specs.declared.Refusal.the-variants.{InputEnds}
 use Rattle.utils.specs.declared.VarintRead.{VarintRead}
 use Rattle.utils.specs.declared.VarintRead.the-variants.{Number as VarintNumber, Refused as VarintRefused}
 use Rattle.buf.specs.declared.WordRead.{WordRead}

@@ -3,13 +3,13 @@ use mathlib.Core.Path.{_≡_, ap, sym, _∙_}
 use Rattle.layout.specs.Answer.{Res, ok, refuse}
 use Rattle.layout.specs.RowRead.{RowRead as RowReadL, KeyRead as KeyReadL}
 use Rattle.layout.specs.Laws.Answer.{ok-inj}
-use Rattle.types.specs.Answers.{apart, refused-one}
-use Rattle.types.specs.Number.{number}
-use Rattle.types.specs.Says.{saysTime, saysHeld, saysHeld-one, saysTime-one}
-use Rattle.types.specs.declared.Refusal.{Refusal}
-use Rattle.types.specs.declared.Refusal.the-variants.{InputEnds}
-use Rattle.types.specs.declared.Time.{Time}
-use Rattle.types.specs.declared.ValueDeletable.{ValueDeletable}
+use Rattle.basics.specs.Answers.{apart, refused-one}
+use Rattle.basics.specs.Number.{number}
+use Rattle.basics.specs.Says.{saysTime, saysHeld, saysHeld-one, saysTime-one}
+use Rattle.basics.specs.declared.Refusal.{Refusal}
+use Rattle.basics.specs.declared.Refusal.the-variants.{InputEnds}
+use Rattle.basics.specs.declared.Time.{Time}
+use Rattle.basics.specs.declared.ValueDeletable.{ValueDeletable}
 use Rattle.row_decode_v2.specs.declared.Row.{Row}
 use Rattle.row_decode_v2.specs.declared.RowRead.{RowRead}
 use Rattle.row_decode_v2.specs.declared.RowRead.the-variants.{Read as ReadRow, Refused as RowRefused}

@@ -6,16 +6,16 @@ ghost use Prim.Native.Nat.{_≤_};
 ghost use lib.ListN.{length};
 ghost use Rattle.layout.specs.Limits.{maxKey};
 ghost use Rattle.layout.specs.RowRead.{lengthsAt, mayShare, headAt, flagsAt, bodyAt, timeAt, timesAt, rowIs};
-ghost use Rattle.types.specs.Says.{saysHeld};
+ghost use Rattle.basics.specs.Says.{saysHeld};
 ghost use Rattle.row_decode_v2.specs.Says.{rowFrom};
 ghost use Rattle.row_decode_v2.specs.Promise.{Decodes, DecodesAt, DecodesKey, RowRefusal};
 ghost use Rattle.row_decode_v2.specs.Reading.{saysLengths, lengthsFrom, saysHead, flagsFrom, saysFlags, flagsGood, heldFrom, bodyFrom, saysBody, saysTimeAt, timesFrom, saysTimes, refusalOfVarint, refusalOfWord, refusalOfSigned, refusalOfLengths, refusalOfHead, refusalOfFlags, refusalOfBody, refusalOfTime, refusalOfTimes};
+use basics::Kind;
+use basics::Refusal;
+use basics::Time;
+use basics::ValueDeletable;
 use buf::SignedRead;
 use buf::WordRead;
-use types::Kind;
-use types::Refusal;
-use types::Time;
-use types::ValueDeletable;
 use utils::VarintRead;
 
 // Where a row, its key's suffix and its value stand, and its other fields.
@@ -243,7 +243,7 @@ fn head_at(s: &[u8], at: usize, previous_len: usize, restart: bool) -> HeadRead
     if shared + unshared == 0 {
         return HeadRead::Refused(Refusal::EmptyKey);
     }
-    if types::MAX_KEY < shared + unshared {
+    if basics::MAX_KEY < shared + unshared {
         return HeadRead::Refused(Refusal::KeyTooLong);
     }
     HeadRead::Read(Head {
@@ -284,7 +284,7 @@ fn body_at(s: &[u8], head: Head) -> BodyRead
     ensures { λ r. ⌜ saysBody r ≡ bodyAt (now (s .entry)) (lengthsFrom head) ⌝ }
 {
     let value_len = head.value_len;
-    if types::MAX_VALUE < value_len {
+    if basics::MAX_VALUE < value_len {
         return BodyRead::Refused(Refusal::ValueTooLong);
     }
     let value_at = head.suffix_at + head.unshared;

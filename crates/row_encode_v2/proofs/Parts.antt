@@ -10,7 +10,7 @@ use Rattle.layout.specs.Row.{Kind, value, tombstone, merge, kept, keptLength, r
 use Rattle.layout.specs.Laws.RowWrite.{rowBytes-parts}
 use Rattle.layout.specs.Laws.Row.{length-kept}
 use Rattle.layout.specs.Laws.Splice.{Wrote, wrote-then}
-use Rattle.types.specs.Says.{saysKind}
+use Rattle.basics.specs.Says.{saysKind}
 use Rattle.buf_mut.specs.declared.Put.{Put}
 use Rattle.buf_mut.specs.Says.{placeAfter}
 use Rattle.buf_mut.specs.Promise.{Puts}

@@ -4,7 +4,7 @@ use mathlib.Core.List.{List, _∷_, _++_}
 use Rattle.layout.specs.Fixed.{big}
 use Rattle.layout.specs.Row.{present, flagsOf, timeBytes}
 use Rattle.layout.specs.Varint.{varint}
-use Rattle.types.specs.Says.{saysKind, saysTime}
+use Rattle.basics.specs.Says.{saysKind, saysTime}
 use Rattle.row_size_v2.specs.declared.RowFields.{RowFields}
 
 abbrev pub lengthBytes : ℕ → ℕ → ℕ → List ℕ

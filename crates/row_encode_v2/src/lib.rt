@@ -5,14 +5,14 @@ ghost use Prim.Native.Nat.{_≤_, _<_, _+_, _^_};
 ghost use lib.ListN.{length};
 ghost use Rattle.layout.specs.Row.{keptLength, timeBytes, rowBytes};
 ghost use Rattle.layout.specs.Laws.Splice.{Wrote};
-ghost use Rattle.types.specs.Says.{saysKind, saysTime};
+ghost use Rattle.basics.specs.Says.{saysKind, saysTime};
 ghost use Rattle.row_size_v2.specs.Says.{fieldsFrom};
 ghost use Rattle.row_encode_v2.specs.Parts.{lengthBytes, bodyBytes, markBytes};
 ghost use Rattle.row_encode_v2.specs.Promise.{Encodes};
+use basics::Refusal;
+use basics::Time;
 use row_size_v2::RowFields;
 use row_size_v2::Sized;
-use types::Refusal;
-use types::Time;
 
 // Each of these writes at `at` and answers the place after it.
 fn write_lengths(

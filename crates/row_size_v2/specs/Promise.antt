@@ -5,10 +5,10 @@ use mathlib.Core.List.{List}
 use lib.ListN.{length}
 use Rattle.layout.specs.Answer.{Res, ok, bind}
 use Rattle.layout.specs.Row.{keptLength, present, flagsOf, sizeAlone, written, restoreKey}
-use Rattle.types.specs.Says.{saysKind, saysTime}
-use Rattle.types.specs.declared.Kind.{Kind}
-use Rattle.types.specs.declared.Refusal.{Refusal}
-use Rattle.types.specs.declared.Time.{Time}
+use Rattle.basics.specs.Says.{saysKind, saysTime}
+use Rattle.basics.specs.declared.Kind.{Kind}
+use Rattle.basics.specs.declared.Refusal.{Refusal}
+use Rattle.basics.specs.declared.Time.{Time}
 use Rattle.row_size_v2.specs.declared.RowFields.{RowFields}
 use Rattle.row_size_v2.specs.declared.Sized.{Sized}
 use Rattle.row_size_v2.specs.declared.Restored.{Restored}

@@ -5,11 +5,11 @@ use mathlib.Core.List.{List}
 use Rattle.layout.specs.Answer.{Res, ok, refuse}
 use Rattle.layout.specs.Row.{Fields}
 use Rattle.layout.specs.Laws.Answer.{ok-inj}
-use Rattle.types.specs.Answers.{apart, refused-one}
-use Rattle.types.specs.Number.{number}
-use Rattle.types.specs.Says.{saysKind, saysTime}
-use Rattle.types.specs.declared.Refusal.{Refusal}
-use Rattle.types.specs.declared.Refusal.the-variants.{EmptyKey}
+use Rattle.basics.specs.Answers.{apart, refused-one}
+use Rattle.basics.specs.Number.{number}
+use Rattle.basics.specs.Says.{saysKind, saysTime}
+use Rattle.basics.specs.declared.Refusal.{Refusal}
+use Rattle.basics.specs.declared.Refusal.the-variants.{EmptyKey}
 use Rattle.row_size_v2.specs.declared.RowFields.{RowFields}
 use Rattle.row_size_v2.specs.declared.Sized.{Sized}
 use Rattle.row_size_v2.specs.declared.Sized.the-variants.{Bytes as SizedBytes, Refused as SizedRefused}

@@ -5,13 +5,13 @@ ghost use mathlib.Core.Path.{_≡_};
 ghost use Prim.Native.Nat.{_≤_, _<_, _+_, _^_};
 ghost use Rattle.layout.specs.Row.{kindBits, ifSo, present};
 ghost use Rattle.layout.specs.Varint.{varintLength};
-ghost use Rattle.types.specs.Says.{saysKind, saysTime};
+ghost use Rattle.basics.specs.Says.{saysKind, saysTime};
 ghost use Rattle.row_size_v2.specs.Says.{saysSized};
 ghost use Rattle.row_size_v2.specs.Parts.{keyLength};
 ghost use Rattle.row_size_v2.specs.Promise.{Flagged, Keeps, Sizes, SizeRefusal, Restores};
-use types::Kind;
-use types::Refusal;
-use types::Time;
+use basics::Kind;
+use basics::Refusal;
+use basics::Time;
 
 // What a row holds beside its key and its value's bytes, as it is offered.
 pub struct RowFields {
@@ -80,17 +80,17 @@ pub fn size_refusal(size: Sized) -> Refusal
 fn key_len(shared: usize, suffix_len: usize) -> Sized
     ensures { λ r. ⌜ saysSized r ≡ keyLength (shared + «suffix_len») ⌝ }
 {
-    if types::MAX_KEY < shared {
+    if basics::MAX_KEY < shared {
         return Sized::Refused(Refusal::KeyTooLong);
     }
-    if types::MAX_KEY < suffix_len {
+    if basics::MAX_KEY < suffix_len {
         return Sized::Refused(Refusal::KeyTooLong);
     }
     let len = shared + suffix_len;
     if len == 0 {
         return Sized::Refused(Refusal::EmptyKey);
     }
-    if types::MAX_KEY < len {
+    if basics::MAX_KEY < len {
         return Sized::Refused(Refusal::KeyTooLong);
     }
     Sized::Bytes(len)
@@ -173,7 +173,7 @@ pub fn encoded_size(
         return Sized::Refused(refusal);
     }
     let kept = kept_len(kind, value_len);
-    if types::MAX_VALUE < kept {
+    if basics::MAX_VALUE < kept {
         return Sized::Refused(Refusal::ValueTooLong);
     }
     let lengths = length_len(shared) + length_len(suffix_len) + length_len(kept);

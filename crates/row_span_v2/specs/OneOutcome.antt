@@ -4,8 +4,8 @@ use mathlib.Core.Path.{_≡_, ap, sym, _∙_}
 use mathlib.Core.Bool.{Bool}
 use mathlib.Core.List.{List}
 use Rattle.layout.specs.Plain.{RowSpan as Span}
-use Rattle.types.specs.Number.{number-one}
-use Rattle.types.specs.declared.Refusal.{Refusal}
+use Rattle.basics.specs.Number.{number-one}
+use Rattle.basics.specs.declared.Refusal.{Refusal}
 use Rattle.row_decode_v2.specs.OneOutcome.{decode-at-settled}
 use Rattle.row_decode_v2.specs.Promise.{DecodesAt}
 use Rattle.row_decode_v2.specs.declared.RowRead.{RowRead}

@@ -11,11 +11,11 @@ use borrow.Author.Tests.{ne-eqb}
 use Rattle.layout.specs.Answer.{ok, refuse}
 use Rattle.layout.specs.Fixed.{bits, unbits}
 use Rattle.layout.specs.Row.{Kind as KindL, value, tombstone, Time as TimeL, Absent as absent, At as at-time}
-use Rattle.types.specs.Says.{saysKind, saysTime, saysHeld}
-use Rattle.types.specs.declared.Time.{Time}
-use Rattle.types.specs.declared.Time.the-variants.{Absent, At}
-use Rattle.types.specs.declared.ValueDeletable.{ValueDeletable}
-use Rattle.types.specs.declared.ValueDeletable.the-variants.{Value, Tombstone, Merge}
+use Rattle.basics.specs.Says.{saysKind, saysTime, saysHeld}
+use Rattle.basics.specs.declared.Time.{Time}
+use Rattle.basics.specs.declared.Time.the-variants.{Absent, At}
+use Rattle.basics.specs.declared.ValueDeletable.{ValueDeletable}
+use Rattle.basics.specs.declared.ValueDeletable.the-variants.{Value, Tombstone, Merge}
 use Rattle.row_decode_v2.specs.Says.{rowFrom}
 use Rattle.row_decode_v2.specs.declared.Row.{Row}
 use Rattle.row_size_v2.specs.declared.RowFields.{RowFields}

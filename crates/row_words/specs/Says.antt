@@ -7,12 +7,12 @@ use Rattle.layout.specs.Answer.{Res, ok, refuse}
 use Rattle.layout.specs.Fixed.{bits}
 use Rattle.layout.specs.Laws.Answer.{ok-inj}
 use Rattle.layout.specs.Row.{Kind as KindL, Time as TimeL, Fields}
-use Rattle.types.specs.Answers.{apart}
-use Rattle.types.specs.Says.{saysKind, saysTime, saysKind-one, saysTime-one}
-use Rattle.types.specs.declared.Time.{Time}
-use Rattle.types.specs.declared.Time.the-variants.{Absent, At}
-use Rattle.types.specs.declared.ValueDeletable.{ValueDeletable}
-use Rattle.types.specs.declared.ValueDeletable.the-variants.{Value, Tombstone, Merge}
+use Rattle.basics.specs.Answers.{apart}
+use Rattle.basics.specs.Says.{saysKind, saysTime, saysKind-one, saysTime-one}
+use Rattle.basics.specs.declared.Time.{Time}
+use Rattle.basics.specs.declared.Time.the-variants.{Absent, At}
+use Rattle.basics.specs.declared.ValueDeletable.{ValueDeletable}
+use Rattle.basics.specs.declared.ValueDeletable.the-variants.{Value, Tombstone, Merge}
 use Rattle.row_size_v2.specs.Says.{fieldsFrom}
 use Rattle.row_size_v2.specs.declared.RowFields.{RowFields}
 use Rattle.row_words.specs.declared.TruthRead.{TruthRead}

@@ -4,11 +4,11 @@ ghost use mathlib.Core.Path.{_≡_};
 ghost use Rattle.row_words.specs.Words.{kindIn, timeIn};
 ghost use Rattle.row_words.specs.Says.{saysKindRead, saysTimeRead, heldFrom, timeWordsOf};
 ghost use Rattle.row_words.specs.Promise.{LoadsTruth, TellsTruth, LoadsFields, PutsRow};
+use basics::Kind;
+use basics::Time;
+use basics::ValueDeletable;
 use row_decode_v2::Row;
 use row_size_v2::RowFields;
-use types::Kind;
-use types::Time;
-use types::ValueDeletable;
 
 const FIELDS_WORDS: usize = 6;
 

@@ -11,26 +11,26 @@ use Rattle.layout.specs.Answer.{Res, ok, refuse}
 use Rattle.layout.specs.Builder.{newBuilder, built, isEmpty as isEmptyBuilder, stateTests, build}
 use Rattle.layout.specs.Cursor.{Direction, ascending, descending, cursorOr, openBlock, isEmpty}
 use Rattle.layout.specs.Laws.Answer.{whether-good, whether-refused}
-use Rattle.types.specs.Answers.{yes}
-use Rattle.types.specs.Number.{number}
-use Rattle.types.specs.declared.Refusal.{Refusal}
-use Rattle.types.specs.Says.{saysOrder}
-use Rattle.types.specs.declared.IterationOrder.{IterationOrder}
+use Rattle.basics.specs.Answers.{yes}
+use Rattle.basics.specs.Number.{number}
+use Rattle.basics.specs.declared.Refusal.{Refusal}
+use Rattle.basics.specs.Says.{saysOrder}
+use Rattle.basics.specs.declared.IterationOrder.{IterationOrder}
 use Rattle.block_v2.specs.Promise.{Makes, Builds}
 use Rattle.block_v2.specs.Says.{saysMade, viewOf as viewOfBuilder}
-use Rattle.block_grow_v2.specs.Says.{saysBuild}
+use Rattle.build_in_place_v2.specs.Says.{saysBuild}
 use Rattle.block_v2.specs.declared.Made.the-variants.{Good as GoodMade, Refused as MadeRefused}
 use Rattle.block_v2.specs.declared.New.{New}
 use Rattle.block_v2.specs.declared.Built.{Built}
-use Rattle.block_grow_v2.specs.declared.BuildAnswer.the-variants.{Block, Refused as BuildRefused}
+use Rattle.build_in_place_v2.specs.declared.BuildAnswer.the-variants.{Block, Refused as BuildRefused}
 use Rattle.block_iterator_v2.specs.Promise.{Opens, TellsEmpty}
 use Rattle.block_iterator_v2.specs.Says.{viewOf, saysOpen, saysEmpty}
 use Rattle.block_iterator_v2.specs.declared.Opened.{Opened}
 use Rattle.block_iterator_v2.specs.declared.OpenAnswer.the-variants.{Good as GoodOpen, Refused as OpenRefused}
 use Rattle.block_iterator_v2.specs.declared.EmptyRead.{EmptyRead}
 use Rattle.block_iterator_v2.specs.declared.EmptyRead.the-variants.{Is as IsEmpty, Refused as EmptyRefused}
-use Rattle.block_step_v2.specs.declared.Place.{Place}
-use Rattle.block_step_v2.specs.Says.{viewIn}
+use Rattle.step_in_place_v2.specs.declared.Place.{Place}
+use Rattle.step_in_place_v2.specs.Says.{viewIn}
 use Rattle.row_words.specs.Words.{badWords, truthWord, orderIn, cursorIn, cursorWords, builderFrom, builderWords, builderCount, cursorCount}
 use Rattle.block_words.specs.Says.{iteratorFrom, builderAlone, stateIn}
 use Rattle.row_words.proofs.Laws.{counted-not, counted-so}

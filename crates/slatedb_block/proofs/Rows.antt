@@ -11,9 +11,9 @@ use Rattle.layout.specs.Limits.{maxKey}
 use Rattle.layout.specs.Row.{encodeRow, written}
 use Rattle.layout.specs.RowRead.{decodeRow}
 use Rattle.layout.specs.Laws.Answer.{ok-inj}
-use Rattle.types.specs.Answers.{apart, yes}
-use Rattle.types.specs.Number.{number}
-use Rattle.types.specs.declared.Refusal.{Refusal}
+use Rattle.basics.specs.Answers.{apart, yes}
+use Rattle.basics.specs.Number.{number}
+use Rattle.basics.specs.declared.Refusal.{Refusal}
 use Rattle.row_encode_v2.specs.Promise.{Encodes}
 use Rattle.row_decode_v2.specs.Promise.{Decodes}
 use Rattle.row_size_v2.specs.Says.{fieldsFrom}
@@ -25,14 +25,14 @@ use Rattle.row_decode_v2.specs.declared.Row.{Row}
 use Rattle.row_size_v2.specs.declared.RowFields.{RowFields}
 use Rattle.row_decode_v2.specs.declared.RowRead.{RowRead}
 use Rattle.row_decode_v2.specs.declared.RowRead.the-variants.{Read as ReadRow, Refused as RowRefused}
-use Rattle.block_grow_v2.proofs.Writes.{entered-is}
-use Rattle.block_grow_v2.specs.Promise.{FitsInPlace, AddsInPlace, lastAfter}
-use Rattle.block_grow_v2.specs.Says.{stateFrom, viewFrom, saysFit, saysGrown}
-use Rattle.block_grow_v2.specs.declared.Fit.{Fit}
-use Rattle.block_grow_v2.specs.declared.Fit.the-variants.{Yes, Refused as FitRefused}
-use Rattle.block_grow_v2.specs.declared.Grown.{Grown}
-use Rattle.block_grow_v2.specs.declared.Grown.the-variants.{Row as GrownRow, Refused as GrownRefused}
-use Rattle.block_grow_v2.specs.declared.State.{State}
+use Rattle.build_in_place_v2.proofs.Writes.{entered-is}
+use Rattle.build_in_place_v2.specs.Promise.{FitsInPlace, AddsInPlace, lastAfter}
+use Rattle.build_in_place_v2.specs.Says.{stateFrom, viewFrom, saysFit, saysGrown}
+use Rattle.build_in_place_v2.specs.declared.Fit.{Fit}
+use Rattle.build_in_place_v2.specs.declared.Fit.the-variants.{Yes, Refused as FitRefused}
+use Rattle.build_in_place_v2.specs.declared.Grown.{Grown}
+use Rattle.build_in_place_v2.specs.declared.Grown.the-variants.{Row as GrownRow, Refused as GrownRefused}
+use Rattle.build_in_place_v2.specs.declared.State.{State}
 use Rattle.row_words.specs.Words.{badWords, codeOf, builderFrom, builderWords, fieldsIn, rowWords, builderCount, rowCount}
 use Rattle.block_words.specs.Says.{stateIn}
 use Rattle.block_words.specs.Exports.{AddsFlat}

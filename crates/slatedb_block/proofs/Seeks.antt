@@ -11,17 +11,17 @@ use Rattle.layout.specs.Cursor.{Cursor}
 use Rattle.layout.specs.Seek.{Sought, seek, soughtAfter}
 use Rattle.layout.specs.Limits.{maxKey}
 use Rattle.layout.specs.Laws.Answer.{ok-inj}
-use Rattle.types.specs.Answers.{apart}
-use Rattle.types.specs.Number.{number}
-use Rattle.types.specs.Says.{saysOrder}
-use Rattle.block_step_v2.specs.Promise.{Kept}
-use Rattle.block_step_v2.specs.Says.{viewIn}
-use Rattle.block_step_v2.specs.declared.Place.{Place}
-use Rattle.block_seek_v2.specs.Lent.{lent-whole}
-use Rattle.block_seek_v2.specs.Promise.{Finds, SeeksInPlace}
-use Rattle.block_seek_v2.specs.Says.{Report, reportIs, reported}
-use Rattle.block_seek_v2.specs.declared.Found.{Found}
-use Rattle.block_seek_v2.specs.declared.Found.the-variants.{Landed, Done, Refused}
+use Rattle.basics.specs.Answers.{apart}
+use Rattle.basics.specs.Number.{number}
+use Rattle.basics.specs.Says.{saysOrder}
+use Rattle.step_in_place_v2.specs.Promise.{Kept}
+use Rattle.step_in_place_v2.specs.Says.{viewIn}
+use Rattle.step_in_place_v2.specs.declared.Place.{Place}
+use Rattle.seek_in_place_v2.specs.Lent.{lent-whole}
+use Rattle.seek_in_place_v2.specs.Promise.{Finds, SeeksInPlace}
+use Rattle.seek_in_place_v2.specs.Says.{Report, reportIs, reported}
+use Rattle.seek_in_place_v2.specs.declared.Found.{Found}
+use Rattle.seek_in_place_v2.specs.declared.Found.the-variants.{Landed, Done, Refused}
 use Rattle.row_words.specs.Words.{badWords, doneCode, codeOf, cursorIn, cursorWords}
 use Rattle.slatedb_block.specs.Says.{PutsFound}
 use Rattle.slatedb_block.specs.Promise.{SeeksAs, SeeksFlat}

@@ -7,17 +7,17 @@ use lib.ListN.{length}
 use Rattle.layout.specs.Answer.{ok}
 use Rattle.layout.specs.Cursor.{next}
 use Rattle.layout.specs.Limits.{maxKey}
-use Rattle.types.specs.Answers.{yes}
-use Rattle.types.specs.Number.{number}
-use Rattle.types.specs.declared.Refusal.{Refusal}
+use Rattle.basics.specs.Answers.{yes}
+use Rattle.basics.specs.Number.{number}
+use Rattle.basics.specs.declared.Refusal.{Refusal}
 use Rattle.row_decode_v2.specs.Says.{rowFrom}
 use Rattle.row_decode_v2.specs.declared.Row.{Row}
-use Rattle.block_step_v2.specs.Lent.{lent-whole}
-use Rattle.block_step_v2.specs.Promise.{StepsInPlace, Moves}
-use Rattle.block_step_v2.specs.Says.{viewIn, saysMoved, placeAfter}
-use Rattle.block_step_v2.specs.declared.Moved.{Moved}
-use Rattle.block_step_v2.specs.declared.Moved.the-variants.{Found, Done, Refused}
-use Rattle.block_step_v2.specs.declared.Place.{Place}
+use Rattle.step_in_place_v2.specs.Lent.{lent-whole}
+use Rattle.step_in_place_v2.specs.Promise.{StepsInPlace, Moves}
+use Rattle.step_in_place_v2.specs.Says.{viewIn, saysMoved, placeAfter}
+use Rattle.step_in_place_v2.specs.declared.Moved.{Moved}
+use Rattle.step_in_place_v2.specs.declared.Moved.the-variants.{Found, Done, Refused}
+use Rattle.step_in_place_v2.specs.declared.Place.{Place}
 use Rattle.row_words.specs.Words.{doneCode, cursorIn, cursorWords, rowWords, rowCount}
 use Rattle.block_words.specs.Exports.{StepsFlat}
 use Rattle.slatedb_block.specs.Says.{PutsMoved}

@@ -2,16 +2,16 @@
 use Prim.Native.Nat.{ℕ}
 use mathlib.Core.Path.{_≡_}
 use mathlib.Core.List.{List, []}
-use Rattle.types.specs.Number.{number}
+use Rattle.basics.specs.Number.{number}
 use Rattle.row_decode_v2.specs.Says.{rowFrom}
-use Rattle.block_grow_v2.specs.Says.{viewFrom}
-use Rattle.block_grow_v2.specs.declared.Grown.{Grown}
-use Rattle.block_grow_v2.specs.declared.Grown.the-variants.{Row as GrownRow, Refused as GrownRefused}
-use Rattle.block_step_v2.specs.Says.{viewIn}
-use Rattle.block_step_v2.specs.declared.Moved.{Moved}
-use Rattle.block_step_v2.specs.declared.Moved.the-variants.{Found, Done, Refused}
-use Rattle.block_seek_v2.specs.declared.Found.{Found as FoundC}
-use Rattle.block_seek_v2.specs.declared.Found.the-variants.{Landed as FoundLanded, Done as FoundDone, Refused as FoundRefused}
+use Rattle.build_in_place_v2.specs.Says.{viewFrom}
+use Rattle.build_in_place_v2.specs.declared.Grown.{Grown}
+use Rattle.build_in_place_v2.specs.declared.Grown.the-variants.{Row as GrownRow, Refused as GrownRefused}
+use Rattle.step_in_place_v2.specs.Says.{viewIn}
+use Rattle.step_in_place_v2.specs.declared.Moved.{Moved}
+use Rattle.step_in_place_v2.specs.declared.Moved.the-variants.{Found, Done, Refused}
+use Rattle.seek_in_place_v2.specs.declared.Found.{Found as FoundC}
+use Rattle.seek_in_place_v2.specs.declared.Found.the-variants.{Landed as FoundLanded, Done as FoundDone, Refused as FoundRefused}
 use Rattle.row_words.specs.Words.{doneCode, builderWords, cursorWords, rowWords}
 
 -- ---- a row added

@@ -11,25 +11,25 @@ ghost use Rattle.row_words.specs.Words.{builderCount, cursorCount, rowCount};
 ghost use Rattle.slatedb_block.specs.Says.{PutsGrown, PutsMoved, PutsFound};
 ghost use Rattle.slatedb_block.specs.Promise.{EncodesFlat, DecodesFlat, MakesFlat, FitsFlat, EmptiesFlat, BuildsFlat, ChecksFlat, OpensFlat, TellsFlat, SeeksFlat};
 use block_check_v2::Checked;
-use block_grow_v2::BuildAnswer;
-use block_grow_v2::Fit;
-use block_grow_v2::Grown;
-use block_grow_v2::State;
 use block_iterator_v2::BlockIteratorV2;
 use block_iterator_v2::EmptyRead;
 use block_iterator_v2::OpenAnswer;
-use block_seek_v2::Found;
-use block_step_v2::Moved;
-use block_step_v2::Place;
 use block_v2::BlockBuilderV2;
 use block_v2::Made;
 use block_v2::New;
 use block_words::CursorRead;
 use block_words::OrderRead;
 use block_words::StateRead;
+use build_in_place_v2::BuildAnswer;
+use build_in_place_v2::Fit;
+use build_in_place_v2::Grown;
+use build_in_place_v2::State;
 use row_decode_v2::RowRead;
 use row_encode_v2::Encoded;
 use row_words::FieldsRead;
+use seek_in_place_v2::Found;
+use step_in_place_v2::Moved;
+use step_in_place_v2::Place;
 
 // ---- one row
 
@@ -56,7 +56,7 @@ pub extern "C" fn slatedb_encode(
             *count = n as u64;
             block_words::GOOD
         }
-        Encoded::Refused(refusal) => types::number(refusal),
+        Encoded::Refused(refusal) => basics::number(refusal),
     }
 }
 
@@ -74,7 +74,7 @@ pub extern "C" fn slatedb_decode(input: &[u8], previous_len: usize, row: &mut [u
             row_words::put_row(row, r);
             block_words::GOOD
         }
-        RowRead::Refused(refusal) => types::number(refusal),
+        RowRead::Refused(refusal) => basics::number(refusal),
     }
 }
 
@@ -84,7 +84,7 @@ pub extern "C" fn slatedb_decode(input: &[u8], previous_len: usize, row: &mut [u
 fn make(block_size: usize, restart_interval: usize) -> New
     ensures { λ r. ⌜ Makes «block_size» «restart_interval» r ⌝ }
 {
-    if restart_interval == types::DEFAULT_RESTART_INTERVAL {
+    if restart_interval == basics::DEFAULT_RESTART_INTERVAL {
         return BlockBuilderV2::new(block_size);
     }
     BlockBuilderV2::new_with_restart_interval(block_size, restart_interval)
@@ -109,7 +109,7 @@ pub extern "C" fn slatedb_builder_new(
             block_words::put_state(builder, block_v2::state_of(new.builder));
             block_words::GOOD
         }
-        Made::Refused(refusal) => types::number(refusal),
+        Made::Refused(refusal) => basics::number(refusal),
     }
 }
 
@@ -130,14 +130,14 @@ pub extern "C" fn slatedb_builder_would_fit(
     let StateRead::Is(s) = words else {
         return block_words::BAD_WORDS;
     };
-    if last_key.len() != types::MAX_KEY {
+    if last_key.len() != basics::MAX_KEY {
         return block_words::BAD_WORDS;
     }
     let loaded = row_words::fields_in(fields);
     let FieldsRead::Is(row) = loaded else {
         return block_words::BAD_WORDS;
     };
-    let fit = block_grow_v2::would_fit_in_place(
+    let fit = build_in_place_v2::would_fit_in_place(
         last_key,
         s,
         data_len,
@@ -148,7 +148,7 @@ pub extern "C" fn slatedb_builder_would_fit(
     );
     match fit {
         Fit::Yes => block_words::GOOD,
-        Fit::Refused(refusal) => types::number(refusal),
+        Fit::Refused(refusal) => basics::number(refusal),
     }
 }
 
@@ -162,7 +162,7 @@ fn put_grown(builder: &mut [u64], grown: Grown) -> u8
             block_words::put_state(builder, t);
             block_words::GOOD
         }
-        Grown::Refused(refusal) => types::number(refusal),
+        Grown::Refused(refusal) => basics::number(refusal),
     }
 }
 
@@ -183,14 +183,14 @@ pub extern "C" fn slatedb_builder_add(
     let StateRead::Is(s) = words else {
         return block_words::BAD_WORDS;
     };
-    if last_key.len() != types::MAX_KEY {
+    if last_key.len() != basics::MAX_KEY {
         return block_words::BAD_WORDS;
     }
     let loaded = row_words::fields_in(fields);
     let FieldsRead::Is(row) = loaded else {
         return block_words::BAD_WORDS;
     };
-    let grown = block_grow_v2::add_in_place(last_key, s, data, restarts, key, value, row);
+    let grown = build_in_place_v2::add_in_place(last_key, s, data, restarts, key, value, row);
     put_grown(builder, grown)
 }
 
@@ -204,7 +204,7 @@ fn builder_of(s: State) -> BlockBuilderV2
         used: s.used,
         restarts: s.restarts,
         counter: s.counter,
-        last_key: [0; types::MAX_KEY],
+        last_key: [0; basics::MAX_KEY],
         last_key_len: s.last_key_len,
     }
 }
@@ -245,7 +245,7 @@ pub extern "C" fn slatedb_builder_build(
             *count = len as u64;
             block_words::GOOD
         }
-        BuildAnswer::Refused(refusal) => types::number(refusal),
+        BuildAnswer::Refused(refusal) => basics::number(refusal),
     }
 }
 
@@ -262,7 +262,7 @@ pub extern "C" fn slatedb_check(block: &[u8], count: &mut u64) -> u8
             *count = rows as u64;
             block_words::GOOD
         }
-        Checked::Refused(refusal) => types::number(refusal),
+        Checked::Refused(refusal) => basics::number(refusal),
     }
 }
 
@@ -285,7 +285,7 @@ pub extern "C" fn slatedb_open(block: &[u8], order: u64, cursor: &mut [u64]) -> 
             block_words::put_cursor(cursor, block_iterator_v2::place_of(opened.iterator));
             block_words::GOOD
         }
-        OpenAnswer::Refused(refusal) => types::number(refusal),
+        OpenAnswer::Refused(refusal) => basics::number(refusal),
     }
 }
 
@@ -298,7 +298,7 @@ fn iterator_of(p: Place) -> BlockIteratorV2
         order,
         region: p.region,
         at: p.at,
-        key: [0; types::MAX_KEY],
+        key: [0; basics::MAX_KEY],
         key_len: p.key_len,
         done: p.done,
     }
@@ -320,7 +320,7 @@ pub extern "C" fn slatedb_is_empty(block: &[u8], cursor: &[u64], empty: &mut u64
             *empty = row_words::truth_word(b);
             block_words::GOOD
         }
-        EmptyRead::Refused(refusal) => types::number(refusal),
+        EmptyRead::Refused(refusal) => basics::number(refusal),
     }
 }
 
@@ -339,7 +339,7 @@ fn put_moved(cursor: &mut [u64], row: &mut [u64], moved: Moved) -> u8
             block_words::put_cursor(cursor, place);
             block_words::DONE
         }
-        Moved::Refused(refusal) => types::number(refusal),
+        Moved::Refused(refusal) => basics::number(refusal),
     }
 }
 
@@ -356,14 +356,14 @@ fn next_words(
     if row.len() != row_words::ROW_WORDS {
         return block_words::BAD_WORDS;
     }
-    if key.len() != types::MAX_KEY {
+    if key.len() != basics::MAX_KEY {
         return block_words::BAD_WORDS;
     }
     let loaded = block_words::cursor_in(cursor);
     let CursorRead::Is(p) = loaded else {
         return block_words::BAD_WORDS;
     };
-    let moved = block_step_v2::next_in_place(key, p, block, out);
+    let moved = step_in_place_v2::next_in_place(key, p, block, out);
     put_moved(cursor, row, moved)
 }
 
@@ -382,7 +382,7 @@ pub extern "C" fn slatedb_next(
     if row.len() != row_words::ROW_WORDS {
         return block_words::BAD_WORDS;
     }
-    if key.len() != types::MAX_KEY {
+    if key.len() != basics::MAX_KEY {
         return block_words::BAD_WORDS;
     }
     if cursor.len() != block_words::CURSOR_WORDS {
@@ -426,7 +426,7 @@ fn put_found(cursor: &mut [u64], reads: &mut u64, found: Found) -> u8
             *reads = n as u64;
             block_words::DONE
         }
-        Found::Refused(refusal) => types::number(refusal),
+        Found::Refused(refusal) => basics::number(refusal),
     }
 }
 
@@ -441,13 +441,13 @@ pub extern "C" fn slatedb_seek(
 ) -> u8
     ensures { λ r. ⌜ SeeksFlat (now (block .entry)) (now (target .entry)) (now (cursor .entry)) (now (key .entry)) (now (reads .entry)) r (now (cursor .exit)) (now (key .exit)) (now (reads .exit)) ⌝ }
 {
-    if key.len() != types::MAX_KEY {
+    if key.len() != basics::MAX_KEY {
         return block_words::BAD_WORDS;
     }
     let loaded = block_words::cursor_in(cursor);
     let CursorRead::Is(p) = loaded else {
         return block_words::BAD_WORDS;
     };
-    let found = block_seek_v2::seek_in_place(key, p, block, target);
+    let found = seek_in_place_v2::seek_in_place(key, p, block, target);
     put_found(cursor, reads, found)
 }

@@ -9,12 +9,12 @@ ghost use Rattle.row_words.specs.Words.{builderCount};
 ghost use Rattle.slatedb_by_value.specs.Says.{PutsBuilder};
 use block_iterator_v2::BlockIteratorV2;
 use block_iterator_v2::NextAnswer;
-use block_step_v2::Place;
 use block_v2::AddAnswer;
 use block_v2::BlockBuilderV2;
 use block_words::CursorRead;
 use block_words::StateRead;
 use row_words::FieldsRead;
+use step_in_place_v2::Place;
 
 // ---- building a block
 
@@ -44,7 +44,7 @@ pub extern "C" fn slatedb_builder_add_by_value(
     let StateRead::Is(s) = words else {
         return block_words::BAD_WORDS;
     };
-    if last_key.len() != types::MAX_KEY {
+    if last_key.len() != basics::MAX_KEY {
         return block_words::BAD_WORDS;
     }
     let loaded = row_words::fields_in(fields);
@@ -58,7 +58,7 @@ pub extern "C" fn slatedb_builder_add_by_value(
             put_added(builder, last_key, added.builder);
             block_words::GOOD
         }
-        AddAnswer::Refused(refusal) => types::number(refusal),
+        AddAnswer::Refused(refusal) => basics::number(refusal),
     }
 }
 
@@ -70,7 +70,7 @@ fn iterator_over(p: Place, key: &[u8]) -> BlockIteratorV2
     ensures { λ r. ⌜ r ≡ iteratorOver p (now (key .entry)) ⌝ }
 {
     let order = p.order;
-    let mut carried = [0; types::MAX_KEY];
+    let mut carried = [0; basics::MAX_KEY];
     buf_mut::copy_in(&mut carried, 0, key);
     BlockIteratorV2 {
         order,
@@ -96,7 +96,7 @@ pub extern "C" fn slatedb_next_by_value(
     if row.len() != row_words::ROW_WORDS {
         return block_words::BAD_WORDS;
     }
-    if key.len() != types::MAX_KEY {
+    if key.len() != basics::MAX_KEY {
         return block_words::BAD_WORDS;
     }
     let loaded = block_words::cursor_in(cursor);
@@ -115,6 +115,6 @@ pub extern "C" fn slatedb_next_by_value(
             block_words::put_iterator(cursor, key, next.iterator);
             block_words::DONE
         }
-        NextAnswer::Refused(refusal) => types::number(refusal),
+        NextAnswer::Refused(refusal) => basics::number(refusal),
     }
 }

@@ -9,9 +9,9 @@ use Rattle.layout.specs.Answer.{Res, ok, refuse, bind}
 use Rattle.layout.specs.Place.{varintAt, numAt}
 use Rattle.layout.specs.RowRead.{KeyRead as KeyReadL, readKey}
 use Rattle.layout.specs.Varint.{varint}
-use Rattle.types.specs.Answers.{yes}
-use Rattle.types.specs.Number.{number}
-use Rattle.types.specs.declared.Refusal.{Refusal}
+use Rattle.basics.specs.Answers.{yes}
+use Rattle.basics.specs.Number.{number}
+use Rattle.basics.specs.declared.Refusal.{Refusal}
 use Rattle.buf_mut.specs.Promise.{Puts}
 use Rattle.buf_mut.specs.Says.{saysPut}
 use Rattle.buf_mut.specs.declared.Put.{Put}

@@ -23,7 +23,7 @@ pub extern "C" fn slatedb_varint_put(output: &mut [u8], value: u32, count: &mut 
             *count = n as u64;
             block_words::GOOD
         }
-        Put::Refused(refusal) => types::number(refusal),
+        Put::Refused(refusal) => basics::number(refusal),
     }
 }
 
@@ -42,7 +42,7 @@ pub extern "C" fn slatedb_varint_get(input: &[u8], at: usize, words: &mut [u64])
             words[1] = next as u64;
             block_words::GOOD
         }
-        VarintRead::Refused(refusal) => types::number(refusal),
+        VarintRead::Refused(refusal) => basics::number(refusal),
     }
 }
 
@@ -74,6 +74,6 @@ pub extern "C" fn slatedb_decode_key(
             words[2] = key.suffix_len as u64;
             block_words::GOOD
         }
-        KeyRead::Refused(refusal) => types::number(refusal),
+        KeyRead::Refused(refusal) => basics::number(refusal),
     }
 }

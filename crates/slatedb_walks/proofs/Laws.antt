@@ -14,14 +14,14 @@ use Rattle.layout.specs.Key.{Key}
 use Rattle.layout.specs.RowRead.{RowRead}
 use Rattle.layout.specs.Cursor.{Cursor, cursorOr, openBlock, found, done, stepIs, next}
 use Rattle.layout.specs.Laws.Answer.{spend, whether-good, whether-refused}
-use Rattle.types.specs.Answers.{yes}
-use Rattle.types.specs.Number.{number}
-use Rattle.types.specs.Says.{saysOrder}
-use Rattle.types.specs.declared.Refusal.{Refusal}
-use Rattle.types.specs.declared.IterationOrder.{IterationOrder}
+use Rattle.basics.specs.Answers.{yes}
+use Rattle.basics.specs.Number.{number}
+use Rattle.basics.specs.Says.{saysOrder}
+use Rattle.basics.specs.declared.Refusal.{Refusal}
+use Rattle.basics.specs.declared.IterationOrder.{IterationOrder}
 use Rattle.block_iterator_v2.specs.Promise.{Opens}
-use Rattle.block_step_v2.specs.Says.{viewIn}
-use Rattle.block_step_v2.specs.declared.Place.{Place}
+use Rattle.step_in_place_v2.specs.Says.{viewIn}
+use Rattle.step_in_place_v2.specs.declared.Place.{Place}
 use Rattle.block_iterator_v2.specs.Says.{placeOf, viewOf, saysOpen}
 use Rattle.block_iterator_v2.specs.declared.Opened.{Opened}
 use Rattle.block_iterator_v2.specs.declared.OpenAnswer.the-variants.{Good as GoodOpen, Refused as OpenRefused}

@@ -1,6 +1,6 @@
 -- What each case of a private answer says to the definitions.
 use Rattle.layout.specs.Answer.{Res, ok, refuse}
-use Rattle.types.specs.Number.{number}
+use Rattle.basics.specs.Number.{number}
 use Rattle.slatedb_walks.specs.declared.Walked.{Walked}
 use Rattle.slatedb_walks.specs.declared.Walked.the-variants.{Ended, Refused}
 use Rattle.slatedb_walks.specs.Walk.{Walk, walkIs}

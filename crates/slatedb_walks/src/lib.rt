@@ -7,10 +7,10 @@ ghost use Prim.Native.Nat.{_≤_, _+_, _%_, _^_};
 ghost use lib.ListN.{length, take, replicate};
 ghost use Rattle.layout.specs.Answer.{bind};
 ghost use Rattle.layout.specs.Limits.{maxKey};
-ghost use Rattle.types.specs.Says.{saysHeld};
+ghost use Rattle.basics.specs.Says.{saysHeld};
 ghost use Rattle.row_decode_v2.specs.Says.{rowFrom};
-ghost use Rattle.block.specs.Says.{regionFrom};
-ghost use Rattle.block_step_v2.specs.Says.{viewIn};
+ghost use Rattle.trailer.specs.Says.{regionFrom};
+ghost use Rattle.step_in_place_v2.specs.Says.{viewIn};
 ghost use Rattle.block_iterator_v2.specs.Says.{viewOf};
 ghost use Rattle.region_rows_v2.specs.Bounds.{Inside};
 ghost use Rattle.region_rows_v2.specs.Region.{PlainFits};
@@ -18,17 +18,17 @@ ghost use Rattle.slatedb_walks.specs.Walk.{heldLength, amount, walk, wra
 ghost use Rattle.slatedb_walks.specs.Loop.{added, PassesPlain, RunsOn};
 ghost use Rattle.slatedb_walks.specs.Says.{saysWalked};
 ghost use Rattle.slatedb_walks.specs.Promise.{Tells, WalksFlat};
+use basics::Refusal;
+use basics::ValueDeletable;
 use block_iterator_v2::BlockIteratorV2;
 use block_iterator_v2::NextAnswer;
 use block_iterator_v2::OpenAnswer;
-use block_step_v2::Moved;
-use block_step_v2::Place;
 use block_words::OrderRead;
 use region_rows_v2::Bounds;
 use row_decode_v2::Row;
 use row_plain_v2::PlainRow;
-use types::Refusal;
-use types::ValueDeletable;
+use step_in_place_v2::Moved;
+use step_in_place_v2::Place;
 
 const SUMS_WORDS: usize = 2;
 
@@ -53,7 +53,7 @@ fn tell(walked: Walked, sums: &mut [u64]) -> u8
                 block_words::GOOD
             }
         }
-        Walked::Refused(refusal) => types::number(refusal),
+        Walked::Refused(refusal) => basics::number(refusal),
     }
 }
 
@@ -107,7 +107,7 @@ fn by_value(block: &[u8], start: BlockIteratorV2, limit: u64) -> Walked
     ensures { λ r. ⌜ saysWalked r ≡ bind (walk limit (viewOf start) (now (block .entry))) wrapped ⌝ }
 {
     let mut c = start;
-    let mut key = [0; types::MAX_KEY];
+    let mut key = [0; basics::MAX_KEY];
     let mut rows = 0;
     let mut sum = 0;
     while rows < limit {
@@ -162,7 +162,7 @@ pub extern "C" fn slatedb_walk_by_value(
             let walked = by_value(block, opened.iterator, limit);
             tell(walked, sums)
         }
-        OpenAnswer::Refused(refusal) => types::number(refusal),
+        OpenAnswer::Refused(refusal) => basics::number(refusal),
     }
 }
 
@@ -255,8 +255,8 @@ fn in_place(block: &[u8], start: Place, limit: u64) -> Walked
     ensures { λ r. ⌜ saysWalked r ≡ bind (walk limit (viewIn start (replicate maxKey 0)) (now (block .entry))) wrapped ⌝ }
 {
     let mut p = start;
-    let mut carried = [0; types::MAX_KEY];
-    let mut key = [0; types::MAX_KEY];
+    let mut carried = [0; basics::MAX_KEY];
+    let mut key = [0; basics::MAX_KEY];
     let mut rows = 0;
     let mut sum = 0;
     while rows < limit {
@@ -271,7 +271,7 @@ fn in_place(block: &[u8], start: Place, limit: u64) -> Walked
         rows = ran.rows;
         sum = ran.sum;
         if rows == before {
-            let moved = block_step_v2::next_in_place(&mut carried, p, block, &mut key);
+            let moved = step_in_place_v2::next_in_place(&mut carried, p, block, &mut key);
             match moved {
                 Moved::Found { place, row } => {
                     sum = with_row(sum, row, &key);
@@ -322,6 +322,6 @@ pub extern "C" fn slatedb_walk_in_place(
             let walked = in_place(block, block_iterator_v2::place_of(opened.iterator), limit);
             tell(walked, sums)
         }
-        OpenAnswer::Refused(refusal) => types::number(refusal),
+        OpenAnswer::Refused(refusal) => basics::number(refusal),
     }
 }

@@ -25,7 +25,7 @@ use Rattle.layout.specs.Laws.Cursor.{next-up, up-found}
 use Rattle.layout.specs.Laws.Place.{fourAt, fixedAt-eight}
 use Rattle.layout.specs.Laws.Plain.{or-false, fixedAt-is, PlainTells, plainAt-tells, plain-read}
 use Rattle.layout.specs.Laws.Trailer.{trailerOf-tells, regionOf-tells}
-use Rattle.block.specs.Plain.{regionOr, regionBy, region-is, regionBy-tells}
+use Rattle.trailer.specs.Plain.{regionOr, regionBy, region-is, regionBy-tells}
 use Rattle.step_plain_v2.specs.declared.Ahead.{Ahead}
 use Rattle.step_plain_v2.specs.declared.Stepped.{Stepped}
 use Rattle.step_plain_v2.specs.Ahead.{noAhead, aheadWith, aheadAt, ascends, plainStep, noStep, steppedOf, steppedTo, rowMade, Moved}

@@ -14,7 +14,7 @@ use Rattle.layout.specs.RowRead.{RowRead, Held, holds, gone, merges, mayShare}
 use Rattle.layout.specs.Trailer.{Region}
 use Rattle.layout.specs.Plain.{Plain, plainAt}
 use Rattle.layout.specs.Cursor.{ascending, Cursor, keptCursor, Answer, found, done, Step, next}
-use Rattle.block.specs.Plain.{regionOr, regionBy}
+use Rattle.trailer.specs.Plain.{regionOr, regionBy}
 use Rattle.step_plain_v2.specs.declared.Ahead.{Ahead}
 use Rattle.step_plain_v2.specs.declared.Stepped.{Stepped}
 

@@ -78,10 +78,10 @@ fn look_plain(
 ) -> Ahead
     ensures { λ r. ⌜ r ≡ aheadAt (now (block .entry)) region at «key_len» held room ⌝ }
 {
-    if (types::MAX_KEY < key_len) | (held != types::MAX_KEY) {
+    if (basics::MAX_KEY < key_len) | (held != basics::MAX_KEY) {
         return no_ahead();
     }
-    let g = block::plain_region_at(block, region);
+    let g = trailer::plain_region_at(block, region);
     let end = g.end;
     if end == 0 {
         return no_ahead();

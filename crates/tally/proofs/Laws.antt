@@ -16,25 +16,25 @@ use Rattle.layout.specs.Demands.Rows.{Rows, Walked}
 use Rattle.layout.specs.Demands.Proof2.{rows-room}
 use Rattle.layout.specs.Demands.Demand2.{has-rows, walk-steps}
 use Rattle.layout.specs.Laws.Answer.{ok-inj}
-use Rattle.types.specs.Answers.{apart, yes}
-use Rattle.types.specs.Number.{number}
-use Rattle.types.specs.Says.{saysHeld}
-use Rattle.types.specs.declared.IterationOrder.the-variants.{Ascending}
-use Rattle.types.specs.declared.Refusal.{Refusal}
-use Rattle.types.specs.declared.ValueDeletable.{ValueDeletable}
-use Rattle.types.specs.declared.ValueDeletable.the-variants.{Value, Tombstone, Merge}
+use Rattle.basics.specs.Answers.{apart, yes}
+use Rattle.basics.specs.Number.{number}
+use Rattle.basics.specs.Says.{saysHeld}
+use Rattle.basics.specs.declared.IterationOrder.the-variants.{Ascending}
+use Rattle.basics.specs.declared.Refusal.{Refusal}
+use Rattle.basics.specs.declared.ValueDeletable.{ValueDeletable}
+use Rattle.basics.specs.declared.ValueDeletable.the-variants.{Value, Tombstone, Merge}
 use Rattle.row_decode_v2.specs.Says.{rowFrom}
 use Rattle.row_decode_v2.specs.declared.Row.{Row}
 use Rattle.block_check_v2.specs.Promise.{Checks}
 use Rattle.block_check_v2.specs.Says.{saysChecked}
 use Rattle.block_check_v2.specs.declared.Checked.{Checked}
 use Rattle.block_check_v2.specs.declared.Checked.the-variants.{Rows as RowsChecked, Refused as CheckRefused}
-use Rattle.block_step_v2.specs.Lent.{lent-whole}
-use Rattle.block_step_v2.specs.Promise.{Moves, StepsInPlace}
-use Rattle.block_step_v2.specs.Says.{viewIn, told-row, told-apart, saysMoved, placeAfter}
-use Rattle.block_step_v2.specs.declared.Moved.{Moved}
-use Rattle.block_step_v2.specs.declared.Moved.the-variants.{Found, Done, Refused}
-use Rattle.block_step_v2.specs.declared.Place.{Place}
+use Rattle.step_in_place_v2.specs.Lent.{lent-whole}
+use Rattle.step_in_place_v2.specs.Promise.{Moves, StepsInPlace}
+use Rattle.step_in_place_v2.specs.Says.{viewIn, told-row, told-apart, saysMoved, placeAfter}
+use Rattle.step_in_place_v2.specs.declared.Moved.{Moved}
+use Rattle.step_in_place_v2.specs.declared.Moved.the-variants.{Found, Done, Refused}
+use Rattle.step_in_place_v2.specs.declared.Place.{Place}
 use Rattle.block_iterator_v2.specs.Promise.{Opens}
 use Rattle.block_iterator_v2.specs.Says.{placeOf, viewOf}
 use Rattle.block_iterator_v2.specs.declared.Opened.{Opened}

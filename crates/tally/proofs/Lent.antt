@@ -16,9 +16,9 @@ use denote.Steps.{owned, peeks}
 use denote.Struct.Steps.{spelt}
 use denote.Struct.Laws as LL
 use denote.Enum.Laws as EL
-use Rattle.types.specs.declared.ValueDeletable.{ValueDeletable}
-use Rattle.types.proofs.ValueDeletable as K
-use Rattle.types.proofs.ValueDeletable.Laws as K′
+use Rattle.basics.specs.declared.ValueDeletable.{ValueDeletable}
+use Rattle.basics.proofs.ValueDeletable as K
+use Rattle.basics.proofs.ValueDeletable.Laws as K′
 use Rattle.tally.specs.declared.Tally.{Tally}
 use Rattle.tally.proofs.Tally as T
 use Rattle.tally.proofs.Tally.Laws as T′

@@ -2,7 +2,7 @@
 use Prim.Native.Nat.{ℕ}
 use mathlib.Core.Path.{_≡_, sym, _∙_}
 use mathlib.Core.List.{List}
-use Rattle.types.specs.declared.ValueDeletable.{ValueDeletable}
+use Rattle.basics.specs.declared.ValueDeletable.{ValueDeletable}
 use Rattle.tally.specs.declared.Tally.{Tally}
 use Rattle.tally.specs.declared.TalliedBlock.{TalliedBlock}
 use Rattle.tally.specs.Promise.{CountsRow, CountsBlock}

@@ -2,8 +2,8 @@
 use Prim.Native.Nat.{ℕ}
 use mathlib.Core.Path.{_≡_}
 use mathlib.Core.List.{List}
-use Rattle.types.specs.Says.{saysHeld}
-use Rattle.types.specs.declared.ValueDeletable.{ValueDeletable}
+use Rattle.basics.specs.Says.{saysHeld}
+use Rattle.basics.specs.declared.ValueDeletable.{ValueDeletable}
 use Rattle.tally.specs.declared.Tally.{Tally}
 use Rattle.tally.specs.declared.TalliedBlock.{TalliedBlock}
 use Rattle.tally.specs.Tally.{counted, tallyBlock}

@@ -1,8 +1,8 @@
 -- What is answered of a block: the tally after it, and the verdict. No two answers say the same.
 use mathlib.Core.Path.{_≡_, refl, ap, ap₂, sym}
 use Rattle.layout.specs.Answer.{Res, ok, refuse}
-use Rattle.types.specs.Answers.{apart, refused-one}
-use Rattle.types.specs.Number.{number}
+use Rattle.basics.specs.Answers.{apart, refused-one}
+use Rattle.basics.specs.Number.{number}
 use Rattle.tally.specs.declared.Tally.{Tally}
 use Rattle.tally.specs.declared.TallyAnswer.{TallyAnswer}
 use Rattle.tally.specs.declared.TallyAnswer.the-variants.{Good, Refused}

@@ -5,16 +5,16 @@ ghost use Rattle.layout.specs.Answer.{ok};
 ghost use Rattle.layout.specs.Check.{check};
 ghost use Rattle.layout.specs.Cursor.{ascending, openBlock};
 ghost use Rattle.layout.specs.Limits.{maxKey};
-ghost use Rattle.block_step_v2.specs.Says.{viewIn};
+ghost use Rattle.step_in_place_v2.specs.Says.{viewIn};
 ghost use Rattle.tally.specs.Tally.{added, tallyBlock};
 ghost use Rattle.tally.specs.Promise.{CountsRow, CountsBlock};
+use basics::IterationOrder;
+use basics::Refusal;
+use basics::ValueDeletable;
 use block_check_v2::Checked;
 use block_iterator_v2::BlockIteratorV2;
-use block_step_v2::Moved;
-use block_step_v2::Place;
-use types::IterationOrder;
-use types::Refusal;
-use types::ValueDeletable;
+use step_in_place_v2::Moved;
+use step_in_place_v2::Place;
 
 pub struct Tally {
     pub rows: u64,
@@ -93,11 +93,11 @@ fn fold(t: Tally, block: &[u8], start: Place, n: usize) -> Tally
 {
     let mut tally = t;
     let mut p = start;
-    let mut carried = [0; types::MAX_KEY];
-    let mut key = [0; types::MAX_KEY];
+    let mut carried = [0; basics::MAX_KEY];
+    let mut key = [0; basics::MAX_KEY];
     let mut i = 0;
     while i < n {
-        let moved = block_step_v2::next_in_place(&mut carried, p, block, &mut key);
+        let moved = step_in_place_v2::next_in_place(&mut carried, p, block, &mut key);
         match moved {
             Moved::Found { place, row } => {
                 let held = row.held;

@@ -8,8 +8,8 @@ ghost use lib.ListN.{length};
 ghost use Rattle.layout.specs.Varint.{varint};
 ghost use Rattle.buf_mut.specs.Promise.{Puts};
 ghost use Rattle.utils.specs.Promise.{VarintLength, ReadsVarint};
+use basics::Refusal;
 use buf_mut::Put;
-use types::Refusal;
 
 pub enum VarintRead {
     Number { value: u32, next: usize },

@@ -16,13 +16,13 @@ use Rattle.layout.specs.RowRead.{RowRead}
 use Rattle.layout.specs.Cursor.{ascending, Cursor, found, Step, next}
 use Rattle.layout.specs.Laws.Answer.{cond-ok}
 use Rattle.layout.specs.Laws.Plain.{or-false}
-use Rattle.types.specs.declared.IterationOrder.the-variants.{Ascending}
-use Rattle.types.specs.declared.Time.the-variants.{Absent}
-use Rattle.types.specs.declared.ValueDeletable.the-variants.{Value}
+use Rattle.basics.specs.declared.IterationOrder.the-variants.{Ascending}
+use Rattle.basics.specs.declared.Time.the-variants.{Absent}
+use Rattle.basics.specs.declared.ValueDeletable.the-variants.{Value}
 use Rattle.row_decode_v2.specs.declared.Row.{Row}
 use Rattle.row_decode_v2.specs.Says.{rowFrom}
-use Rattle.block_step_v2.specs.declared.Place.{Place}
-use Rattle.block_step_v2.specs.Says.{viewIn}
+use Rattle.step_in_place_v2.specs.declared.Place.{Place}
+use Rattle.step_in_place_v2.specs.Says.{viewIn}
 use Rattle.step_plain_v2.specs.declared.Stepped.{Stepped}
 use Rattle.step_plain_v2.specs.Ahead.{plainStep, steppedTo, rowMade}
 use Rattle.step_plain_v2.specs.Promise.{Goes, StepsPlain}

@@ -2,11 +2,11 @@
 // is written, and the step of any row follows.
 ghost use mathlib.Core.Path.{_≡_};
 ghost use Rattle.words_plain.specs.Promise.{StepsFlatPlain};
-use block_step_v2::Place;
+use basics::IterationOrder;
+use basics::Time;
+use basics::ValueDeletable;
 use row_decode_v2::Row;
-use types::IterationOrder;
-use types::Time;
-use types::ValueDeletable;
+use step_in_place_v2::Place;
 
 fn size(word: u64) -> usize
     ensures { λ r. ⌜ r ≡ word ⌝ }

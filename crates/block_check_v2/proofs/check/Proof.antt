@@ -7,9 +7,9 @@ use borrow.Author.Needs.{needs}
 use Rattle.layout.specs.Answer.{ok}
 use Rattle.layout.specs.Trailer.{trailerOf, allOffsets}
 use Rattle.layout.specs.Laws.Check.{check-trailer, check-offsets, check-rows}
-use Rattle.types.specs.Answers.{yes, no}
-use Rattle.block.specs.Laws.{offsets-used}
-use Rattle.block.specs.Says.{trailerFrom, saysTrailer, saysTested, refusalOfTrailer}
+use Rattle.basics.specs.Answers.{yes, no}
+use Rattle.trailer.specs.Laws.{offsets-used}
+use Rattle.trailer.specs.Says.{trailerFrom, saysTrailer, saysTested, refusalOfTrailer}
 use Rattle.block_check_v2.specs.Laws.{leaves-as, stands-first, stands-over}
 use Rattle.block_check_v2.specs.Walk.{Stands}
 use Rattle.block_check_v2.proofs.check.Statement.{statement}

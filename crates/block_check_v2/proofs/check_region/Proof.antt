@@ -15,11 +15,11 @@ use Rattle.layout.specs.RowRead.{readRow, RowRead as RowReadL}
 use Rattle.layout.specs.Trailer.{Trailer, trailerOf, dataOf, regionOf}
 use Rattle.layout.specs.Laws.Tells.{RowEnds, readRow-ends, row-shares}
 use Rattle.layout.specs.Laws.Trailer.{trailerOf-tells}
-use Rattle.types.specs.Answers.{yes, no}
+use Rattle.basics.specs.Answers.{yes, no}
 use Rattle.buf_mut.proofs.Laws.{copied}
-use Rattle.block.specs.declared.Region.{Region}
-use Rattle.block.specs.Laws.{region-used}
-use Rattle.block.specs.Says.{trailerFrom, regionFrom, saysRegion, refusalOfRegion}
+use Rattle.trailer.specs.declared.Region.{Region}
+use Rattle.trailer.specs.Laws.{region-used}
+use Rattle.trailer.specs.Says.{trailerFrom, regionFrom, saysRegion, refusalOfRegion}
 use Rattle.row_span_v2.specs.Laws.{spanned, span-known, span-refusal}
 use Rattle.row_span_v2.specs.Promise.{spanFrom}
 use Rattle.block_check_v2.specs.Laws.{Walks, stands-no, stands-inside, stands-walks, walks-over, walks-no, walks-room, walks-falls, walks-more, the-trailer}

@@ -1,8 +1,8 @@
 -- `next_in_array` makes the rules' own step.
 -- The array has as many bytes as a key may have, so the step over lent bytes is that one.
 use mathlib.Core.Path.{refl, sym}
-use Rattle.block_step_v2.specs.Lent.{lent-whole}
-use Rattle.block_step_v2.proofs.Laws.{moves-as}
+use Rattle.step_in_place_v2.specs.Lent.{lent-whole}
+use Rattle.step_in_place_v2.proofs.Laws.{moves-as}
 use borrow.Author.Needs.{needs}
 use Rattle.block_iterator_v2.proofs.next_in_array.Statement.{statement}
 use Rattle.block_iterator_v2.proofs.next_in_array.Tie as tie

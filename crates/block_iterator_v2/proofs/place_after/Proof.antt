@@ -1,8 +1,8 @@
 -- `place_after` takes the place out of a step's answer, or gives the one that came.
 -- In an arm that binds the place the answer is known, and the definition computes at it.
 use mathlib.Core.Path.{sym, ap}
-use Rattle.block_step_v2.specs.declared.Moved.{Moved}
-use Rattle.block_step_v2.specs.Says.{placeAfter}
+use Rattle.step_in_place_v2.specs.declared.Moved.{Moved}
+use Rattle.step_in_place_v2.specs.Says.{placeAfter}
 use borrow.Author.Needs.{needs}
 use Rattle.block_iterator_v2.proofs.place_after.Statement.{statement}
 use Rattle.block_iterator_v2.proofs.place_after.Tie as tie

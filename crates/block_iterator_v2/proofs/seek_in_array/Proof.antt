@@ -1,8 +1,8 @@
 -- `seek_in_array` makes the rules' own seek.
 -- The array has as many bytes as a key may have, so the seek over lent bytes is that one.
 use mathlib.Core.Path.{refl, sym}
-use Rattle.block_seek_v2.specs.Lent.{lent-whole}
-use Rattle.block_seek_v2.proofs.Walks.{finds-as}
+use Rattle.seek_in_place_v2.specs.Lent.{lent-whole}
+use Rattle.seek_in_place_v2.proofs.Walks.{finds-as}
 use borrow.Author.Needs.{needs}
 use Rattle.block_iterator_v2.proofs.seek_in_array.Statement.{statement}
 use Rattle.block_iterator_v2.proofs.seek_in_array.Tie as tie

@@ -5,7 +5,7 @@ use mathlib.Core.Path.{_∙_}
 use native.Mathlib.Omega.{arith}
 use lib.ListN.{length}
 use Rattle.layout.specs.Laws.MatchWalk.{MatchingDown, down-start, down-over, down-no, SpanTells, span-tells}
-use Rattle.block.specs.Says.{regionFrom}
+use Rattle.trailer.specs.Says.{regionFrom}
 use Rattle.row_span_v2.specs.Promise.{spanFrom}
 use Rattle.block_regions_v2.specs.Laws.{last-strange, last-there, turn-down}
 use Rattle.row_span_v2.specs.Laws.{span-refusal}

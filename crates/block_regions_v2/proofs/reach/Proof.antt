@@ -3,7 +3,7 @@
 use Prim.Native.Nat.{_-_}
 use native.Mathlib.Omega.{arith}
 use Rattle.layout.specs.Laws.MatchWalk.{SpanTells, span-tells}
-use Rattle.block.specs.Says.{regionFrom}
+use Rattle.trailer.specs.Says.{regionFrom}
 use Rattle.row_span_v2.specs.Promise.{spanFrom}
 use Rattle.block_regions_v2.specs.Parts.{Reaching, reaching-start, reaching-more, reaching-far}
 use borrow.Author.Needs.{needs}

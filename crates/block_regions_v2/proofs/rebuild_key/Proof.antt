@@ -4,7 +4,7 @@ use Prim.Native.Nat.{ℕ, _-_}
 use native.Mathlib.Omega.{arith}
 use Rattle.layout.specs.Key.{Key}
 use Rattle.layout.specs.Laws.MatchWalk.{SpanTells, span-tells}
-use Rattle.block.specs.Says.{regionFrom}
+use Rattle.trailer.specs.Says.{regionFrom}
 use Rattle.row_span_v2.specs.Promise.{spanFrom}
 use Rattle.block_regions_v2.specs.Rows.{Filling, filling-none, filling-over, filling-read, filling-more}
 use borrow.Author.Needs.{needs}

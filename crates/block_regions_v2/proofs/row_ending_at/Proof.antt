@@ -4,7 +4,7 @@ use lib.Dec.{eqb}
 use Rattle.layout.specs.Answer.{ok}
 use Rattle.layout.specs.RowRead.{readRow}
 use Rattle.layout.specs.Laws.Tells.{readRow-ends}
-use Rattle.types.specs.Answers.{yes, no}
+use Rattle.basics.specs.Answers.{yes, no}
 use Rattle.buf_mut.proofs.Laws.{copied}
 use Rattle.row_decode_v2.specs.Says.{rowFrom, saysRow, refusalOfRow}
 use Rattle.block_regions_v2.specs.Laws.{gives-not, ending-none, part-most, stands, ended-no, ended-shares, ended-past, ended-short, ended-put}

@@ -5,7 +5,7 @@ use Prim.Native.Nat.{_-_}
 use native.Mathlib.Omega.{arith}
 use lib.ListN.{length}
 use Rattle.layout.specs.Laws.MatchWalk.{SpanTells, span-tells}
-use Rattle.block.specs.Says.{regionFrom}
+use Rattle.trailer.specs.Says.{regionFrom}
 use Rattle.row_span_v2.specs.Promise.{spanFrom}
 use Rattle.block_regions_v2.specs.Climb.{Climbing, climbing-start, climbing-over, climbing-stop, climbing-more}
 use Rattle.block_regions_v2.specs.Laws.{halts-no, halts-there}

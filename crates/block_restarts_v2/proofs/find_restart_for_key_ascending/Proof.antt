@@ -1,7 +1,7 @@
 -- `find_restart_for_key_ascending` keeps its promise: the search's refusal, or one restart earlier than where its span closed.
 -- Both are the definition's by what the search answered, which has tested the trailer.
 use mathlib.Core.Path.{refl}
-use Rattle.types.specs.Answers.{yes, no}
+use Rattle.basics.specs.Answers.{yes, no}
 use Rattle.block_restarts_v2.specs.Laws.{up-no, up-is}
 use Rattle.block_restarts_v2.specs.Reading.{saysSearch, refusalOfSearch}
 use borrow.Author.Needs.{needs}

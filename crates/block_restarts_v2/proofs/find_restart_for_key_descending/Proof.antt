@@ -3,9 +3,9 @@
 use mathlib.Core.Path.{_≡_, refl, sym, _∙_}
 use Rattle.layout.specs.Answer.{ok}
 use Rattle.layout.specs.Seek.{foundIs}
-use Rattle.types.specs.Answers.{yes, no}
+use Rattle.basics.specs.Answers.{yes, no}
 use Rattle.keys.specs.Says.{saysOrdering}
-use Rattle.block.specs.Says.{trailerFrom}
+use Rattle.trailer.specs.Says.{trailerFrom}
 use Rattle.block_restarts_v2.specs.Handed.{searchAt}
 use Rattle.block_restarts_v2.specs.Laws.{searched, down-no, down-past, down-refused, down-earlier, down-run}
 use Rattle.block_restarts_v2.specs.Reading.{saysCompared, refusalOfCompared, restartCompared, saysSearch, refusalOfSearch}

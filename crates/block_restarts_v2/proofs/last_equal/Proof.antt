@@ -6,9 +6,9 @@ use mathlib.Core.Bool.{Bool, true, false, not}
 use native.Mathlib.Omega.{arith}
 use Rattle.layout.specs.Answer.{ok}
 use Rattle.layout.specs.Laws.Seek.{Running, running-start}
-use Rattle.types.specs.Answers.{yes, no}
+use Rattle.basics.specs.Answers.{yes, no}
 use Rattle.keys.specs.Says.{saysOrdering}
-use Rattle.block.specs.Says.{trailerFrom}
+use Rattle.trailer.specs.Says.{trailerFrom}
 use Rattle.block_restarts_v2.specs.Laws.{run-over, run-no, run-ends, run-more}
 use Rattle.block_restarts_v2.specs.Reading.{saysCompared, refusalOfCompared, restartCompared}
 use borrow.Author.Needs.{needs}

@@ -4,7 +4,7 @@ use Prim.Native.Nat.{_+_, _*_}
 use mathlib.Core.Path.{_≡_}
 use native.Mathlib.Omega.{arith}
 use lib.ListN.{length}
-use Rattle.block.specs.Laws.{belongs-is}
+use Rattle.trailer.specs.Laws.{belongs-is}
 use Rattle.block_restarts_v2.specs.Laws.{search-none, search-strange, search-there}
 use borrow.Author.Needs.{needs}
 use Rattle.block_restarts_v2.proofs.search_restarts.Statement.{statement}

@@ -10,7 +10,7 @@ use borrow.Author.Needs.{needs}
 use Rattle.layout.specs.Limits.{maxKey}
 use Rattle.layout.specs.Laws.Answer.{bool-cases}
 use Rattle.layout.specs.Laws.Splice.{wrote-length}
-use Rattle.block_step_v2.specs.Says.{viewIn}
+use Rattle.step_in_place_v2.specs.Says.{viewIn}
 use Rattle.block_rows_v2.specs.declared.Went.{Went}
 use Rattle.block_rows_v2.specs.Chain.{Gone, gone-start}
 use Rattle.block_rows_v2.specs.Says.{StepsOn}

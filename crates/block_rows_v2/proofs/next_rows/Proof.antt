@@ -2,8 +2,8 @@
 -- Each exit is one law.
 use mathlib.Core.Path.{_≡_}
 use Rattle.layout.specs.Answer.{ok}
-use Rattle.types.specs.Answers.{yes}
-use Rattle.block_step_v2.specs.Says.{viewIn}
+use Rattle.basics.specs.Answers.{yes}
+use Rattle.step_in_place_v2.specs.Says.{viewIn}
 use Rattle.row_words.specs.Words.{cursorIn}
 use Rattle.block_words.specs.Says.{saysCursor}
 use Rattle.block_words.proofs.Laws.{cursor-counts}

@@ -15,8 +15,8 @@ use Rattle.layout.specs.RowRead.{mayShare, keyOf}
 use Rattle.layout.specs.Laws.Splice.{Wrote, wrote-length}
 use Rattle.row_decode_v2.specs.Says.{rowFrom}
 use Rattle.row_plain_v2.specs.Promise.{plainFrom}
-use Rattle.block.specs.Says.{regionFrom}
-use Rattle.block_step_v2.specs.Says.{viewIn}
+use Rattle.trailer.specs.Says.{regionFrom}
+use Rattle.step_in_place_v2.specs.Says.{viewIn}
 use Rattle.row_words.specs.Words.{rowCount}
 use Rattle.region_rows_v2.specs.Bounds.{Inside}
 use Rattle.region_rows_v2.specs.Region.{PlainFits, here-fits, inside-long, inside-region, share-none, share-key}

@@ -2,7 +2,7 @@
 use mathlib.Core.Path.{refl}
 use native.Mathlib.Omega.{arith}
 use Rattle.layout.specs.Laws.Answer.{clash}
-use Rattle.block.specs.Says.{regionFrom}
+use Rattle.trailer.specs.Says.{regionFrom}
 use Rattle.region_rows_v2.specs.Region.{bounds-inside}
 use Rattle.block_rows_v2.proofs.Plain.{ends-here}
 use borrow.Author.Needs.{needs}

@@ -9,8 +9,8 @@ use Rattle.layout.specs.Answer.{ok}
 use Rattle.layout.specs.Cursor.{done, stepIs}
 use Rattle.layout.specs.Laws.Splice.{wrote-length}
 use Rattle.row_decode_v2.specs.Says.{rowFrom}
-use Rattle.block_step_v2.specs.Says.{viewIn}
-use Rattle.block_step_v2.specs.declared.Place.{Place}
+use Rattle.step_in_place_v2.specs.Says.{viewIn}
+use Rattle.step_in_place_v2.specs.declared.Place.{Place}
 use Rattle.region_rows_v2.specs.Found.{Finds, moved-finds, moved-ends, moved-refuses}
 use Rattle.block_rows_v2.specs.declared.Ran.{Ran}
 use Rattle.block_rows_v2.specs.Says.{ranTo, RunsOn}

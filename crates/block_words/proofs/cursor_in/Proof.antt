@@ -1,6 +1,6 @@
 -- Five words are a cursor exactly when the definition says so, whatever key bytes stand beside them.
 -- Each exit is one law of `cursorIn`: too few or too many words, no order, no mark, and a cursor.
-use Rattle.types.specs.Answers.{yes}
+use Rattle.basics.specs.Answers.{yes}
 use Rattle.block_words.specs.Says.{saysOrdered}
 use Rattle.row_words.specs.Says.{saysTruth}
 use Rattle.block_words.proofs.Laws.{cursor-short, cursor-no-order, cursor-no-mark, cursor-loaded}

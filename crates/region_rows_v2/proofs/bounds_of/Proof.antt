@@ -5,12 +5,12 @@ use mathlib.Core.List.{[]}
 use Rattle.layout.specs.Answer.{ok}
 use Rattle.layout.specs.Trailer.{trailerOf, regionOf}
 use Rattle.layout.specs.Cursor.{ascending, Cursor}
-use Rattle.types.specs.Answers.{yes}
-use Rattle.types.specs.Says.{saysOrder}
-use Rattle.block.specs.Handed.{regionAt}
-use Rattle.block.specs.Laws.{region-used}
-use Rattle.block.specs.Says.{trailerFrom, regionFrom, saysTrailer, saysRegion}
-use Rattle.block_step_v2.specs.Says.{viewIn}
+use Rattle.basics.specs.Answers.{yes}
+use Rattle.basics.specs.Says.{saysOrder}
+use Rattle.trailer.specs.Handed.{regionAt}
+use Rattle.trailer.specs.Laws.{region-used}
+use Rattle.trailer.specs.Says.{trailerFrom, regionFrom, saysTrailer, saysRegion}
+use Rattle.step_in_place_v2.specs.Says.{viewIn}
 use Rattle.region_rows_v2.specs.Bounds.{none-down, none-marked, none-trailer, none-region, none-key, none-bounds, none-before, some-stretch}
 use borrow.Author.Needs.{needs}
 use Rattle.region_rows_v2.proofs.bounds_of.Statement.{statement}

@@ -1,6 +1,6 @@
 -- `seq_at` answers the number that was read, or 0: in each arm the case is known, and the definition computes at it.
 use mathlib.Core.Path.{ap, sym}
-use Rattle.types.specs.Answers.{yes}
+use Rattle.basics.specs.Answers.{yes}
 use Rattle.buf.specs.Says.{saysWord}
 use Rattle.region_rows_v2.specs.Promise.{orZero}
 use borrow.Author.Needs.{needs}

@@ -9,7 +9,7 @@ use Rattle.layout.specs.Place.{numAt, fixedAt}
 use Rattle.layout.specs.RowRead.{Held, bodyIs, seqAt}
 use Rattle.layout.specs.Laws.Place.{fixedAt-ends}
 use Rattle.layout.specs.Laws.RowExits.{body-long, body-short, body-word, body-flags, body-good}
-use Rattle.types.specs.Answers.{yes, no}
+use Rattle.basics.specs.Answers.{yes, no}
 use Rattle.buf.specs.Says.{saysWord}
 use Rattle.row_decode_v2.specs.Reading.{saysFlags, flagsFrom, lengthsFrom, refusalOfWord, refusalOfFlags}
 use borrow.Author.Needs.{needs}

@@ -6,7 +6,7 @@ use Rattle.layout.specs.Answer.{ok}
 use Rattle.layout.specs.RowRead.{headAt}
 use Rattle.layout.specs.Laws.Tells.{headAt-tells}
 use Rattle.layout.specs.Laws.RowExits.{key-head, key-short, key-past, key-good}
-use Rattle.types.specs.Answers.{yes, no}
+use Rattle.basics.specs.Answers.{yes, no}
 use Rattle.row_decode_v2.specs.Reading.{lengthsFrom, saysHead, refusalOfHead}
 use borrow.Author.Needs.{needs}
 use Rattle.row_decode_v2.proofs.decode_key_only.Statement.{statement}

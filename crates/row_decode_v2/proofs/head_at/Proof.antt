@@ -5,7 +5,7 @@ use mathlib.Core.Path.{_≡_, refl}
 use Rattle.layout.specs.Answer.{ok}
 use Rattle.layout.specs.RowRead.{Lengths, lengthsIs, lengthsAt, mayShare}
 use Rattle.layout.specs.Laws.RowExits.{head-no, head-share, head-empty, head-long, head-good}
-use Rattle.types.specs.Answers.{yes, no}
+use Rattle.basics.specs.Answers.{yes, no}
 use Rattle.row_decode_v2.specs.Reading.{saysLengths, refusalOfLengths}
 use borrow.Author.Needs.{needs}
 use Rattle.row_decode_v2.proofs.head_at.Statement.{statement}

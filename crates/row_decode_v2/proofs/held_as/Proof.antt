@@ -1,7 +1,7 @@
 -- `held_as` keeps to the definition, kind by kind.
 -- In each arm the kind is known, and the definition computes at it.
 use mathlib.Core.Path.{sym, ap}
-use Rattle.types.specs.declared.Kind.{Kind}
+use Rattle.basics.specs.declared.Kind.{Kind}
 use Rattle.row_decode_v2.specs.Reading.{heldFrom}
 use borrow.Author.Needs.{needs}
 use Rattle.row_decode_v2.proofs.held_as.Statement.{statement}

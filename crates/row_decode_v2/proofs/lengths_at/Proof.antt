@@ -4,7 +4,7 @@ use mathlib.Core.Path.{_≡_, refl}
 use Rattle.layout.specs.Answer.{ok}
 use Rattle.layout.specs.Place.{numAt, varintAt}
 use Rattle.layout.specs.Laws.RowExits.{lengths-one, lengths-two, lengths-three, lengths-good}
-use Rattle.types.specs.Answers.{yes, no}
+use Rattle.basics.specs.Answers.{yes, no}
 use Rattle.utils.specs.Says.{saysVarint}
 use Rattle.row_decode_v2.specs.Reading.{refusalOfVarint}
 use borrow.Author.Needs.{needs}

@@ -8,7 +8,7 @@ use Rattle.layout.specs.Answer.{ok}
 use Rattle.layout.specs.Row.{At}
 use Rattle.layout.specs.RowRead.{timeIs}
 use Rattle.layout.specs.Laws.RowExits.{time-short, time-read, time-none}
-use Rattle.types.specs.Answers.{yes, no}
+use Rattle.basics.specs.Answers.{yes, no}
 use Rattle.buf.specs.Says.{saysSigned}
 use Rattle.row_decode_v2.specs.Reading.{refusalOfSigned}
 use borrow.Author.Needs.{needs}

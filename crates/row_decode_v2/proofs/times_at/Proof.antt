@@ -4,8 +4,8 @@ use mathlib.Core.Path.{_≡_, refl}
 use Rattle.layout.specs.Answer.{ok}
 use Rattle.layout.specs.RowRead.{timeIs, timeAt}
 use Rattle.layout.specs.Laws.RowExits.{times-one, times-two, times-good}
-use Rattle.types.specs.Answers.{yes, no}
-use Rattle.types.specs.Says.{saysTime}
+use Rattle.basics.specs.Answers.{yes, no}
+use Rattle.basics.specs.Says.{saysTime}
 use Rattle.row_decode_v2.specs.Reading.{saysTimeAt, refusalOfTime}
 use borrow.Author.Needs.{needs}
 use Rattle.row_decode_v2.proofs.times_at.Statement.{statement}

@@ -8,7 +8,7 @@ use lib.ListN.{length, set}
 use borrow.Author.Needs.{needs}
 use Rattle.layout.specs.Row.{present, flagsOf, timeBytes}
 use Rattle.layout.specs.Laws.Splice.{Wrote, wrote-set, wrote-then, wrote-as, wrote-length}
-use Rattle.types.specs.Says.{saysKind, saysTime}
+use Rattle.basics.specs.Says.{saysKind, saysTime}
 use Rattle.row_size_v2.specs.declared.RowFields.{RowFields}
 use Rattle.row_encode_v2.specs.Parts.{markBytes}
 use Rattle.row_size_v2.proofs.Writes.{room-first, room-next}

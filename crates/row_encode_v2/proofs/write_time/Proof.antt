@@ -8,8 +8,8 @@ use borrow.Author.Needs.{needs}
 use Rattle.layout.specs.Row.{timeBytes}
 use Rattle.layout.specs.Laws.RowWrite.{time-absent, time-present}
 use Rattle.layout.specs.Laws.Splice.{wrote-none, wrote-as}
-use Rattle.types.specs.Says.{saysTime}
-use Rattle.types.specs.declared.Time.{Time}
+use Rattle.basics.specs.Says.{saysTime}
+use Rattle.basics.specs.declared.Time.{Time}
 use Rattle.row_size_v2.proofs.Writes.{put-one}
 use Rattle.row_encode_v2.proofs.write_time.Statement.{statement}
 use Rattle.row_encode_v2.proofs.write_time.Tie as tie

@@ -4,7 +4,7 @@ use Prim.Native.Nat.{_+_, _≤_}
 use native.Mathlib.Omega.{arith}
 use borrow.Author.Needs.{needs}
 use Rattle.layout.specs.Limits.{maxKey}
-use Rattle.types.specs.Answers.{yes}
+use Rattle.basics.specs.Answers.{yes}
 use Rattle.row_size_v2.specs.Says.{saysSized}
 use Rattle.row_size_v2.proofs.Writes.{key-tested, size-unkeyed, size-over, size-sum}
 use Rattle.row_size_v2.proofs.encoded_size.Statement.{statement}

@@ -1,6 +1,6 @@
 -- `row_at` keeps the promise of `decode_at`: a plain row is the row that the rules read, with the eight bytes of seq as they were read; any other is decoded.
 use native.Mathlib.Omega.{arith}
-use Rattle.types.specs.Answers.{yes}
+use Rattle.basics.specs.Answers.{yes}
 use Rattle.buf.specs.Says.{saysWord}
 use Rattle.row_plain_v2.specs.Promise.{plainFrom}
 use Rattle.row_span_v2.proofs.Whole.{plain-least, plain-row}

@@ -1,7 +1,7 @@
 -- Six words are a row's fields exactly when the definition says so, whatever value is offered with them.
 -- Each exit is one law of `fieldsIn`: the number of words, the kind, the two times, and good fields.
 use mathlib.Core.Path.{refl}
-use Rattle.types.specs.Answers.{yes}
+use Rattle.basics.specs.Answers.{yes}
 use Rattle.row_words.specs.Words.{wordAt}
 use Rattle.row_words.specs.Says.{saysKindRead, saysTimeRead}
 use Rattle.row_words.proofs.Fields.{fields-short, fields-no-kind, fields-no-expire, fields-no-create, fields-loaded}

@@ -4,7 +4,7 @@ use mir.Syntax.{w64}
 use mir.Facts.{toZ-ofZ}
 use mathlib.Core.Path.{ap, _∙_}
 use Rattle.layout.specs.Answer.{ok}
-use Rattle.types.specs.Answers.{yes}
+use Rattle.basics.specs.Answers.{yes}
 use Rattle.row_words.specs.Says.{saysTruth}
 use Rattle.row_words.proofs.Fields.{time-bad, time-at, time-absent}
 use borrow.Author.Needs.{needs}

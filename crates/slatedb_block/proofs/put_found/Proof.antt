@@ -1,7 +1,7 @@
 -- `put_found` answers and leaves by the three cases of a seek's answer: the cursor's words and the count where it landed or was done; a refusal leaves both.
 -- In each arm the case is known, and the definitions compute at it. There are as many words as required, so the stores were made.
 use mathlib.Core.Path.{ap, sym, _∙_}
-use Rattle.block_seek_v2.specs.declared.Found.{Found}
+use Rattle.seek_in_place_v2.specs.declared.Found.{Found}
 use Rattle.row_words.proofs.Laws.{stored}
 use Rattle.slatedb_block.specs.Says.{foundCode, foundWords, foundReads}
 use borrow.Author.Needs.{needs}

@@ -1,7 +1,7 @@
 -- `put_grown` answers and leaves by the two cases of what adding answered: with a row, 0 and the words of its state; with none, the refusal's number and the words that were there.
 -- In each arm the case is known, and the definitions of code and words compute at it; the words are six, as required, so `put_state` has stored.
 use mathlib.Core.Path.{ap, sym, _∙_}
-use Rattle.block_grow_v2.specs.declared.Grown.{Grown}
+use Rattle.build_in_place_v2.specs.declared.Grown.{Grown}
 use Rattle.row_words.proofs.Laws.{stored}
 use Rattle.slatedb_block.specs.Says.{grownCode, grownWords}
 use borrow.Author.Needs.{needs}

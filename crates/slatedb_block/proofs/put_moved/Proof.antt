@@ -1,7 +1,7 @@
 -- `put_moved` answers and leaves by the three cases of a step's answer: the cursor's words where it moved, the row's where one was found.
 -- In each arm the case is known, and the definitions compute at it. There are as many words as required, so the stores were made; what an arm doesn't store is as it was.
 use mathlib.Core.Path.{ap, sym, _∙_}
-use Rattle.block_step_v2.specs.declared.Moved.{Moved}
+use Rattle.step_in_place_v2.specs.declared.Moved.{Moved}
 use Rattle.row_words.proofs.Laws.{stored}
 use Rattle.slatedb_block.specs.Says.{movedCode, movedWords, movedRow}
 use borrow.Author.Needs.{needs}

@@ -3,11 +3,11 @@
 use mathlib.Core.Path.{_≡_}
 use lib.ListN.{length}
 use Rattle.layout.specs.Answer.{ok}
-use Rattle.types.specs.Answers.{yes}
+use Rattle.basics.specs.Answers.{yes}
 use Rattle.row_size_v2.specs.Says.{fieldsFrom}
 use Rattle.row_words.specs.Words.{fieldsIn, builderCount}
 use Rattle.row_words.specs.Says.{saysFields}
-use Rattle.block_grow_v2.specs.Promise.{FitsInPlace}
+use Rattle.build_in_place_v2.specs.Promise.{FitsInPlace}
 use Rattle.block_words.specs.Says.{stateIn}
 use Rattle.block_words.proofs.Laws.{state-none, state-counts, state-is}
 use Rattle.slatedb_block.proofs.Rows.{fits-short, fits-no-key, fits-bad, fits-yes, fits-refused}

@@ -1,6 +1,6 @@
 -- `slatedb_check` keeps its promise: its answer is the definition's, and the count is set for good blocks only.
 -- No words are lent to it that could mean nothing, so what `check` promised is all that is needed: one law for its rows, one for its refusal, whose arm doesn't touch the count.
-use Rattle.types.specs.Answers.{yes}
+use Rattle.basics.specs.Answers.{yes}
 use Rattle.block_check_v2.specs.Says.{saysChecked}
 use Rattle.slatedb_block.proofs.Laws.{tells-good, tells-refused}
 use borrow.Author.Needs.{needs}

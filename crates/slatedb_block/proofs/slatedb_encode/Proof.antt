@@ -2,7 +2,7 @@
 -- Each exit is one law of `Rows`.
 use mathlib.Core.Path.{_≡_}
 use Rattle.layout.specs.Answer.{ok}
-use Rattle.types.specs.Answers.{yes}
+use Rattle.basics.specs.Answers.{yes}
 use Rattle.row_size_v2.specs.Says.{fieldsFrom}
 use Rattle.row_words.specs.Words.{fieldsIn}
 use Rattle.row_words.specs.Says.{saysFields}

@@ -1,6 +1,6 @@
 -- `slatedb_is_empty` keeps its promise: 254 for words that are no cursor, 14, or 0 and whether no row is left.
 -- The answer doesn't depend on the key's bytes, which are not lent: words are a cursor whatever bytes stand beside them, and zeros beside them answer as any others would.
-use Rattle.types.specs.Answers.{yes}
+use Rattle.basics.specs.Answers.{yes}
 use mathlib.Core.List.{[]}
 use Rattle.block_words.specs.Says.{saysCursor}
 use Rattle.slatedb_block.proofs.Laws.{empty-no-cursor, empty-told, empty-refused}

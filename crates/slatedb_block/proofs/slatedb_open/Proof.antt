@@ -1,6 +1,6 @@
 -- `slatedb_open` keeps its promise: the number of words and the order first, then the cursor that `new` promised, as words.
 -- Each exit is one law of `Laws`: the two tests are the definition's first, and the five words are stored only where the block opened, from the place of the opened cursor.
-use Rattle.types.specs.Answers.{yes}
+use Rattle.basics.specs.Answers.{yes}
 use Rattle.block_words.specs.Says.{saysOrdered}
 use Rattle.row_words.proofs.Laws.{stored}
 use Rattle.slatedb_block.proofs.Laws.{opens-short, opens-no-order, opens-good, opens-refused}

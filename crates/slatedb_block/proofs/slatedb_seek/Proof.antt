@@ -3,8 +3,8 @@
 use mathlib.Core.Path.{_≡_}
 use lib.ListN.{length}
 use Rattle.layout.specs.Answer.{ok}
-use Rattle.types.specs.Answers.{yes}
-use Rattle.block_step_v2.specs.Says.{viewIn}
+use Rattle.basics.specs.Answers.{yes}
+use Rattle.step_in_place_v2.specs.Says.{viewIn}
 use Rattle.row_words.specs.Words.{cursorIn, cursorCount}
 use Rattle.block_words.specs.Says.{saysCursor}
 use Rattle.block_words.proofs.Laws.{cursor-counts}

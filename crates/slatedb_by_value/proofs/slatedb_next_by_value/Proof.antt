@@ -6,8 +6,8 @@ use mathlib.Core.List.{List}
 use mathlib.Core.Path.{_≡_}
 use lib.ListN.{length}
 use Rattle.layout.specs.Answer.{ok}
-use Rattle.types.specs.Answers.{yes}
-use Rattle.block_step_v2.specs.Says.{viewIn}
+use Rattle.basics.specs.Answers.{yes}
+use Rattle.step_in_place_v2.specs.Says.{viewIn}
 use Rattle.block_iterator_v2.specs.Says.{viewOf}
 use Rattle.block_iterator_v2.specs.declared.BlockIteratorV2.{BlockIteratorV2}
 use Rattle.row_words.specs.Words.{cursorIn, cursorWords, cursorCount}

@@ -2,7 +2,7 @@
 -- Each exit is one law.
 use native.Mathlib.Omega.{arith}
 use lib.ListN.{length-set}
-use Rattle.types.specs.Answers.{yes}
+use Rattle.basics.specs.Answers.{yes}
 use Rattle.row_words.specs.Says.{saysTruth}
 use Rattle.slatedb_parts.proofs.Laws.{key-short, key-no-truth, key-good, key-refused}
 use borrow.Author.Needs.{needs}

@@ -8,7 +8,7 @@ use lib.Seq.{length-take-le}
 use borrow.Author.Needs.{needs}
 use Rattle.layout.specs.Answer.{bind}
 use Rattle.layout.specs.Limits.{maxKey}
-use Rattle.types.specs.Answers.{yes}
+use Rattle.basics.specs.Answers.{yes}
 use Rattle.row_decode_v2.specs.Says.{rowFrom}
 use Rattle.block_iterator_v2.specs.Says.{viewOf, saysNext}
 use Rattle.slatedb_walks.specs.Walk.{walk, wrapped}

@@ -8,7 +8,7 @@ use borrow.Author.Needs.{needs}
 use Rattle.layout.specs.Answer.{bind}
 use Rattle.layout.specs.Limits.{maxKey}
 use Rattle.row_decode_v2.specs.Says.{rowFrom}
-use Rattle.block_step_v2.specs.Says.{viewIn}
+use Rattle.step_in_place_v2.specs.Says.{viewIn}
 use Rattle.slatedb_walks.specs.Walk.{walk, wrapped}
 use Rattle.slatedb_walks.specs.Loop.{Walking}
 use Rattle.slatedb_walks.proofs.Steps.{Finds, moved-finds, moved-ends, moved-refuses}

@@ -9,8 +9,8 @@ use borrow.Author.Needs.{needs}
 use Rattle.layout.specs.Answer.{Res}
 use Rattle.layout.specs.Limits.{maxKey}
 use Rattle.layout.specs.RowRead.{mayShare}
-use Rattle.block.specs.Says.{regionFrom}
-use Rattle.block_step_v2.specs.Says.{viewIn}
+use Rattle.trailer.specs.Says.{regionFrom}
+use Rattle.step_in_place_v2.specs.Says.{viewIn}
 use Rattle.region_rows_v2.specs.Bounds.{Inside}
 use Rattle.region_rows_v2.specs.Region.{PlainFits, movedTo, inside-long, inside-region, share-none, share-key}
 use Rattle.slatedb_walks.specs.Walk.{Walk}

@@ -1,6 +1,6 @@
 -- The walk in place keeps the promise: the number of words and the order first, then the walk from the place of the cursor that `new` promised, told as it ended.
 -- Each exit is one law; an opened cursor carries no key, so that zeros do for its bytes.
-use Rattle.types.specs.Answers.{yes}
+use Rattle.basics.specs.Answers.{yes}
 use Rattle.block_words.specs.Says.{saysOrdered}
 use Rattle.slatedb_walks.proofs.Laws.{walks-short, walks-no-order, walks-told-in-place, walks-not-opened}
 use borrow.Author.Needs.{needs}

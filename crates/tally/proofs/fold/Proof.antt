@@ -6,7 +6,7 @@ use native.Mathlib.Omega.{arith}
 use lib.ListN.{length}
 use borrow.Author.Needs.{needs}
 use Rattle.layout.specs.Limits.{maxKey}
-use Rattle.block_step_v2.specs.Says.{viewIn}
+use Rattle.step_in_place_v2.specs.Says.{viewIn}
 use Rattle.tally.specs.Tally.{tallyBlock}
 use Rattle.tally.proofs.Laws.{Folding, fold-start, fold-whole, fold-found, fold-not-done, fold-not-refused}
 use Rattle.tally.proofs.fold.Statement.{statement}

@@ -4,8 +4,8 @@ use mathlib.Core.Path.{_≡_, refl, sym}
 use Rattle.layout.specs.Answer.{ok}
 use Rattle.layout.specs.Trailer.{trailerOf}
 use Rattle.layout.specs.Laws.Cursor.{empty-trailer}
-use Rattle.types.specs.Answers.{yes, no}
-use Rattle.block.specs.Says.{trailerFrom, saysTrailer, refusalOfTrailer}
+use Rattle.basics.specs.Answers.{yes, no}
+use Rattle.trailer.specs.Says.{trailerFrom, saysTrailer, refusalOfTrailer}
 use Rattle.block_iterator_v2.proofs.Laws.{empty-marked, empty-up, empty-down}
 use borrow.Author.Needs.{needs}
 use Rattle.block_iterator_v2.proofs.BlockIteratorV2.is_empty.Statement.{statement}

@@ -6,9 +6,9 @@ use Rattle.layout.specs.Answer.{ok}
 use Rattle.layout.specs.Trailer.{trailerOf, allOffsets}
 use Rattle.layout.specs.Laws.Trailer.{trailerOf-tells}
 use Rattle.layout.specs.Laws.Cursor.{open-trailer, open-offsets, open-good}
-use Rattle.types.specs.Answers.{yes, no}
-use Rattle.block.specs.Says.{trailerFrom, saysTrailer, saysTested, refusalOfTrailer}
-use Rattle.block.specs.Laws.{offsets-used}
+use Rattle.basics.specs.Answers.{yes, no}
+use Rattle.trailer.specs.Says.{trailerFrom, saysTrailer, saysTested, refusalOfTrailer}
+use Rattle.trailer.specs.Laws.{offsets-used}
 use Rattle.block_iterator_v2.proofs.Laws.{opens-not, opens-up, opens-down}
 use borrow.Author.Needs.{needs}
 use Rattle.block_iterator_v2.proofs.BlockIteratorV2.new.Statement.{statement}

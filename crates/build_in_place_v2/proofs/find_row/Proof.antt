@@ -1,0 +1,178 @@
+-- `find_row` keeps its promise: where a test of adding refuses, a size of 0, and else what was found. Each exit is the law of that exit in `plan_row` or `accept_row`.
+use Prim.Native.Nat.{ℕ, _≤_}
+use mathlib.Core.Path.{_≡_, ap, sym, _∙_}
+use mathlib.Core.List.{List}
+use native.Mathlib.Omega.{arith}
+use lib.ListN.{length, replicate, length-drop, length-replicate}
+use borrow.Author.Needs.{needs}
+use Rattle.layout.specs.Answer.{ok}
+use Rattle.layout.specs.Builder.{Builder, stateTests}
+use Rattle.layout.specs.Laws.Builder.{state-tells}
+use Rattle.row_size_v2.specs.Says.{fieldsFrom, saysSized}
+use Rattle.build_in_place_v2.specs.Says.{viewFrom}
+use Rattle.build_in_place_v2.proofs.Finds.{found-none, found-some}
+use Rattle.build_in_place_v2.proofs.Tests.{state-refused, state-taken, Measured, share-fits, plan-state, plan-unsized, plan-past, plan-fits, plan-over, size-small, accept-no, accept-far, accept-short, accept-places, accept-good}
+use Rattle.build_in_place_v2.proofs.find_row.Statement.{statement}
+use Rattle.build_in_place_v2.proofs.find_row.Tie as tie
+
+abbrev view : tie.Start → Builder
+view s = viewFrom (s .args .s) (s .args .last-key .now)
+
+abbrev start : tie.Else1 → tie.Start
+start c = c .before .before .before .before
+
+state : (c : tie.Else1) → stateTests (view (start c)) (start c .args .data-len) (start c .args .places-len) ≡ ok tt
+state c = state-taken _ (c .before .is-bad-state .ensures (start c .args .last-key .now)) (c .if1 .left)
+
+-- for a value of this length, whatever its bytes are
+module _ (c : tie.After-entry-encoded-size) (v : List ℕ) (long : length v ≡ start (c .before .before .before) .args .value-len) where
+  abbrev tested : tie.Else1
+  tested = c .before .before .before
+
+  measured : Measured (view (start tested)) (start tested .args .data-len) (start tested .args .places-len) (start tested .args .key .now) (fieldsFrom (start tested .args .row) v) (c .before .shared-bytes .result)
+      (c .before .before .is-restart-point .result) (saysSized (c .entry-encoded-size .result))
+  measured =
+      record {
+        state = state tested;
+        mark = c .before .before .is-restart-point .ensures;
+        share = c .before .shared-bytes .ensures;
+        size-is = rw (length-drop, long) (sym (c .entry-encoded-size .ensures));
+      }
+
+-- no sum with its size wraps: some value has this length
+small : (c : tie.After-entry-encoded-size) {n : ℕ} → saysSized (c .entry-encoded-size .result) ≡ ok n → n ≤ 66599
+small c =
+    let n = start (c .before .before .before) .args .value-len in
+    size-small _ _ _ _ _ (measured c (replicate n 0) (length-replicate {A = ℕ} n 0))
+
+is-bad-state-requires : tie.Need-is-bad-state-requires
+is-bad-state-requires c κs = search needs
+
+found-row-requires : tie.Need-found-row-requires
+found-row-requires c κs = search needs
+
+found-row-requires-2 : tie.Need-found-row-requires-2
+found-row-requires-2 c κs = search needs
+
+found-row-requires-3 : tie.Need-found-row-requires-3
+found-row-requires-3 c κs = search needs
+
+found-row-requires-4 : tie.Need-found-row-requires-4
+found-row-requires-4 c κs = search needs
+
+found-row-requires-5 : tie.Need-found-row-requires-5
+found-row-requires-5 c κs = search needs
+
+found-row-requires-6 : tie.Need-found-row-requires-6
+found-row-requires-6 c κs = search needs
+
+found-row-requires-7 : tie.Need-found-row-requires-7
+found-row-requires-7 c κs = search needs
+
+found-row-requires-8 : tie.Need-found-row-requires-8
+found-row-requires-8 c κs = search needs
+
+returns : tie.Need-returns
+returns c v long = found-none (c .found-row .ensures) (accept-no _ _ _ _ _ (sym (plan-state _ _ _ _ _ (state-refused _ (c .before .before .is-bad-state .ensures _) (c .before .if1 .taken)))))
+
+is-restart-point-requires : tie.Need-is-restart-point-requires
+is-restart-point-requires c κs = let o = state-tells _ _ _ tt (state c) in ((o .some, o .few, o .allowed), o .counted)
+
+shared-bytes-requires : tie.Need-shared-bytes-requires
+shared-bytes-requires c κs = omega (arith, state-tells _ _ _ tt (state (c .before)) .last-fits, c .before .before .before .before .before .pre)
+
+entry-encoded-size-requires : tie.Need-entry-encoded-size-requires
+entry-encoded-size-requires c κs = share-fits _ _ _ (c .shared-bytes .ensures)
+
+enum-known-entry-size : tie.Need-enum-known-entry-size
+enum-known-entry-size c = search needs
+
+enum-told : tie.Need-enum-told
+enum-told c = search needs
+
+returns-2 : tie.Need-returns-2
+returns-2 c v long = found-none (c .found-row2 .ensures) (accept-no _ _ _ _ _ (sym (plan-unsized _ _ _ _ _ (measured (c .before .before .before) v long) (ap saysSized (c .before .enum-told .given .1)))))
+
+returns-3 : tie.Need-returns-3
+returns-3 c v long = found-none (c .found-row3 .ensures) (accept-no _ _ _ _ _ (sym (plan-past _ _ _ _ _ (measured (c .before .before .before .before .before .before) v long) (ap saysSized (c .before .before .before .before .entry-size .given .1)) (c .before .if2 .taken))))
+
+current-size-requires : tie.Need-current-size-requires
+current-size-requires c κs = (omega (arith, c .if2 .left, state-tells _ _ _ tt (state (c .before .before .before .before .before .before .before .before)) .block), state-tells _ _ _ tt (state (c .before .before .before .before .before .before .before .before)) .allowed)
+
+add-size : tie.Need-add-size
+add-size c = omega (arith, c .current-size .ensures .1, small (c .before .before .before .before .before .before) (ap saysSized (c .before .before .before .before .entry-size .given .1)))
+
+restart-overhead-requires : tie.Need-restart-overhead-requires
+restart-overhead-requires c κs = search needs
+
+add-size-2 : tie.Need-add-size-2
+add-size-2 c = omega (arith, c .before .current-size .ensures .1, c .restart-overhead .ensures .1, small (c .before .before .before .before .before .before .before) (ap saysSized (c .before .before .before .before .before .entry-size .given .1)))
+
+has-room-requires : tie.Need-has-room-requires
+has-room-requires c κs = search needs
+
+restart-too-far-requires : tie.Need-restart-too-far-requires
+restart-too-far-requires c κs = search needs
+
+returns-4 : tie.Need-returns-4
+returns-4 c v long =
+    let fit = plan-fits _ _ _ _ _ (measured (c .before .before .before .before .before .before .before .before .before .before .before .before) v long) (ap saysSized (c .before .before .before .before .before .before .before .before .before .before .entry-size .given .1)) (c .before .before .before .before .before .before .current-size .ensures .0) (c .before .before .before .before .before .restart-overhead .ensures .0) (c .before .before .before .before .has-room .ensures) (c .before .before .before .if3 .taken) in
+    found-none (c .found-row4 .ensures) (accept-far _ _ _ _ _ (sym fit) (sym (c .before .before .restart-too-far .ensures) ∙ c .before .if4 .taken))
+
+returns-5 : tie.Need-returns-5
+returns-5 c v long =
+    let fit = plan-fits _ _ _ _ _ (measured (c .before .before .before .before .before .before .before .before .before .before .before .before .before) v long) (ap saysSized (c .before .before .before .before .before .before .before .before .before .before .before .entry-size .given .1)) (c .before .before .before .before .before .before .before .current-size .ensures .0) (c .before .before .before .before .before .before .restart-overhead .ensures .0) (c .before .before .before .before .before .has-room .ensures) (c .before .before .before .before .if3 .taken) in
+    found-none (c .found-row5 .ensures) (accept-short _ _ _ _ _ (sym fit) (sym (c .before .before .before .restart-too-far .ensures) ∙ c .before .before .if4 .left) (c .before .if5 .taken))
+
+no-place-left-requires : tie.Need-no-place-left-requires
+no-place-left-requires c κs = search needs
+
+returns-6 : tie.Need-returns-6
+returns-6 c v long =
+    let fit = plan-fits _ _ _ _ _ (measured (c .before .before .before .before .before .before .before .before .before .before .before .before .before .before .before) v long) (ap saysSized (c .before .before .before .before .before .before .before .before .before .before .before .before .before .entry-size .given .1)) (c .before .before .before .before .before .before .before .before .before .current-size .ensures .0) (c .before .before .before .before .before .before .before .before .restart-overhead .ensures .0) (c .before .before .before .before .before .before .before .has-room .ensures) (c .before .before .before .before .before .before .if3 .taken) in
+    found-none (c .found-row6 .ensures) (accept-places _ _ _ _ _ (sym fit) (sym (c .before .before .before .before .before .restart-too-far .ensures) ∙ c .before .before .before .before .if4 .left) (c .before .before .before .if5 .left) (sym (c .before .before .no-place-left .ensures) ∙ c .before .if6 .taken))
+
+returns-7 : tie.Need-returns-7
+returns-7 c v long =
+    let fit = plan-fits _ _ _ _ _ (measured (c .before .before .before .before .before .before .before .before .before .before .before .before .before .before .before) v long) (ap saysSized (c .before .before .before .before .before .before .before .before .before .before .before .before .before .entry-size .given .1)) (c .before .before .before .before .before .before .before .before .before .current-size .ensures .0) (c .before .before .before .before .before .before .before .before .restart-overhead .ensures .0) (c .before .before .before .before .before .before .before .has-room .ensures) (c .before .before .before .before .before .before .if3 .taken) in
+    found-some (c .found-row7 .ensures) (omega (arith, c .before .before .before .before .before .before .before .before .before .current-size .ensures .0))
+    (accept-good _ _ _ _ _ (sym fit) (sym (c .before .before .before .before .before .restart-too-far .ensures) ∙ c .before .before .before .before .if4 .left) (c .before .before .before .if5 .left) (sym (c .before .before .no-place-left .ensures) ∙ c .before .if6 .left))
+
+returns-8 : tie.Need-returns-8
+returns-8 c v long =
+    found-none (c .found-row8 .ensures)
+    (accept-no _ _ _ _ _ (sym (plan-over _ _ _ _ _ (measured (c .before .before .before .before .before .before .before .before .before .before) v long) (ap saysSized (c .before .before .before .before .before .before .before .before .entry-size .given .1)) (c .before .before .before .before .current-size .ensures .0) (c .before .before .before .restart-overhead .ensures .0) (c .before .before .has-room .ensures) (c .before .if3 .left))))
+
+pub find-row-spec : {M : Type 1} → statement M
+find-row-spec =
+    tie.close
+    (tie.spec
+    is-bad-state-requires
+    found-row-requires
+    returns
+    is-restart-point-requires
+    shared-bytes-requires
+    entry-encoded-size-requires
+    enum-known-entry-size
+    enum-told
+    found-row-requires-2
+    returns-2
+    found-row-requires-3
+    returns-3
+    current-size-requires
+    add-size
+    restart-overhead-requires
+    add-size-2
+    has-room-requires
+    restart-too-far-requires
+    found-row-requires-4
+    returns-4
+    found-row-requires-5
+    returns-5
+    no-place-left-requires
+    found-row-requires-6
+    returns-6
+    found-row-requires-7
+    returns-7
+    found-row-requires-8
+    returns-8)

@@ -1,0 +1,138 @@
+-- `walk_down` keeps the promise of the walk down from region to region: what is left of it, from the region at hand, answers what the whole does.
+-- Each exit is a law over where the last row at or below the target ends in that region.
+use Prim.Native.Nat.{_<_}
+use mathlib.Core.List.{[]}
+use mathlib.Core.Path.{_≡_, refl, sym, _∙_}
+use native.Mathlib.Omega.{arith}
+use lib.Seq.{length-take-le}
+use borrow.Author.Needs.{needs}
+use Rattle.layout.specs.Answer.{ok}
+use Rattle.layout.specs.Seek.{lastAtOrBelow}
+use Rattle.layout.specs.Trailer.{dataOf, regionOf}
+use Rattle.layout.specs.Laws.Seek.{Falling, falling-start, falling-region, falling-no, falling-found, falling-done, falling-more}
+use Rattle.layout.specs.Laws.Trailer.{trailerOf-tells}
+use Rattle.basics.specs.Answers.{yes, no}
+use Rattle.basics.specs.declared.IterationOrder.the-variants.{Descending}
+use Rattle.trailer.specs.Says.{trailerFrom, regionFrom, saysRegion, refusalOfRegion}
+use Rattle.trailer.specs.Laws.{region-used}
+use Rattle.block_regions_v2.specs.Laws.{last-used}
+use Rattle.block_regions_v2.specs.Says.{saysLast}
+use Rattle.seek_in_place_v2.specs.Parts.{refusalOfLast}
+use Rattle.seek_in_place_v2.proofs.Walks.{walked-not, walked-to, walked-off}
+use Rattle.seek_in_place_v2.proofs.walk_down.Statement.{statement}
+use Rattle.seek_in_place_v2.proofs.walk_down.Tie as tie
+
+abbrev Inv-loop : tie.InvT-loop
+Inv-loop block t target start size number₀ number = Falling block (trailerFrom t) target (start .region) number × (number < t .count)
+
+abbrev μ-loop : tie.MeasureT-loop
+μ-loop block t target start size number₀ number = number
+
+module _ (k : tie.After-known-told Inv-loop μ-loop) where
+  region-read : let s = k .before .before .before .before .before .before .before .args in regionOf (s .block .now) (trailerFrom (s .t)) (k .before .before .before .before .loop .number) ≡ ok (regionFrom (k .before .read .given .0 .0))
+  region-read = sym (region-used _ _ (k .before .before .before .before .before .before .before .pre .read) _ (k .before .before .before .before .loop .inv .1)) ∙ yes saysRegion (k .before .before .before .region-of .ensures) (k .before .read .given .1)
+
+module _ (m : tie.After-known-told2 Inv-loop μ-loop) where
+  last-read : let k = m .before .before .before .before .before in let s = k .before .before .before .before .before .before .before .args in let g = k .before .read .given .0 .0 in
+      lastAtOrBelow (s .t .size) (dataOf (s .block .now) (trailerFrom (s .t))) (regionFrom g) (s .target .now) (g .start) [] (g .start) ≡ ok (m .before .last .given .0 .0)
+  last-read = let k = m .before .before .before .before .before in sym (last-used _ _ _ _ _ (k .before .before .before .before .before .before .before .pre .read) (region-read k)) ∙ yes saysLast (m .before .before .before .last-at-or-below .ensures) (m .before .last .given .1)
+
+loop-holds : tie.Need-loop-holds Inv-loop μ-loop
+loop-holds c = (falling-start _ _ _ _, c .before .before .pre .inside)
+
+region-of-requires : tie.Need-region-of-requires Inv-loop μ-loop
+region-of-requires c κs = search needs
+
+enum-known-read : tie.Need-enum-known-read Inv-loop μ-loop
+enum-known-read c = search needs
+
+enum-told : tie.Need-enum-told Inv-loop μ-loop
+enum-told c = search needs
+
+region-refusal-requires : tie.Need-region-refusal-requires Inv-loop μ-loop
+region-refusal-requires c κs = search needs
+
+returns : tie.Need-returns Inv-loop μ-loop
+returns c =
+    let s = c .before .before .before .before .before .before .before in
+    λ p key. walked-not _ _ p key
+    (falling-region _ _ _ _ _ (c .before .before .before .before .loop .inv .0)
+    (sym (region-used _ _ (s .pre .read) _ (c .before .before .before .before .loop .inv .1)) ∙ no saysRegion refusalOfRegion (c .before .before .before .region-of .ensures) (c .before .enum-told .given .1) refl (c .region-refusal .ensures))) refl
+
+slice-aggregate-last-at-or-below : tie.Need-slice-aggregate-last-at-or-below Inv-loop μ-loop
+slice-aggregate-last-at-or-below c = let s = c .before .before .before .before .before .before .before .before in sym (length-take-le _ _ (omega (arith, trailerOf-tells _ _ (s .pre .read) .0)))
+
+last-at-or-below-requires : tie.Need-last-at-or-below-requires Inv-loop μ-loop
+last-at-or-below-requires c κs = search needs
+
+enum-known-last : tie.Need-enum-known-last Inv-loop μ-loop
+enum-known-last c = search needs
+
+enum-told-2 : tie.Need-enum-told-2 Inv-loop μ-loop
+enum-told-2 c = search needs
+
+last-refusal-requires : tie.Need-last-refusal-requires Inv-loop μ-loop
+last-refusal-requires c κs = search needs
+
+returns-2 : tie.Need-returns-2 Inv-loop μ-loop
+returns-2 c =
+    let k = c .before .before .before .before .before in
+    λ p key. walked-not _ _ p key
+    (falling-no _ _ _ _ _ (k .before .before .before .before .loop .inv .0) _ (region-read k)
+    (sym (last-used _ _ _ _ _ (k .before .before .before .before .before .before .before .pre .read) (region-read k)) ∙ no saysLast refusalOfLast (c .before .before .before .last-at-or-below .ensures) (c .before .enum-told2 .given .1) refl (c .last-refusal .ensures))) refl
+
+landed-requires : tie.Need-landed-requires Inv-loop μ-loop
+landed-requires c κs = search needs
+
+returns-3 : tie.Need-returns-3 Inv-loop μ-loop
+returns-3 c =
+    let m = c .before .before .before in
+    let k = m .before .before .before .before .before in
+    λ p key. walked-to _ _ p key Descending _ _ (falling-found _ _ _ _ _ (k .before .before .before .before .loop .inv .0) _ (region-read k) _ (last-read m) (c .before .if1 .taken)) (c .landed .ensures)
+
+over-requires : tie.Need-over-requires Inv-loop μ-loop
+over-requires c κs = search needs
+
+returns-4 : tie.Need-returns-4 Inv-loop μ-loop
+returns-4 c =
+    let m = c .before .before .before .before in
+    let k = m .before .before .before .before .before in
+    λ p key. walked-off _ _ p key Descending _ _ (falling-done _ _ _ _ _ (k .before .before .before .before .loop .inv .0) _ (region-read k) _ (last-read m) (c .before .before .if1 .left) (c .before .if2 .taken)) (c .over .ensures)
+
+sub-number : tie.Need-sub-number Inv-loop μ-loop
+sub-number c = search needs
+
+loop-less : tie.Need-loop-less Inv-loop μ-loop
+loop-less c = search needs
+
+loop-again : tie.Need-loop-again Inv-loop μ-loop
+loop-again c =
+    let m = c .before .before .before in
+    let k = m .before .before .before .before .before in
+    (falling-more _ _ _ _ _ (k .before .before .before .before .loop .inv .0) _ (region-read k) _ (last-read m) (c .before .if1 .left) (c .if2 .left), omega (arith, k .before .before .before .before .loop .inv .1))
+
+pub walk-down-spec : {M : Type 1} → statement M
+walk-down-spec =
+    tie.close
+    (tie.spec
+    Inv-loop
+    μ-loop
+    loop-holds
+    region-of-requires
+    enum-known-read
+    enum-told
+    region-refusal-requires
+    returns
+    slice-aggregate-last-at-or-below
+    last-at-or-below-requires
+    enum-known-last
+    enum-told-2
+    last-refusal-requires
+    returns-2
+    landed-requires
+    returns-3
+    over-requires
+    returns-4
+    sub-number
+    loop-less
+    loop-again)

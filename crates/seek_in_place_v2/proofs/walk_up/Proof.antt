@@ -1,0 +1,165 @@
+use Prim.Native.Nat.{_-_}
+use mathlib.Core.Path.{_≡_, refl, ap, sym, _∙_}
+use native.Mathlib.Omega.{arith}
+use lib.ListN.{length}
+use lib.Seq.{length-take-le}
+use borrow.Author.Needs.{needs}
+use Rattle.layout.specs.Answer.{ok}
+use Rattle.layout.specs.Key.{Key}
+use Rattle.layout.specs.Place.{splice}
+use Rattle.layout.specs.Trailer.{regionOf}
+use Rattle.layout.specs.Laws.Seek.{Climbing, climbing-start, climbing-over, climbing-region, climbing-no, climbing-found, climbing-more}
+use Rattle.layout.specs.Laws.Trailer.{trailerOf-tells}
+use Rattle.basics.specs.Answers.{yes, no}
+use Rattle.basics.specs.declared.IterationOrder.the-variants.{Ascending}
+use Rattle.trailer.specs.Says.{trailerFrom, regionFrom, saysRegion, refusalOfRegion}
+use Rattle.trailer.specs.Laws.{region-used}
+use Rattle.block_regions_v2.specs.Laws.{into-refused}
+use Rattle.block_regions_v2.specs.Says.{saysPlace}
+use Rattle.seek_in_place_v2.specs.Parts.{refusalOfPlace}
+use Rattle.seek_in_place_v2.proofs.Walks.{walked-not, walked-off, walked-up, stopped}
+use Rattle.seek_in_place_v2.proofs.walk_up.Statement.{statement}
+use Rattle.seek_in_place_v2.proofs.walk_up.Tie as tie
+
+-- `walk_up` keeps the promise of the walk up from region to region: what is left of it, from the region at hand, answers what the whole does, and the key's bytes are those that came.
+-- Each exit is a law over the walk of that region.
+
+abbrev Inv-loop : tie.InvT-loop
+Inv-loop key₀ block t target start size number₀ key number = Climbing block (trailerFrom t) target (start .region) number × (key ≡ key₀)
+
+abbrev μ-loop : tie.MeasureT-loop
+μ-loop key₀ block t target start size number₀ key number = t .count - number
+
+module _ (k : tie.After-known-told Inv-loop μ-loop) where
+  region-read : let s = k .before .before .before .before .before .before .before .before .before .before .args in regionOf (s .block .now) (trailerFrom (s .t)) (k .before .before .before .before .before .before .loop .number) ≡ ok (regionFrom (k .before .read .given .0 .0))
+  region-read = sym (region-used _ _ (k .before .before .before .before .before .before .before .before .before .before .pre .1 .read) _ (k .before .before .before .before .if1 .taken)) ∙ yes saysRegion (k .before .before .before .region-of .ensures) (k .before .read .given .1)
+
+  whole : length (k .before .before .before .before .before .before .loop .key) ≡ 1024
+  whole = ap length (k .before .before .before .before .before .before .loop .inv .1) ∙ k .before .before .before .before .before .before .before .before .before .before .pre .0
+
+loop-holds : tie.Need-loop-holds Inv-loop μ-loop
+loop-holds c = (climbing-start _ _ _ _, refl)
+
+region-of-requires : tie.Need-region-of-requires Inv-loop μ-loop
+region-of-requires c κs = search needs
+
+enum-known-read : tie.Need-enum-known-read Inv-loop μ-loop
+enum-known-read c = search needs
+
+enum-told : tie.Need-enum-told Inv-loop μ-loop
+enum-told c = search needs
+
+region-refusal-requires : tie.Need-region-refusal-requires Inv-loop μ-loop
+region-refusal-requires c κs = search needs
+
+same-length : tie.Need-same-length Inv-loop μ-loop
+same-length c = search needs
+
+returns : tie.Need-returns Inv-loop μ-loop
+returns c =
+    let s = c .before .before .before .before .before .before .before .before .before .before in
+    λ p. walked-not _ _ p _
+    (climbing-region _ _ _ _ _ (c .before .before .before .before .before .before .loop .inv .0) (omega (arith, s .pre .1 .inside)) (c .before .before .before .before .if1 .taken)
+    (sym (region-used _ _ (s .pre .1 .read) _ (c .before .before .before .before .if1 .taken)) ∙ no saysRegion refusalOfRegion (c .before .before .before .region-of .ensures) (c .before .enum-told .given .1) refl (c .region-refusal .ensures)))
+    (c .before .before .before .before .before .before .loop .inv .1)
+
+slice-aggregate-walk-into : tie.Need-slice-aggregate-walk-into Inv-loop μ-loop
+slice-aggregate-walk-into c = let s = c .before .before .before .before .before .before .before .before .before .before .before in sym (length-take-le _ _ (omega (arith, trailerOf-tells _ _ (s .pre .1 .read) .0)))
+
+walk-into-requires : tie.Need-walk-into-requires Inv-loop μ-loop
+walk-into-requires c κs = search needs
+
+enum-known-stop : tie.Need-enum-known-stop Inv-loop μ-loop
+enum-known-stop c = search needs
+
+enum-told-2 : tie.Need-enum-told-2 Inv-loop μ-loop
+enum-told-2 c = search needs
+
+place-refusal-requires : tie.Need-place-refusal-requires Inv-loop μ-loop
+place-refusal-requires c κs = search needs
+
+same-length-2 : tie.Need-same-length-2 Inv-loop μ-loop
+same-length-2 c = let h = ap length (c .before .before .before .before .before .before .before .before .before .before .before .before .before .before .loop .inv .1) in search needs
+
+returns-2 : tie.Need-returns-2 Inv-loop μ-loop
+returns-2 c =
+    let k = c .before .before .before .before .before .before .before .before in
+    let s = k .before .before .before .before .before .before .before .before .before .before in
+    let said = into-refused _ _ _ _ _ (s .pre .1 .read) (region-read k) _ (whole k) _ _ (c .before .before .before .before .before .walk-into .ensures) (no saysPlace refusalOfPlace refl (c .before .enum-told2 .given .1) refl (c .place-refusal .ensures)) in
+    λ p. walked-not _ _ p _
+    (climbing-no _ _ _ _ _ (k .before .before .before .before .before .before .loop .inv .0) (omega (arith, s .pre .1 .inside)) (k .before .before .before .before .if1 .taken) _ (region-read k) (said .0)) (said .1 ∙ k .before .before .before .before .before .before .loop .inv .1)
+
+landed-requires : tie.Need-landed-requires Inv-loop μ-loop
+landed-requires c κs = search needs
+
+same-length-3 : tie.Need-same-length-3 Inv-loop μ-loop
+same-length-3 c = let h = ap length (c .before .before .before .before .before .before .before .before .before .before .before .before .before .before .before .before .before .loop .inv .1) in search needs
+
+returns-3 : tie.Need-returns-3 Inv-loop μ-loop
+returns-3 c =
+    let m = c .before .before .before in
+    let k = m .before .before .before .before .before .before .before .before in
+    let s = k .before .before .before .before .before .before .before .before .before .before in
+    let st = stopped _ _ _ _ _ (s .pre .1 .read) (region-read k) _ (whole k) _ _ (m .before .before .before .before .before .walk-into .ensures) (m .before .stop .given .1) in
+    λ p. walked-up _ _ p _ _ _ _ (st .before)
+    (climbing-found _ _ _ _ _ (k .before .before .before .before .before .before .loop .inv .0) (omega (arith, s .pre .1 .inside)) (k .before .before .before .before .if1 .taken) _ (region-read k) _ (st .walked) (c .before .if2 .taken))
+    (st .long) (st .inner (c .before .if2 .taken) ∙ ap (λ (b : Key). splice b 0 (st .before)) (k .before .before .before .before .before .before .loop .inv .1)) (c .landed .ensures)
+
+add-number : tie.Need-add-number Inv-loop μ-loop
+add-number c = search needs
+
+loop-less : tie.Need-loop-less Inv-loop μ-loop
+loop-less c = omega arith
+
+loop-again : tie.Need-loop-again Inv-loop μ-loop
+loop-again c =
+    let m = c .before .before in
+    let k = m .before .before .before .before .before .before .before .before in
+    let s = k .before .before .before .before .before .before .before .before .before .before in
+    let st = stopped _ _ _ _ _ (s .pre .1 .read) (region-read k) _ (whole k) _ _ (m .before .before .before .before .before .walk-into .ensures) (m .before .stop .given .1) in
+    (climbing-more _ _ _ _ _ (k .before .before .before .before .before .before .loop .inv .0) (omega (arith, s .pre .1 .inside)) (k .before .before .before .before .if1 .taken) _ (region-read k) _ (st .walked) (c .if2 .left), st .outer (c .if2 .left) ∙ k .before .before .before .before .before .before .loop .inv .1)
+
+sub-over : tie.Need-sub-over Inv-loop μ-loop
+sub-over c = omega (arith, trailerOf-tells _ _ (c .before .before .before .before .before .before .before .pre .1 .read) .1)
+
+over-requires : tie.Need-over-requires Inv-loop μ-loop
+over-requires c κs = search needs
+
+same-length-4 : tie.Need-same-length-4 Inv-loop μ-loop
+same-length-4 c = search needs
+
+returns-4 : tie.Need-returns-4 Inv-loop μ-loop
+returns-4 c =
+    let s = c .before .before .before .before .before .before .before .before in
+    λ p. walked-off _ _ p _ Ascending _ _ (climbing-over _ _ _ _ _ (c .before .before .before .before .loop .inv .0) (omega (arith, s .pre .1 .inside)) (c .before .before .if1 .left)) (c .over .ensures)
+
+pub walk-up-spec : {M : Type 1} → statement M
+walk-up-spec =
+    tie.close
+    (tie.spec
+    Inv-loop
+    μ-loop
+    loop-holds
+    region-of-requires
+    enum-known-read
+    enum-told
+    region-refusal-requires
+    same-length
+    returns
+    slice-aggregate-walk-into
+    walk-into-requires
+    enum-known-stop
+    enum-told-2
+    place-refusal-requires
+    same-length-2
+    returns-2
+    landed-requires
+    same-length-3
+    returns-3
+    add-number
+    loop-less
+    loop-again
+    sub-over
+    over-requires
+    same-length-4
+    returns-4)

@@ -1,0 +1,53 @@
+-- `next_descending` keeps the promise of a step down: what `look_behind` answers is what the definition does, and in a region the step goes back.
+-- Each arm turns that answer into the step that is wanted.
+use Rattle.step_in_place_v2.proofs.Laws.{before-in, behind-said, moves-not, moves-done, moves-as}
+use borrow.Author.Needs.{needs}
+use Rattle.step_in_place_v2.proofs.next_descending.Statement.{statement}
+use Rattle.step_in_place_v2.proofs.next_descending.Tie as tie
+
+look-behind-requires : tie.Need-look-behind-requires
+look-behind-requires c κs = search needs
+
+enum-known-behind : tie.Need-enum-known-behind
+enum-known-behind c = search needs
+
+back-requires : tie.Need-back-requires
+back-requires c κs =
+    let l = c .before .before .before .before in
+    (l .before .before .before .pre .read, before-in _ (l .look-behind .ensures .before) (c .before .before .behind .given .1))
+
+enum-told : tie.Need-enum-told
+enum-told c = search needs
+
+finished-requires : tie.Need-finished-requires
+finished-requires c κs = search needs
+
+enum-known-behind-2 : tie.Need-enum-known-behind-2
+enum-known-behind-2 c = search needs
+
+same-length : tie.Need-same-length
+same-length c = search needs
+
+returns : tie.Need-returns
+returns c = λ key. moves-as _ _ _ _ (behind-said _ _ _ _ _ (c .before .before .before .before .before .before .before .look-behind .ensures) (c .before .before .before .before .before .behind .given .1)) (c .before .before .back .ensures key)
+
+returns-2 : tie.Need-returns-2
+returns-2 c = λ key. moves-done _ _ _ _ (behind-said _ _ _ _ _ (c .before .before .before .look-behind .ensures) (c .before .enum-told .given .1)) (c .finished .ensures)
+
+returns-3 : tie.Need-returns-3
+returns-3 c = λ key. moves-not _ _ _ _ (behind-said _ _ _ _ _ (c .before .before .before .look-behind .ensures) (c .before .behind2 .given .1))
+
+pub next-descending-spec : {M : Type 1} → statement M
+next-descending-spec =
+    tie.close
+    (tie.spec
+    look-behind-requires
+    enum-known-behind
+    back-requires
+    enum-told
+    finished-requires
+    enum-known-behind-2
+    same-length
+    returns
+    returns-2
+    returns-3)

@@ -1,0 +1,43 @@
+-- What each public function promises: equations to the definitions, that settle each number answered.
+use Prim.Native.Nat.{ℕ}
+use mathlib.Core.Path.{_≡_}
+use mathlib.Core.Bool.{Bool}
+use mathlib.Core.List.{List}
+use Rattle.layout.specs.Trailer.{trailerOf}
+use Rattle.basics.specs.declared.Refusal.{Refusal}
+use Rattle.trailer.specs.declared.Trailer.{Trailer}
+use Rattle.trailer.specs.declared.TrailerRead.{TrailerRead}
+use Rattle.trailer.specs.declared.Region.{Region}
+use Rattle.trailer.specs.declared.RegionRead.{RegionRead}
+use Rattle.trailer.specs.declared.Tested.{Tested}
+use Rattle.trailer.specs.Handed.{belongs, regionAt, offsetsAt}
+use Rattle.trailer.specs.Plain.{trailerOr, regionOr, regionBy}
+use Rattle.trailer.specs.Says.{trailerFrom, saysTrailer, regionFrom, saysRegion, saysTested, refusalOfTrailer, refusalOfRegion}
+
+abbrev pub PlainTrailer : List ℕ → Trailer → Type 0
+PlainTrailer b t = trailerFrom t ≡ trailerOr (trailerOf b)
+
+abbrev pub ReadsTrailer : List ℕ → TrailerRead → Type 0
+ReadsTrailer b a = saysTrailer a ≡ trailerOf b
+
+-- whether the numbers are those of a block of `len` bytes
+abbrev pub TestsTrailer : Trailer → ℕ → Bool → Type 0
+TestsTrailer t len r = r ≡ belongs len (trailerFrom t)
+
+abbrev pub TrailerRefusal : TrailerRead → Refusal → Type 0
+TrailerRefusal a r = r ≡ refusalOfTrailer a
+
+abbrev pub PlainRegion : List ℕ → Trailer → ℕ → Region → Type 0
+PlainRegion b t r g = regionFrom g ≡ regionOr (regionAt b (trailerFrom t) r)
+
+abbrev pub PlainRegionAt : List ℕ → ℕ → Region → Type 0
+PlainRegionAt b r g = regionFrom g ≡ regionOr (regionBy b r)
+
+abbrev pub ReadsRegion : List ℕ → Trailer → ℕ → RegionRead → Type 0
+ReadsRegion b t r a = saysRegion a ≡ regionAt b (trailerFrom t) r
+
+abbrev pub RegionRefusal : RegionRead → Refusal → Type 0
+RegionRefusal a r = r ≡ refusalOfRegion a
+
+abbrev pub TestsOffsets : List ℕ → Trailer → Tested → Type 0
+TestsOffsets b t a = saysTested a ≡ offsetsAt b (trailerFrom t)

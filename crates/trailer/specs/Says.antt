@@ -1,0 +1,71 @@
+-- What each case of an answer says: the values, or the number of the refusal. No two cases say the same.
+use mathlib.Core.Path.{_≡_, refl, ap, sym}
+use Rattle.layout.specs.Answer.{Res, ok, refuse}
+use Rattle.layout.specs.Trailer.{Trailer as TrailerL, trailerIs, Region as RegionL, regionIs}
+use Rattle.layout.specs.Laws.Answer.{ok-inj}
+use Rattle.basics.specs.Answers.{apart, refused-one}
+use Rattle.basics.specs.Number.{number}
+use Rattle.basics.specs.declared.Refusal.{Refusal}
+use Rattle.basics.specs.declared.Refusal.the-variants.{BadTrailer}
+use Rattle.trailer.specs.declared.Trailer.{Trailer}
+use Rattle.trailer.specs.declared.TrailerRead.{TrailerRead}
+use Rattle.trailer.specs.declared.TrailerRead.the-variants.{Good as GoodTrailer, Refused as TrailerRefused}
+use Rattle.trailer.specs.declared.Region.{Region}
+use Rattle.trailer.specs.declared.RegionRead.{RegionRead}
+use Rattle.trailer.specs.declared.RegionRead.the-variants.{Good as GoodRegion, Refused as RegionRefused}
+use Rattle.trailer.specs.declared.Tested.{Tested}
+use Rattle.trailer.specs.declared.Tested.the-variants.{Good as GoodOffsets, Refused as OffsetsRefused}
+
+abbrev pub trailerFrom : Trailer → TrailerL
+trailerFrom t = trailerIs (t .count) (t .size)
+
+abbrev pub saysTrailer : TrailerRead → Res TrailerL
+saysTrailer (GoodTrailer t) = ok (trailerFrom t)
+saysTrailer (TrailerRefused r) = refuse (number r)
+
+abbrev pub regionFrom : Region → RegionL
+regionFrom g = regionIs (g .start) (g .end) (g .reach)
+
+abbrev pub saysRegion : RegionRead → Res RegionL
+saysRegion (GoodRegion g) = ok (regionFrom g)
+saysRegion (RegionRefused r) = refuse (number r)
+
+abbrev pub saysTested : Tested → Res (Unit {0})
+saysTested GoodOffsets = ok tt
+saysTested (OffsetsRefused r) = refuse (number r)
+
+-- ---- the refusal that is taken out of an answer; the other case is never asked
+
+abbrev pub refusalOfTrailer : TrailerRead → Refusal
+refusalOfTrailer (GoodTrailer t) = BadTrailer
+refusalOfTrailer (TrailerRefused r) = r
+
+abbrev pub refusalOfRegion : RegionRead → Refusal
+refusalOfRegion (GoodRegion g) = BadTrailer
+refusalOfRegion (RegionRefused r) = r
+
+-- ---- one to one
+
+pub trailerFrom-one : (t u : Trailer) → trailerFrom t ≡ trailerFrom u → t ≡ u
+trailerFrom-one t u e = ap (λ (x : TrailerL). record { count = x .count; size = x .size }) e
+
+pub regionFrom-one : (g h : Region) → regionFrom g ≡ regionFrom h → g ≡ h
+regionFrom-one g h e = ap (λ (x : RegionL). record { start = x .start; end = x .end; reach = x .reach }) e
+
+pub saysTrailer-one : (a b : TrailerRead) → saysTrailer a ≡ saysTrailer b → a ≡ b
+saysTrailer-one (GoodTrailer t) (GoodTrailer u) e = ap GoodTrailer (trailerFrom-one t u (ok-inj e))
+saysTrailer-one (GoodTrailer t) (TrailerRefused r) e = absurd (apart e)
+saysTrailer-one (TrailerRefused r) (GoodTrailer t) e = absurd (apart (sym e))
+saysTrailer-one (TrailerRefused r) (TrailerRefused q) e = ap TrailerRefused (refused-one e)
+
+pub saysRegion-one : (a b : RegionRead) → saysRegion a ≡ saysRegion b → a ≡ b
+saysRegion-one (GoodRegion g) (GoodRegion h) e = ap GoodRegion (regionFrom-one g h (ok-inj e))
+saysRegion-one (GoodRegion g) (RegionRefused r) e = absurd (apart e)
+saysRegion-one (RegionRefused r) (GoodRegion g) e = absurd (apart (sym e))
+saysRegion-one (RegionRefused r) (RegionRefused q) e = ap RegionRefused (refused-one e)
+
+pub saysTested-one : (a b : Tested) → saysTested a ≡ saysTested b → a ≡ b
+saysTested-one GoodOffsets GoodOffsets e = refl
+saysTested-one GoodOffsets (OffsetsRefused r) e = absurd (apart e)
+saysTested-one (OffsetsRefused r) GoodOffsets e = absurd (apart (sym e))
+saysTested-one (OffsetsRefused r) (OffsetsRefused q) e = ap OffsetsRefused (refused-one e)

@@ -1,8 +1,0 @@
--- What each public function promises.
-use Prim.Native.Nat.{ℕ}
-use mathlib.Core.Path.{_≡_}
-use Rattle.types.specs.declared.Refusal.{Refusal}
-use Rattle.types.specs.Number.{number}
-
-abbrev pub Numbered : Refusal → ℕ → Type 0
-Numbered r n = n ≡ number r
