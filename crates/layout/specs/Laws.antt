@@ -14,8 +14,6 @@ pub mod RowExits
 pub mod Plain
 pub mod RowWrite
 pub mod Single
-pub mod Local
-pub mod First
 pub mod Search
 pub mod Block
 pub mod Trailer
@@ -29,15 +27,5 @@ pub mod Cursor
 pub mod PlainStep
 pub mod Seek
 pub mod MatchWalk
-pub mod Refusals
-pub mod Given
 pub mod Restart
-pub mod Reads
-pub mod Ascend
-pub mod Descend
-pub mod Accept
-pub mod Sorted
-pub mod Split
-pub mod LandsUp
-pub mod LandsDown
-pub mod Laid
+pub mod Kept

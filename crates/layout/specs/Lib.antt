@@ -13,7 +13,5 @@ pub mod Builder
 pub mod Check
 pub mod Cursor
 pub mod Seek
-pub mod Reads
 pub mod Cases
-pub mod Demands
 pub mod Laws

@@ -11,10 +11,10 @@ use Rattle.layout.specs.RowRead.{RowRead}
 use Rattle.layout.specs.Trailer.{Trailer}
 use Rattle.layout.specs.Check.{check}
 use Rattle.layout.specs.Cursor.{ascending, Cursor, opened, cursorOr, openBlock, Keyed, found, stepIs, next}
-use Rattle.layout.specs.Demands.Runs.{Walks, stands, gives}
-use Rattle.layout.specs.Demands.Rows.{Rows, Walked}
-use Rattle.layout.specs.Demands.Proof2.{rows-room}
-use Rattle.layout.specs.Demands.Demand2.{has-rows, walk-steps}
+use Rattle.demands.specs.Runs.{Walks, stands, gives}
+use Rattle.demands.specs.Rows.{Rows, Walked}
+use Rattle.demands.specs.Proof2.{rows-room}
+use Rattle.demands.specs.Demand2.{has-rows, walk-steps}
 use Rattle.layout.specs.Laws.Answer.{ok-inj}
 use Rattle.basics.specs.Answers.{apart, yes}
 use Rattle.basics.specs.Number.{number}

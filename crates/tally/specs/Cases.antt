@@ -12,7 +12,7 @@ use Rattle.layout.specs.Row.{keyLengthTests}
 use Rattle.layout.specs.RowRead.{lengthsAt, headAt, flagsAt, bodyAt, timeAt, timesAt, rowAt, readRow}
 use Rattle.layout.specs.Trailer.{shortAt, trailerOf, risingFrom, allOffsets, regionOf}
 use Rattle.layout.specs.Check.{checkRow, checkFrom, check}
-use Rattle.layout.specs.Reads.{regionRows, regionsRows, allRows}
+use Rattle.demands.specs.Reads.{regionRows, regionsRows, allRows}
 use Rattle.tally.specs.Tally.{tallyIs, zeroTally, largest, countedRows, tallyBlock}
 
 abbrev case-2 : List ℕ

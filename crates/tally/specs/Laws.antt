@@ -17,11 +17,11 @@ use Rattle.layout.specs.RowRead.{RowRead, Held, holds, gone, merges, heldAs, Le
 use Rattle.layout.specs.Trailer.{Trailer, trailerOf, dataOf, offsetAt, Region, regionOf, allOffsets}
 use Rattle.layout.specs.Check.{check}
 use Rattle.layout.specs.Cursor.{Keyed}
-use Rattle.layout.specs.Reads.{regionRows, regionsRows, allRows}
-use Rattle.layout.specs.Demands.Rows.{Rows}
-use Rattle.layout.specs.Demands.Demand2.{has-rows}
+use Rattle.demands.specs.Reads.{regionRows, regionsRows, allRows}
+use Rattle.demands.specs.Rows.{Rows}
+use Rattle.demands.specs.Demand2.{has-rows}
 use Rattle.layout.specs.Laws.Answer.{bind-then, guard-then, ok-inj}
-use Rattle.layout.specs.Laws.Reads.{RegionIs, over, more, region-is, RegionsAre, next, regions-are, regions-none, allRows-none, allRows-next}
+use Rattle.demands.specs.Laws.Reads.{RegionIs, over, more, region-is, RegionsAre, next, regions-are, regions-none, allRows-none, allRows-next}
 use Rattle.layout.specs.Laws.Tells.{headAt-tells, bodyAt-tells, timesAt-ends, RowTells, rowAt-tells, readRow-ends}
 use Rattle.layout.specs.Laws.Trailer.{regionOf-tells, trailerOf-tells}
 use Rattle.tally.specs.declared.Tally.{Tally}

@@ -5,7 +5,7 @@ use Rattle.layout.specs.Answer.{Res, ok, bind}
 use Rattle.layout.specs.RowRead.{Held, holds, gone, merges}
 use Rattle.layout.specs.Trailer.{trailerOf, allOffsets}
 use Rattle.layout.specs.Cursor.{Keyed}
-use Rattle.layout.specs.Reads.{regionsRows, allRows}
+use Rattle.demands.specs.Reads.{regionsRows, allRows}
 use Rattle.layout.specs.Check.{check}
 use Rattle.tally.specs.declared.Tally.{Tally}
 

@@ -2,21 +2,22 @@
 -- here: a refused call changes neither cursor, builder nor lent memory; and bytes that tell nothing tell nothing: two cursors, or two builders, whose arrays differ only past the end of
 -- the key that they carry, and two lent key buffers of equal length, give equal answers, equal cursors or builders, and equal bytes.
 use Prim.Native.Nat.{ℕ, _+_, _≤_}
-use mathlib.Core.Path.{_≡_, refl}
+use mathlib.Core.Path.{_≡_, refl, ap}
 use mathlib.Core.Bool.{Bool}
 use mathlib.Core.List.{List}
 use native.Mathlib.Nat.{zero-add}
 use native.Mathlib.Omega.{arith}
 use lib.ListN.{length, take, drop}
 use Rattle.layout.specs.Answer.{ok, refuse}
 use Rattle.layout.specs.Key.{Key}
 use Rattle.layout.specs.Row.{Fields, encodeRow, written, restoreKey}
 use Rattle.layout.specs.RowRead.{RowRead}
 use Rattle.layout.specs.Builder.{Builder, keptBuilder, wouldFit, add, stateAfter, dataAfter, placesAfter, build, blockAfter}
 use Rattle.layout.specs.Cursor.{Direction, Cursor, keptCursor, found, stepIs, next, cursorAfter, keyAfter, isEmpty}
 use Rattle.layout.specs.Seek.{seek, soughtAfter}
+use Rattle.layout.specs.Laws.Kept.{kept-cursor, kept-builder}
 use Rattle.layout.specs.Laws.Splice.{take-past-splice, drop-past-splice}
-use Rattle.layout.specs.Laws.Given.{next-within}
+use Rattle.demands.specs.Laws.Given.{next-within}
 
 -- ---- a refused call changes nothing
 
@@ -52,17 +53,20 @@ module _ (d : Direction) (region at keyLen : ℕ) (mark : Bool) (array₁ array�
   abbrev c₂ : Cursor
   c₂ = keptCursor d region at keyLen array₂ mark
 
+  one : c₁ ≡ c₂
+  one = kept-cursor d region at keyLen array₁ array₂ mark agree
+
   -- the answer of a step holds the row's places and fields and the key bytes given; so equal answers give equal key bytes
   pub stale-bytes-tell-nothing : (out₁ out₂ : List ℕ) → length out₁ ≡ length out₂
       → (next c₁ b (length out₁) ≡ next c₂ b (length out₂)) × (cursorAfter (next c₁ b (length out₁)) c₁ ≡ cursorAfter (next c₂ b (length out₂)) c₂)
-  stale-bytes-tell-nothing out₁ out₂ equal = rw (agree, equal) (refl, refl)
+  stale-bytes-tell-nothing out₁ out₂ equal = rw (one, equal) (refl, refl)
 
   pub stale-bytes-empty : isEmpty c₁ b ≡ isEmpty c₂ b
-  stale-bytes-empty = rw agree
+  stale-bytes-empty = ap (λ (c : Cursor). isEmpty c b) one
 
   -- a seek takes only the direction; one that is refused gives back the cursor that came, which carries the same
   pub stale-bytes-seek : (target : Key) → soughtAfter (seek (c₁ .direction) b target) c₁ ≡ soughtAfter (seek (c₂ .direction) b target) c₂
-  stale-bytes-seek target = rw agree
+  stale-bytes-seek target = ap (λ (c : Cursor). soughtAfter (seek (c .direction) b target) c) one
 
 -- the key bytes that a step gives stand at the start of the lent buffer, whatever it held; its other bytes stay
 pub given-bytes : (c : Cursor) (b out : List ℕ) (moved : Cursor) (r : RowRead) (key : Key) → length (c .key) ≡ c .keyLen → next c b (length out) ≡ ok (stepIs moved (found r key))
@@ -82,13 +86,16 @@ module _ (size interval used restarts rows lastLen : ℕ) (array₁ array₂ : L
   abbrev b₂ : Builder
   b₂ = keptBuilder size interval used restarts rows lastLen array₂
 
+  one-builder : b₁ ≡ b₂
+  one-builder = kept-builder size interval used restarts rows lastLen array₁ array₂ agree
+
   pub stale-bytes-fit : (key : Key) (f : Fields) → wouldFit b₁ (length bytes) (length places) key f ≡ wouldFit b₂ (length bytes) (length places) key f
-  stale-bytes-fit key f = rw agree
+  stale-bytes-fit key f = ap (λ (x : Builder). wouldFit x (length bytes) (length places) key f) one-builder
 
   pub stale-bytes-add : (key : Key) (f : Fields) → let x = add b₁ (length bytes) (length places) key f in let y = add b₂ (length bytes) (length places) key f in
       (x ≡ y) × (stateAfter x b₁ ≡ stateAfter y b₂) × (dataAfter x b₁ key f bytes ≡ dataAfter y b₂ key f bytes) × (placesAfter x b₁ places ≡ placesAfter y b₂ places)
-  stale-bytes-add key f = rw agree (refl, refl, refl, refl)
+  stale-bytes-add key f = rw one-builder (refl, refl, refl, refl)
 
   pub stale-bytes-build : let x = build b₁ (length bytes) (length places) in let y = build b₂ (length bytes) (length places) in
       (x ≡ y) × (blockAfter x b₁ bytes places ≡ blockAfter y b₂ bytes places)
-  stale-bytes-build = rw agree (refl, refl)
+  stale-bytes-build = rw one-builder (refl, refl)

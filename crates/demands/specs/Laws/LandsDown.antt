@@ -11,23 +11,23 @@ use lib.Dec.{eqb}
 use lib.ListN.{length, take, drop, take-append-drop}
 use lib.Seq.{take-add, take-at, drop-at, take-append-le, take-nil}
 use borrow.Author.Tests.{lt-ltb, le-ltb}
 use Rattle.layout.specs.Answer.{Res, ok}
 use Rattle.layout.specs.Key.{Key, below, same, leading, notAbove}
 use Rattle.layout.specs.RowRead.{RowRead, readRow, keyOf}
 use Rattle.layout.specs.Trailer.{Trailer, trailerOf, dataOf, Region, regionOf}
 use Rattle.layout.specs.Cursor.{descending, Cursor, cursorIs, Keyed, keyed}
 use Rattle.layout.specs.Seek.{Found, restartKey, restartBelow, lastEqual, startDown, lastAtOrBelow, doneDown, walkDown, soughtIs, seek}
-use Rattle.layout.specs.Reads.{regionRows, regionsRows, Reads, allRows, NeverFall, keysOf}
+use Rattle.demands.specs.Reads.{regionRows, regionsRows, Reads, allRows, NeverFall, keysOf}
 use Rattle.layout.specs.Laws.Answer.{bool-cases, ltb-cases, ok-inj, clash}
 use Rattle.layout.specs.Laws.Key.{AtMost, at-most-refl, below-false, le-below, below-le, same-is}
 use Rattle.layout.specs.Laws.Trailer.{RegionTells, regionOf-tells, trailerOf-tells}
 use Rattle.layout.specs.Laws.Tells.{readRow-ends}
 use Rattle.layout.specs.Laws.Search.{Closed}
 use Rattle.layout.specs.Laws.Seek.{below-is, start-past, start-earlier, start-run, down-from, seek-is, falling-start, falling-found, falling-done}
-use Rattle.layout.specs.Laws.Reads.{region-at, region-over, endsAt, RegionsAre, next as next-region, regions-are, regions-none, allRows-none, allRows-next}
-use Rattle.layout.specs.Laws.Descend.{Front, none, then, After}
-use Rattle.layout.specs.Laws.Split.{Split, split-at, searched}
-use Rattle.layout.specs.Laws.Sorted.{AllPass, leading-all, leading-most, leading-step, leading-stop, leading-within, leading-whole, rises, none-above, above-on, falls-on, falls-first}
+use Rattle.demands.specs.Laws.Reads.{region-at, region-over, endsAt, RegionsAre, next as next-region, regions-are, regions-none, allRows-none, allRows-next}
+use Rattle.demands.specs.Laws.Descend.{Front, none, then, After}
+use Rattle.demands.specs.Laws.Split.{Split, split-at, searched}
+use Rattle.demands.specs.Laws.Sorted.{AllPass, leading-all, leading-most, leading-step, leading-stop, leading-within, leading-whole, rises, none-above, above-on, falls-on, falls-first}
 
 -- ---- the read of a whole region
 

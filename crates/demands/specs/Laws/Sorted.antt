@@ -8,11 +8,11 @@ use native.Mathlib.Omega.{arith}
 use native.Mathlib.Nat.{le-of-suc-le-suc, not-suc-le-zero, suc-add, zero-add}
 use lib.ListN.{length}
 use borrow.Author.Tests.{not-true}
 use Rattle.layout.specs.Key.{Key, below, mayFollow, leading, isBelow, notAbove}
 use Rattle.layout.specs.Cursor.{Keyed}
-use Rattle.layout.specs.Reads.{NeverFall, AllOf, keysOf}
+use Rattle.demands.specs.Reads.{NeverFall, AllOf, keysOf}
 use Rattle.layout.specs.Laws.Answer.{bool-cases, clash}
 use Rattle.layout.specs.Laws.Key.{AtMost, at-most-trans, below-false, le-below, below-trans}
 
 -- ---- rows that all pass a test
 

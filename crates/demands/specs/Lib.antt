@@ -1,3 +1,5 @@
+pub mod Reads
+pub mod Laws
 pub mod Runs
 pub mod Rows
 pub mod RunsProof

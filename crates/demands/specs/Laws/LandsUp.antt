@@ -11,24 +11,24 @@ use lib.Dec.{eqb}
 use lib.ListN.{length, drop, length-append, length-drop, drop-of-length-le}
 use lib.Seq.{drop-at, drop-drop, drop-append-le}
 use borrow.Author.Tests.{lt-ltb, le-ltb}
 use Rattle.layout.specs.Answer.{Res, ok}
 use Rattle.layout.specs.Limits.{maxKey}
 use Rattle.layout.specs.Key.{Key, below, leading, isBelow}
 use Rattle.layout.specs.RowRead.{RowRead, readRow, keyOf}
 use Rattle.layout.specs.Trailer.{Trailer, trailerOf, dataOf, Region, regionOf}
 use Rattle.layout.specs.Cursor.{ascending, Cursor, cursorIs, Keyed, keyed}
 use Rattle.layout.specs.Seek.{restartBelow, Stop, stopIs, walkRegion, doneUp, walkUp, soughtIs, seek}
-use Rattle.layout.specs.Reads.{regionRows, regionsRows, Reads, allRows, NeverFall, keysOf}
+use Rattle.demands.specs.Reads.{regionRows, regionsRows, Reads, allRows, NeverFall, keysOf}
 use Rattle.layout.specs.Laws.Answer.{ltb-cases, ok-inj}
 use Rattle.layout.specs.Laws.Trailer.{regionOf-tells}
 use Rattle.layout.specs.Laws.Tells.{readRow-ends}
 use Rattle.layout.specs.Laws.Carry.{keyOf-length}
-use Rattle.layout.specs.Laws.Split.{split-at, searched}
+use Rattle.demands.specs.Laws.Split.{split-at, searched}
 use Rattle.layout.specs.Laws.Seek.{below-is, up-from, seek-is}
-use Rattle.layout.specs.Laws.Reads.{region-at, region-over, RegionsAre, next as next-region, regions-are, regions-none, regions-cons, allRows-none, allRows-next}
-use Rattle.layout.specs.Laws.Ascend.{Before}
-use Rattle.layout.specs.Laws.Descend.{none}
-use Rattle.layout.specs.Laws.Sorted.{AllPass, leading-all, leading-most, leading-step, leading-stop, leading-within, leading-whole, all-below}
+use Rattle.demands.specs.Laws.Reads.{region-at, region-over, RegionsAre, next as next-region, regions-are, regions-none, regions-cons, allRows-none, allRows-next}
+use Rattle.demands.specs.Laws.Ascend.{Before}
+use Rattle.demands.specs.Laws.Descend.{none}
+use Rattle.demands.specs.Laws.Sorted.{AllPass, leading-all, leading-most, leading-step, leading-stop, leading-within, leading-whole, all-below}
 
 -- ---- the walk of one region
 

@@ -8,22 +8,22 @@ use native.Mathlib.Omega.{arith}
 use lib.Dec.{ltb, eqb}
 use lib.ListN.{length, take, length-append}
 use borrow.Author.Tests.{ltb-false}
 use Rattle.layout.specs.Answer.{Res, ok, refuse}
 use Rattle.layout.specs.Place.{splice}
 use Rattle.layout.specs.Row.{Row}
 use Rattle.layout.specs.RowRead.{keyLength}
 use Rattle.layout.specs.Block.{offsets, trailer, blockBytes}
 use Rattle.layout.specs.Trailer.{Trailer}
 use Rattle.layout.specs.Builder.{Builder, stateTests, presentSize, build, blockAfter}
 use Rattle.layout.specs.Cursor.{Cursor, marked, Keyed, found, done, stepIs}
-use Rattle.layout.specs.Demands.Runs.{Held, held, Call, offer, would-fit, is-empty, finish, addTo, buildOf, after, taken, accepted, run, rowsOf, TypedCall, TypedCalls, Ran, Finishes, Walks, stands, gives, EndsDone, RoomFor, backwards, WalksAll, stepsGive, GivesFirst}
+use Rattle.demands.specs.Runs.{Held, held, Call, offer, would-fit, is-empty, finish, addTo, buildOf, after, taken, accepted, run, rowsOf, TypedCall, TypedCalls, Ran, Finishes, Walks, stands, gives, EndsDone, RoomFor, backwards, WalksAll, stepsGive, GivesFirst}
 use Rattle.layout.specs.Laws.Answer.{bind-then, guard-then, ltb-cases}
 use Rattle.layout.specs.Laws.Splice.{length-splice, take-splice}
 use Rattle.layout.specs.Laws.Trailer.{length-trailer}
-use Rattle.layout.specs.Laws.Ascend.{Before, before-gives, before-done, marked-stays}
-use Rattle.layout.specs.Laws.Descend.{After, after-gives, after-done, FromEnd, empty, ending, from-end}
+use Rattle.demands.specs.Laws.Ascend.{Before, before-gives, before-done, marked-stays}
+use Rattle.demands.specs.Laws.Descend.{After, after-gives, after-done, FromEnd, empty, ending, from-end}
 use Rattle.layout.specs.Laws.Made.{Made, made-none, made-more, made-builds}
-use Rattle.layout.specs.Laws.Given.{next-again}
+use Rattle.demands.specs.Laws.Given.{next-again}
 
 -- ---- the builder
 

@@ -5,15 +5,15 @@ use mathlib.Core.Bool.{true, false}
 use mathlib.Core.List.{List, [], _∷_, _++_}
 use mathlib.Core.Logic.{_⊎_}
 use lib.ListN.{length, take, drop, getD}
 use Rattle.layout.specs.Answer.{ok}
 use Rattle.layout.specs.Key.{Key, mayFollow, firstAtOrAbove, firstAbove}
 use Rattle.layout.specs.Row.{Fields, Row, plain}
 use Rattle.layout.specs.RowRead.{RowRead, decodeRow, keyOf, fieldsOf}
 use Rattle.layout.specs.Trailer.{Trailer}
 use Rattle.layout.specs.Cursor.{ascending, descending, Cursor, opened, openBlock, Keyed, found, stepIs, next}
 use Rattle.layout.specs.Seek.{doneUp, doneDown, soughtIs, seek}
-use Rattle.layout.specs.Reads.{Reads, allRows, NeverFall, keysOf}
-use Rattle.layout.specs.Demands.Runs.{WalksAll, backwards}
+use Rattle.demands.specs.Reads.{Reads, allRows, NeverFall, keysOf}
+use Rattle.demands.specs.Runs.{WalksAll, backwards}
 
 -- ---- one row
 

@@ -7,17 +7,17 @@ use Prim.Native.Nat.{ℕ, _≤_}
 use mathlib.Core.Path.{_≡_}
 use mathlib.Core.List.{List, [], _++_, map}
 use lib.ListN.{length}
 use Rattle.layout.specs.Answer.{ok}
 use Rattle.layout.specs.Limits.{maxKey}
 use Rattle.layout.specs.Row.{Fields, Row, encodeRow, SameRow, Typed, plainRow}
 use Rattle.layout.specs.RowRead.{RowRead, decodeRow}
 use Rattle.layout.specs.Block.{blockBytes}
 use Rattle.layout.specs.Trailer.{Trailer, dataOf}
 use Rattle.layout.specs.Cursor.{ascending, descending, opened, openBlock, Keyed}
-use Rattle.layout.specs.Reads.{contentOf}
-use Rattle.layout.specs.Demands.Runs.{Held, Call, Ran, Finishes, backwards, WalksAll, GivesFirst, KeysFit}
-use Rattle.layout.specs.Demands.RunsProof.{walks-first}
-use Rattle.layout.specs.Demands.Proof3.{ran-finishes, ran-laid, ran-fits, same-rows, ReadsBack, laid-reads-back, encode-tells, encoded-differ, decoded-differ}
+use Rattle.demands.specs.Reads.{contentOf}
+use Rattle.demands.specs.Runs.{Held, Call, Ran, Finishes, backwards, WalksAll, GivesFirst, KeysFit}
+use Rattle.demands.specs.RunsProof.{walks-first}
+use Rattle.demands.specs.Proof3.{ran-finishes, ran-laid, ran-fits, same-rows, ReadsBack, laid-reads-back, encode-tells, encoded-differ, decoded-differ}
 
 -- After at least one accepted row, build answers a block, never 6 or 18: the block of the accepted rows.
 pub run-finishes : (size interval : ℕ) (calls : List Call) (rows : List Row) (end : Held) → Ran size interval calls rows end → 1 ≤ length rows → Finishes end (blockBytes interval rows)

@@ -11,37 +11,37 @@ use native.Mathlib.Numerals.{add-one}
 use lib.ListN.{length, take, drop, getD, length-append, length-drop, length-map, drop-of-length-le}
 use lib.Seq.{getD-drop}
 use borrow.Author.Tests.{eq-eqb}
 use Rattle.layout.specs.Answer.{Res, ok}
 use Rattle.layout.specs.Limits.{maxKey, maxRestarts}
 use Rattle.layout.specs.Key.{Key, below, leading, isBelow, notAbove, firstAtOrAbove, firstAbove}
 use Rattle.layout.specs.Row.{Fields, Row, rowBytes, Typed, plainRow}
 use Rattle.layout.specs.RowRead.{RowRead, readRow, decodeRow, keyLength}
 use Rattle.layout.specs.Fixed.{unbig}
 use Rattle.layout.specs.Trailer.{shortAt, Trailer, dataOf, offsetAt}
 use Rattle.layout.specs.Check.{check}
 use Rattle.layout.specs.Cursor.{ascending, descending, Cursor, opened, Keyed, found, done, Step, stepIs, next}
 use Rattle.layout.specs.Seek.{doneUp, doneDown}
-use Rattle.layout.specs.Reads.{regionsRows, Reads, allRows, NeverFall, keysOf, contentOf}
-use Rattle.layout.specs.Demands.Runs.{RoomFor, backwards, Walks, stands, gives, WalksAll}
-use Rattle.layout.specs.Demands.Rows.{DecodesBack, Rows, Walked, RowsNeverFall, SoughtUp, SoughtDown, FoundFirst}
-use Rattle.layout.specs.Demands.RunsProof.{walks-before, walks-after}
-use Rattle.layout.specs.Demands.Proof3.{Encoded, encoded-fields}
+use Rattle.demands.specs.Reads.{regionsRows, Reads, allRows, NeverFall, keysOf, contentOf}
+use Rattle.demands.specs.Runs.{RoomFor, backwards, Walks, stands, gives, WalksAll}
+use Rattle.demands.specs.Rows.{DecodesBack, Rows, Walked, RowsNeverFall, SoughtUp, SoughtDown, FoundFirst}
+use Rattle.demands.specs.RunsProof.{walks-before, walks-after}
+use Rattle.demands.specs.Proof3.{Encoded, encoded-fields}
 use Rattle.layout.specs.Laws.Answer.{ok-inj, ltb-cases, bool-cases, clash}
 use Rattle.layout.specs.Laws.Key.{AtMost, at-most-refl, at-most-trans, at-most-antisym, below-false, le-below}
 use Rattle.layout.specs.Laws.Row.{placesOf, readRow-law, placesOf-fields, placesOf-key}
 use Rattle.layout.specs.Laws.Tells.{readRow-ends, restart-least}
 use Rattle.layout.specs.Laws.Trailer.{regionOf-tells, trailerOf-tells}
 use Rattle.layout.specs.Laws.Cursor.{open-good, next-marked}
-use Rattle.layout.specs.Laws.Reads.{region-at, rows-all}
-use Rattle.layout.specs.Laws.Ascend.{opened-before}
-use Rattle.layout.specs.Laws.Descend.{opened-after}
-use Rattle.layout.specs.Laws.Accept.{check-accepts, accepts-check}
-use Rattle.layout.specs.Laws.Sorted.{may-at-most}
-use Rattle.layout.specs.Laws.First.{first-before, first-here, above-before, above-here}
-use Rattle.layout.specs.Laws.Split.{split-at}
-use Rattle.layout.specs.Laws.LandsUp.{LandsUp, lands, passes, SeeksUp, seeks-up}
-use Rattle.layout.specs.Laws.LandsDown.{LandsDown, lands as lands-down, passes as passes-down, SeeksDown, seeks-down}
-use Rattle.layout.specs.Laws.Laid.{LaidBlock}
+use Rattle.demands.specs.Laws.Reads.{region-at, rows-all}
+use Rattle.demands.specs.Laws.Ascend.{opened-before}
+use Rattle.demands.specs.Laws.Descend.{opened-after}
+use Rattle.demands.specs.Laws.Accept.{check-accepts, accepts-check}
+use Rattle.demands.specs.Laws.Sorted.{may-at-most}
+use Rattle.demands.specs.Laws.First.{first-before, first-here, above-before, above-here}
+use Rattle.demands.specs.Laws.Split.{split-at}
+use Rattle.demands.specs.Laws.LandsUp.{LandsUp, lands, passes, SeeksUp, seeks-up}
+use Rattle.demands.specs.Laws.LandsDown.{LandsDown, lands as lands-down, passes as passes-down, SeeksDown, seeks-down}
+use Rattle.demands.specs.Laws.Laid.{LaidBlock}
 
 -- ---- one row
 

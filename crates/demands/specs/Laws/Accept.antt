@@ -11,17 +11,17 @@ use native.Mathlib.Nat.{zero-add}
 use lib.Dec.{ltb, eqb}
 use lib.ListN.{length}
 use borrow.Author.Tests.{lt-ltb, le-ltb, eq-eqb, not-false}
 use Rattle.layout.specs.Answer.{ok, bind}
 use Rattle.layout.specs.Key.{Key, mayFollow}
 use Rattle.layout.specs.RowRead.{RowRead, readRow, rowAt, headAt, keyOf}
 use Rattle.layout.specs.Trailer.{Trailer, trailerOf, dataOf, Region, regionOf, allOffsets}
 use Rattle.layout.specs.Check.{Passed, passedIs, passedRow, checkRow, checkFrom, check}
 use Rattle.layout.specs.Cursor.{Keyed, keyed}
-use Rattle.layout.specs.Reads.{regionRows, regionsRows, allRows, NeverFall, Accepts}
+use Rattle.demands.specs.Reads.{regionRows, regionsRows, allRows, NeverFall, Accepts}
 use Rattle.layout.specs.Laws.Answer.{bind-then, guard-then, ok-inj, ltb-cases}
 use Rattle.layout.specs.Laws.Trailer.{regionOf-tells, trailerOf-tells, OffsetsTell, allOffsets-tell, region-good}
 use Rattle.layout.specs.Laws.Tells.{readRow-ends}
-use Rattle.layout.specs.Laws.Reads.{region-at, region-cons, region-over, region-more, RegionsAre, next as next-region, regions-are, regions-cons, allRows-none, allRows-next}
+use Rattle.demands.specs.Laws.Reads.{region-at, region-cons, region-over, region-more, RegionsAre, next as next-region, regions-are, regions-cons, allRows-none, allRows-next}
 
 -- at a restart the key before is not used: neither its length nor its bytes
 restart-read : (d : List ℕ) (at end m n : ℕ) → readRow d at end m true ≡ readRow d at end n true

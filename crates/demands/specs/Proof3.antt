@@ -8,29 +8,29 @@ use native.Mathlib.Omega.{arith}
 use lib.Dec.{ltb}
 use lib.ListN.{length, take, length-append}
 use borrow.Author.Tests.{le-ltb, ltb-false}
 use Rattle.layout.specs.Answer.{ok}
 use Rattle.layout.specs.Limits.{maxKey, maxValue}
 use Rattle.layout.specs.Row.{Fields, Row, valueOf, rowBytes, keyLengthTests, lengthTests, encodeRow, SameRow, Typed, plainRow}
 use Rattle.layout.specs.RowRead.{RowRead, rowAt, readRow, decodeRow, keyLength}
 use Rattle.layout.specs.Block.{blockBytes, offsets}
 use Rattle.layout.specs.Trailer.{Trailer, dataOf}
 use Rattle.layout.specs.Builder.{blockAfter}
 use Rattle.layout.specs.Cursor.{ascending, descending, opened, openBlock, Keyed}
-use Rattle.layout.specs.Reads.{regionsRows, Reads, allRows, AllOf, contentOf}
-use Rattle.layout.specs.Demands.Runs.{Held, Call, Ran, Finishes, RoomFor, backwards, WalksAll, KeysFit}
-use Rattle.layout.specs.Demands.RunsProof.{made-ran, made-finishes, walks-before, walks-after}
+use Rattle.demands.specs.Reads.{regionsRows, Reads, allRows, AllOf, contentOf}
+use Rattle.demands.specs.Runs.{Held, Call, Ran, Finishes, RoomFor, backwards, WalksAll, KeysFit}
+use Rattle.demands.specs.RunsProof.{made-ran, made-finishes, walks-before, walks-after}
 use Rattle.layout.specs.Laws.Answer.{bind-then, guard-then, ok-inj}
 use Rattle.layout.specs.Laws.Row.{FieldsOk, KeyOk, prefix-free}
 use Rattle.layout.specs.Laws.Tells.{keyLengthTests-tells}
-use Rattle.layout.specs.Laws.Local.{readRow-local}
+use Rattle.demands.specs.Laws.Local.{readRow-local}
 use Rattle.layout.specs.Laws.Carry.{keyOf-length}
 use Rattle.layout.specs.Laws.Block.{AllOk, AllFit}
 use Rattle.layout.specs.Laws.Cursor.{open-good}
 use Rattle.layout.specs.Laws.Made.{Made}
-use Rattle.layout.specs.Laws.Reads.{rows-all}
-use Rattle.layout.specs.Laws.Ascend.{opened-before}
-use Rattle.layout.specs.Laws.Descend.{opened-after}
-use Rattle.layout.specs.Laws.Laid.{LaidBlock, laid-block}
+use Rattle.demands.specs.Laws.Reads.{rows-all}
+use Rattle.demands.specs.Laws.Ascend.{opened-before}
+use Rattle.demands.specs.Laws.Descend.{opened-after}
+use Rattle.demands.specs.Laws.Laid.{LaidBlock, laid-block}
 
 -- ---- a run finishes
 

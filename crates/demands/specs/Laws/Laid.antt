@@ -12,21 +12,21 @@ use lib.Dec.{ltb, eqb}
 use lib.ListN.{length, take, drop, getD, length-append, length-drop}
 use lib.Seq.{drop-drop}
 use borrow.Author.Tests.{eq-eqb, ne-eqb}
 use Rattle.layout.specs.Answer.{ok}
 use Rattle.layout.specs.Key.{Key}
 use Rattle.layout.specs.Row.{Fields, Row, rowBytes, plainRow}
 use Rattle.layout.specs.RowRead.{RowRead, mayShare, readRow, keyOf}
 use Rattle.layout.specs.Block.{isRestart, shareOf, laidRow, rowsFrom, offsetsFrom, blockRows, offsets, trailer, blockBytes}
 use Rattle.layout.specs.Trailer.{Trailer, trailerIs, dataOf, offsetAt, Region, regionOf}
 use Rattle.layout.specs.Cursor.{Keyed, keyed}
-use Rattle.layout.specs.Reads.{regionRows, regionsRows, Reads, allRows, contentOf}
+use Rattle.demands.specs.Reads.{regionRows, regionsRows, Reads, allRows, contentOf}
 use Rattle.layout.specs.Laws.Answer.{ltb-cases, clash}
 use Rattle.layout.specs.Laws.Place.{past, within}
 use Rattle.layout.specs.Laws.Row.{placesOf, readRow-law, placesOf-fields, placesOf-key}
 use Rattle.layout.specs.Laws.Block.{RowOk, AllOk, AllFit, shares-is, shares-ok, laidRow-least, first-restart, offsets-few}
 use Rattle.layout.specs.Laws.Trailer.{regionOf-tells, OffsetsTell, TrailerLaid, trailer-laid, offsets-good, region-good}
-use Rattle.layout.specs.Laws.Reads.{region-over, regions-cons, allRows-none, allRows-next}
-use Rattle.layout.specs.Laws.Accept.{Stands, Next, stay, enter, end, past-row, first-here, no-more, one-more}
+use Rattle.demands.specs.Laws.Reads.{region-over, regions-cons, allRows-none, allRows-next}
+use Rattle.demands.specs.Laws.Accept.{Stands, Next, stay, enter, end, past-row, first-here, no-more, one-more}
 
 -- ---- offsets that were laid rise from the place on, and lie below the rows' end
 

@@ -7,19 +7,19 @@ use mathlib.Core.List.{List, [], _∷_, _++_, append-assoc}
 use native.Mathlib.Omega.{arith}
 use native.Mathlib.Nat.{zero-add}
 use borrow.Author.Tests.{eq-eqb}
 use Rattle.layout.specs.Answer.{Res, ok, refuse}
 use Rattle.layout.specs.Key.{Key}
 use Rattle.layout.specs.RowRead.{readRow, keyOf}
 use Rattle.layout.specs.Trailer.{Trailer, dataOf, Region, regionOf}
 use Rattle.layout.specs.Cursor.{Keyed, keyed}
 use Rattle.layout.specs.Seek.{Found, restartKey, restartBelow, searchRestarts, search}
-use Rattle.layout.specs.Reads.{regionRows, regionsRows, Reads, allRows}
+use Rattle.demands.specs.Reads.{regionRows, regionsRows, Reads, allRows}
 use Rattle.layout.specs.Laws.Trailer.{regionOf-tells}
 use Rattle.layout.specs.Laws.Tells.{keyPart, readKey-of-readRow}
 use Rattle.layout.specs.Laws.Search.{Closed, search-closed, search-answers}
 use Rattle.layout.specs.Laws.Seek.{restart-is, below-is}
-use Rattle.layout.specs.Laws.Reads.{region-at, RegionsAre, next as next-region, regions-are, allRows-next}
-use Rattle.layout.specs.Laws.Descend.{Front, none, then, allRows-end, region-some}
+use Rattle.demands.specs.Laws.Reads.{region-at, RegionsAre, next as next-region, regions-are, allRows-next}
+use Rattle.demands.specs.Laws.Descend.{Front, none, then, allRows-end, region-some}
 
 pub record Split (b : List ℕ) (t : Trailer) (rows : List Keyed) (i : ℕ) : Type 0 where
   pub g : Region

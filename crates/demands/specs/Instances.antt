@@ -9,28 +9,28 @@ use native.Mathlib.Omega.{arith}
 use lib.Count.{leadingZeros}
 use lib.Dec.{ltb}
 use lib.ListN.{length, take, drop, replicate, getD}
 use Rattle.layout.specs.Answer.{Res, ok, refuse}
 use Rattle.layout.specs.Limits.{maxKey, maxRestarts}
 use Rattle.layout.specs.Varint.{varint, varintIn, readVarint, readVarintIn}
 use Rattle.layout.specs.Fixed.{big, unbig}
 use Rattle.layout.specs.Place.{varintAt, fixedAt, splice}
 use Rattle.layout.specs.Key.{Key, below, mayFollow, common, leading, firstAtOrAbove, firstAbove}
 use Rattle.layout.specs.Row.{Absent, Row, timeBytes, rowBytes, keyLengthTests, lengthTests, encodeRow, Typed, plainRow}
 use Rattle.layout.specs.RowRead.{RowRead, holds, lengthsAt, headAt, flagsAt, bodyAt, timeAt, timesAt, rowAt, readRow}
 use Rattle.layout.specs.Block.{isRestart, shareOf, laidRow, rowsFrom, offsetsFrom, blockRows, offsets, offsetBytes, trailer, blockBytes}
 use Rattle.layout.specs.Trailer.{shortAt, Trailer, dataOf, trailerOf, risingFrom, allOffsets, regionOf}
 use Rattle.layout.specs.Builder.{Builder, keptBuilder, fresh, newBuilder, stateTests, fits, wouldFit, add, stateAfter, build}
 use Rattle.layout.specs.Check.{checkRow, checkFrom, check}
 use Rattle.layout.specs.Cursor.{ascending, descending, Cursor, keptCursor, cursorIs, opened, openBlock, Keyed, stepUp, next, keyAfter, isEmpty}
 use Rattle.layout.specs.Seek.{seek, soughtAfter}
-use Rattle.layout.specs.Reads.{regionRows, regionsRows, allRows, Accepts, contentOf, keysOf}
+use Rattle.demands.specs.Reads.{regionRows, regionsRows, allRows, Accepts, contentOf, keysOf}
 use Rattle.layout.specs.Cases.{rowWith}
-use Rattle.layout.specs.Demands.Runs.{Held, held, Call, offer, would-fit, is-empty, finish, run, rowsOf, Ran, Finishes, RoomFor, backwards, WalksAll, stepsGive, GivesFirst}
-use Rattle.layout.specs.Demands.Rows.{DecodesBack, Rows, Walked, SoughtUp, SoughtDown, FoundFirst}
-use Rattle.layout.specs.Demands.Demand1.{refused-add, given-bytes, stale-bytes-tell-nothing, stale-bytes-empty, stale-bytes-seek, stale-bytes-fit, stale-bytes-add, stale-bytes-build}
-use Rattle.layout.specs.Demands.Demand2.{decode-encode, check-exact, has-rows, room-enough, walk-any-buffers, first-at-or-above, last-at-or-below, walk-steps, seek-ascending-lands, seek-descending-lands, retry-found, restarts-at-most, finished-accepted}
-use Rattle.layout.specs.Demands.Demand3.{run-finishes, blocks-differ, reads-forwards, reads-backwards, reads-any-buffers, row-begins-no-other, read-begins-no-other}
+use Rattle.demands.specs.Runs.{Held, held, Call, offer, would-fit, is-empty, finish, run, rowsOf, Ran, Finishes, RoomFor, backwards, WalksAll, stepsGive, GivesFirst}
+use Rattle.demands.specs.Rows.{DecodesBack, Rows, Walked, SoughtUp, SoughtDown, FoundFirst}
+use Rattle.demands.specs.Demand1.{refused-add, given-bytes, stale-bytes-tell-nothing, stale-bytes-empty, stale-bytes-seek, stale-bytes-fit, stale-bytes-add, stale-bytes-build}
+use Rattle.demands.specs.Demand2.{decode-encode, check-exact, has-rows, room-enough, walk-any-buffers, first-at-or-above, last-at-or-below, walk-steps, seek-ascending-lands, seek-descending-lands, retry-found, restarts-at-most, finished-accepted}
+use Rattle.demands.specs.Demand3.{run-finishes, blocks-differ, reads-forwards, reads-backwards, reads-any-buffers, row-begins-no-other, read-begins-no-other}
 use Rattle.layout.specs.Laws.Answer.{ltb-cases, clash}
 
 -- ---- case 2, by a run
 

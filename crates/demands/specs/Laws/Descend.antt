@@ -9,17 +9,17 @@ use native.Mathlib.Omega.{arith}
 use lib.Dec.{eqb}
 use lib.ListN.{length, length-append}
 use borrow.Author.Tests.{lt-ltb, le-ltb}
 use Rattle.layout.specs.Answer.{ok, refuse}
 use Rattle.layout.specs.Limits.{maxKey}
 use Rattle.layout.specs.Key.{Key}
 use Rattle.layout.specs.RowRead.{RowRead, readRow, keyLength, keyOf}
 use Rattle.layout.specs.Trailer.{Trailer, trailerOf, dataOf, offsetAt, Region, regionOf}
 use Rattle.layout.specs.Cursor.{descending, Cursor, marked, opened, Keyed, keyed, found, done, stepIs, rowEndingAt, backPast, stepBackIn, stepDown, next}
-use Rattle.layout.specs.Reads.{regionRows, regionsRows, Reads, allRows}
+use Rattle.demands.specs.Reads.{regionRows, regionsRows, Reads, allRows}
 use Rattle.layout.specs.Laws.Trailer.{regionOf-tells, trailerOf-tells}
 use Rattle.layout.specs.Laws.Tells.{readRow-ends}
 use Rattle.layout.specs.Laws.Cursor.{next-down, down-done, down-before-in, down-in, back-found, back-short, ended}
-use Rattle.layout.specs.Laws.Reads.{region-at, endsAt, endsAt-snoc, RegionsAre, next as next-region, regions-are, regions-none, allRows-none}
+use Rattle.demands.specs.Laws.Reads.{region-at, endsAt, endsAt-snoc, RegionsAre, next as next-region, regions-are, regions-none, allRows-none}
 
 -- ---- the step back finds the row that ends at its place
 

@@ -8,22 +8,22 @@ use mathlib.Core.Path.{_≡_, ap, sym, _∙_}
 use mathlib.Core.Bool.{true, false}
 use mathlib.Core.List.{List, []}
 use lib.ListN.{length, getD}
 use Rattle.layout.specs.Answer.{ok}
 use Rattle.layout.specs.Limits.{maxKey, maxRestarts}
 use Rattle.layout.specs.Key.{Key, below, firstAtOrAbove, firstAbove}
 use Rattle.layout.specs.Row.{Fields, Row, encodeRow, Typed}
 use Rattle.layout.specs.Trailer.{Trailer}
 use Rattle.layout.specs.Check.{check}
 use Rattle.layout.specs.Cursor.{ascending, descending, Cursor, opened, Keyed, found, stepIs, next}
 use Rattle.layout.specs.Seek.{Sought, soughtIs, seek}
-use Rattle.layout.specs.Reads.{Accepts, keysOf}
-use Rattle.layout.specs.Demands.Runs.{Held, Call, Ran, Finishes, RoomFor, backwards, GivesFirst}
-use Rattle.layout.specs.Demands.Rows.{DecodesBack, Rows, Walked, SoughtUp, SoughtDown, FoundFirst, RowsNeverFall}
-use Rattle.layout.specs.Demands.RunsProof.{walks-first}
-use Rattle.layout.specs.Demands.Proof3.{encode-tells, ran-laid}
-use Rattle.layout.specs.Demands.Proof2.{decodes-back, rows-walked, accepted-rows, rows-room, sought-up, sought-down, first-splits, last-splits, retry-present, retry-absent, restarts-few, laid-accepted, accepted-laid}
+use Rattle.demands.specs.Reads.{Accepts, keysOf}
+use Rattle.demands.specs.Runs.{Held, Call, Ran, Finishes, RoomFor, backwards, GivesFirst}
+use Rattle.demands.specs.Rows.{DecodesBack, Rows, Walked, SoughtUp, SoughtDown, FoundFirst, RowsNeverFall}
+use Rattle.demands.specs.RunsProof.{walks-first}
+use Rattle.demands.specs.Proof3.{encode-tells, ran-laid}
+use Rattle.demands.specs.Proof2.{decodes-back, rows-walked, accepted-rows, rows-room, sought-up, sought-down, first-splits, last-splits, retry-present, retry-absent, restarts-few, laid-accepted, accepted-laid}
 use Rattle.layout.specs.Laws.Answer.{ok-inj}
-use Rattle.layout.specs.Laws.Accept.{check-accepts, accepts-check}
+use Rattle.demands.specs.Laws.Accept.{check-accepts, accepts-check}
 
 -- A row that was encoded decodes, whatever bytes follow, to what was encoded, and ends where it ended; its full key is the shared bytes of the previous key, then the suffix.
 pub decode-encode : (prevLen shared : ℕ) (suffix : List ℕ) (f : Fields) (room : ℕ) (w post : List ℕ) → Typed f → encodeRow prevLen shared suffix f room ≡ ok w

@@ -1,0 +1,13 @@
+pub mod Reads
+pub mod Given
+pub mod Refusals
+pub mod Local
+pub mod First
+pub mod Ascend
+pub mod Descend
+pub mod Accept
+pub mod Sorted
+pub mod Split
+pub mod LandsUp
+pub mod LandsDown
+pub mod Laid
