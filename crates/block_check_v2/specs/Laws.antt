@@ -13,12 +13,12 @@ use Rattle.layout.specs.Answer.{ok, refuse}
 use Rattle.layout.specs.Key.{below}
 use Rattle.layout.specs.Limits.{maxKey}
 use Rattle.layout.specs.Place.{splice}
-use Rattle.layout.specs.RowRead.{RowRead, readRow, keyLength}
-use Rattle.layout.specs.Trailer.{Trailer, trailerOf, dataOf, Region, regionOf, allOffsets}
+use Rattle.layout.specs.RowRead.{RowRead, keyLength}
+use Rattle.layout.specs.Trailer.{Trailer, trailerOf, dataOf, Region, regionOf, allOffsets, rowIn}
 use Rattle.layout.specs.Laws.Answer.{ltb-cases, ok-inj}
 use Rattle.layout.specs.Laws.Carry.{suffixOf, suffix-fits, carries-on}
 use Rattle.layout.specs.Laws.Check.{Checking, checking-start, checking-over, checking-no, checking-more, row-region, row-no, row-falls, row-passed}
-use Rattle.layout.specs.Laws.Tells.{RowEnds, readRow-ends, row-shares}
+use Rattle.layout.specs.Laws.Tells.{RowEnds, row-shares, rowIn-ends}
 use Rattle.layout.specs.Laws.Trailer.{RegionTells, regionOf-tells, trailerOf-tells, allOffsets-tell}
 use Rattle.block_check_v2.specs.declared.Passed.{Passed}
 use Rattle.block_check_v2.specs.declared.Walked.{Walked}
@@ -107,12 +107,12 @@ module _ (b : List ℕ) (t : Trailer) where
       inside : at < t .size
       inside = omega (arith, ends .inside)
 
-      pub walks-no : {n : ℕ} → readRow (dataOf b t) at (g .end) len (eqb at (g .start)) ≡ refuse n → refuse n ≡ rowsOf b t
+      pub walks-no : {n : ℕ} → rowIn (dataOf b t) g at len ≡ refuse n → refuse n ≡ rowsOf b t
       walks-no {n} e = checking-no b t at r rows key len here inside n (sym (row-no b t at r rows key len (here .holds) g used e))
 
-      module _ (x : RowRead) (e : readRow (dataOf b t) at (g .end) len (eqb at (g .start)) ≡ ok x) where
+      module _ (x : RowRead) (e : rowIn (dataOf b t) g at len ≡ ok x) where
         row : RowEnds (dataOf b t) at (g .end) len (eqb at (g .start)) x
-        row = readRow-ends (dataOf b t) at (g .end) len (eqb at (g .start)) x e
+        row = rowIn-ends (dataOf b t) g at len x e
 
         -- the row's suffix and the rest of the carried key, as they are lent
         abbrev pub suffix : List ℕ

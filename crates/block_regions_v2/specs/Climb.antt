@@ -13,9 +13,9 @@ use lib.Seq.{getD-take}
 use borrow.Author.Tests.{lt-ltb, le-ltb}
 use Rattle.layout.specs.Answer.{Res, ok, refuse}
 use Rattle.layout.specs.Key.{Key, below, common}
-use Rattle.layout.specs.RowRead.{RowRead, readRow, keyLength, keyOf}
+use Rattle.layout.specs.RowRead.{RowRead, keyLength, keyOf}
 use Rattle.layout.specs.Plain.{RowSpan, spanOf}
-use Rattle.layout.specs.Trailer.{Region}
+use Rattle.layout.specs.Trailer.{Region, rowIn}
 use Rattle.layout.specs.Seek.{Stop, stopIs, walkRegion}
 use Rattle.layout.specs.Laws.Answer.{spend, ltb-cases, ok-inj}
 use Rattle.layout.specs.Laws.Carry.{suffixOf, keyOf-length}
@@ -23,7 +23,7 @@ use Rattle.layout.specs.Laws.Key.{common-right}
 use Rattle.layout.specs.Laws.Match.{common-none, match-take, matchAfter, belowAfter, match-is, below-is}
 use Rattle.layout.specs.Laws.MatchWalk.{spanSuffix}
 use Rattle.layout.specs.Laws.Plain.{span-row}
-use Rattle.layout.specs.Laws.Tells.{readRow-ends, row-shares}
+use Rattle.layout.specs.Laws.Tells.{row-shares, rowIn-ends}
 use Rattle.block_regions_v2.specs.Rows.{Rows, rows-on, rows-far, partOf, part-suffix, clipped, clipped-length, agrees-clipped, Filling}
 
 -- a test that is turned round
@@ -41,7 +41,7 @@ pub record Based (d : List ℕ) (g : Region) (target : Key) (from len at : ℕ) 
   pub start : Key
   pub long : length start ≡ len
   pub leads : Rows d g from start rows at before
-  pub shares : (r : RowRead) → readRow d from (g .end) len (eqb from (g .start)) ≡ ok r → r .shared ≤ common start target
+  pub shares : (r : RowRead) → rowIn d g from len ≡ ok r → r .shared ≤ common start target
   -- where no row was read, there is no key
   pub none : at ≤ from → start ≡ []
 
@@ -59,9 +59,9 @@ module _ (d : List ℕ) (g : Region) (target : Key) (fuel : ℕ) where
     pub makes : walkRegion left d g target at before ≡ whole
     pub based : Based d g target from from-len at before
 
-  first-shares : (r : RowRead) → readRow d (g .start) (g .end) 0 (eqb (g .start) (g .start)) ≡ ok r → r .shared ≤ common [] target
+  first-shares : (r : RowRead) → rowIn d g (g .start) 0 ≡ ok r → r .shared ≤ common [] target
   first-shares r e =
-      let n = row-shares d (g .start) (g .end) 0 (eqb (g .start) (g .start)) r (readRow-ends d (g .start) (g .end) 0 (eqb (g .start) (g .start)) r e) in
+      let n = row-shares d (g .start) (g .end) 0 (eqb (g .start) (g .start)) r (rowIn-ends d g (g .start) 0 r e) in
       omega arith
 
   pub climbing-start : g .end ≤ fuel → Climbing (g .start) 0 0 (g .start) 0
@@ -78,8 +78,8 @@ module _ (d : List ℕ) (g : Region) (target : Key) (fuel : ℕ) where
       }
 
   module _ (at m len from from-len : ℕ) (s : Climbing at m len from from-len) where
-    read-at : {x : Res RowRead} → readRow d at (g .end) len (eqb at (g .start)) ≡ x → readRow d at (g .end) (length (s .before)) (eqb at (g .start)) ≡ x
-    read-at e = ap (λ (n : ℕ). readRow d at (g .end) n (eqb at (g .start))) (s .long) ∙ e
+    read-at : {x : Res RowRead} → rowIn d g at len ≡ x → rowIn d g at (length (s .before)) ≡ x
+    read-at e = ap (λ (n : ℕ). rowIn d g at n) (s .long) ∙ e
 
     stepped : at < g .end → {A : Type 0} → ((left : ℕ) → g .end ≤ at + suc left → walkRegion (suc left) d g target at (s .before) ≡ whole → A) → A
     stepped h f =
@@ -95,13 +95,13 @@ module _ (d : List ℕ) (g : Region) (target : Key) (fuel : ℕ) where
         go (suc left) q = rw (le-ltb at (g .end) h) at q
 
     module _ (h : at < g .end) where
-      pub climbing-no : {n : ℕ} → readRow d at (g .end) len (eqb at (g .start)) ≡ refuse n → refuse n ≡ whole
+      pub climbing-no : {n : ℕ} → rowIn d g at len ≡ refuse n → refuse n ≡ whole
       unfolding walkRegion
       climbing-no e = stepped h λ left q w. rw (lt-ltb at (g .end) h, read-at e) at w
 
-      module _ (r : RowRead) (e : readRow d at (g .end) len (eqb at (g .start)) ≡ ok r) where
+      module _ (r : RowRead) (e : rowIn d g at len ≡ ok r) where
         shared-fits : r .shared ≤ length (s .before)
-        shared-fits = rw (s .long) (row-shares d at (g .end) len (eqb at (g .start)) r (readRow-ends d at (g .end) len (eqb at (g .start)) r e))
+        shared-fits = rw (s .long) (row-shares d at (g .end) len (eqb at (g .start)) r (rowIn-ends d g at len r e))
 
         order-is : below (keyOf d (s .before) r) target ≡ belowAfter target m (r .shared) (suffixOf d r)
         order-is =
@@ -118,7 +118,7 @@ module _ (d : List ℕ) (g : Region) (target : Key) (fuel : ℕ) where
         -- the row itself where it shares no more than the match, else the one that was
         base-on : Based d g target (cond (ltb m (r .shared)) from at) (cond (ltb m (r .shared)) from-len len) (r .next) (keyOf d (s .before) r)
         base-on =
-            let far = readRow-ends d at (g .end) len (eqb at (g .start)) r e .least in
+            let far = rowIn-ends d g at len r e .least in
             ⊎-elim
             (λ t.
             let b = s .based in
@@ -137,7 +137,7 @@ module _ (d : List ℕ) (g : Region) (target : Key) (fuel : ℕ) where
             record {
               left = left;
               before = keyOf d (s .before) r;
-              enough = omega (arith, readRow-ends d at (g .end) len (eqb at (g .start)) r e .least);
+              enough = omega (arith, rowIn-ends d g at len r e .least);
               long = keyOf-length d at (g .end) (s .before) (eqb at (g .start)) r (read-at e);
               match = row-match;
               under = λ _. order-is ∙ k;
@@ -146,7 +146,7 @@ module _ (d : List ℕ) (g : Region) (target : Key) (fuel : ℕ) where
             }
 
       -- by the row's span, and what its suffix told where it stands in the data
-      module _ (p : RowSpan) (e : p ≡ spanOf (readRow d at (g .end) len (eqb at (g .start)))) (z : p .next ≡ 0 → ⊥) where
+      module _ (p : RowSpan) (e : p ≡ spanOf (rowIn d g at len)) (z : p .next ≡ 0 → ⊥) where
         pub climbing-stop : {b : Bool} → b ≡ belowAfter target m (p .shared) (partOf d p) → not b ≡ true → ok (stopIs at (s .before)) ≡ whole
         climbing-stop {b} w n =
             let k : belowAfter target m (p .shared) (spanSuffix d p) ≡ false = sym (rw (part-suffix d p) at w) ∙ was-not b n in

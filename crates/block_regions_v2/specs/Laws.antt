@@ -16,8 +16,8 @@ use Rattle.layout.specs.Limits.{maxKey}
 use Rattle.layout.specs.Key.{Key, below}
 use Rattle.layout.specs.Place.{splice}
 use Rattle.layout.specs.Plain.{RowSpan, spanOf}
-use Rattle.layout.specs.RowRead.{RowRead, readRow, keyLength, keyOf}
-use Rattle.layout.specs.Trailer.{Trailer, trailerOf, dataOf, Region, regionOf}
+use Rattle.layout.specs.RowRead.{RowRead, keyLength, keyOf}
+use Rattle.layout.specs.Trailer.{Trailer, trailerOf, dataOf, Region, regionOf, rowIn}
 use Rattle.layout.specs.Cursor.{Cursor, Keyed, keyed, rowEndingAt, found, stepIs, backPast, stepBackIn}
 use Rattle.layout.specs.Seek.{Stop, stopIs, walkRegion, lastAtOrBelow}
 use Rattle.layout.specs.Laws.Answer.{bind-then, ok-inj, cond-ok, ltb-cases, clash}
@@ -27,7 +27,7 @@ use Rattle.layout.specs.Laws.Match.{matchAfter, aboveAfter}
 use Rattle.layout.specs.Laws.MatchWalk.{Halt, haltIs, haltOf, MatchingDown, down-more}
 use Rattle.layout.specs.Laws.Plain.{span-no}
 use Rattle.layout.specs.Laws.Splice.{then-write}
-use Rattle.layout.specs.Laws.Tells.{readRow-ends}
+use Rattle.layout.specs.Laws.Tells.{rowIn-ends}
 use Rattle.layout.specs.Laws.Trailer.{trailerOf-tells, regionOf-tells}
 use Rattle.basics.specs.Answers.{apart}
 use Rattle.basics.specs.Number.{number}
@@ -124,7 +124,7 @@ module _ (d : List ℕ) (g : Region) (target : Key) where
 -- ---- what the walk met
 
 module _ (d : List ℕ) (g : Region) (target : Key) (at m len from from-len : ℕ) (s : Climbing d g target (length d) at m len from from-len) where
-  pub halts-no : at < g .end → (p : RowSpan) → p ≡ spanOf (readRow d at (g .end) len (eqb at (g .start))) → p .next ≡ 0 → {h : Halted} → h ≡ haltedIs at len from from-len false → Halts d g target h
+  pub halts-no : at < g .end → (p : RowSpan) → p ≡ spanOf (rowIn d g at len) → p .next ≡ 0 → {h : Halted} → h ≡ haltedIs at len from from-len false → Halts d g target h
   halts-no n p e z is = rw is (record { match = m; climbs = s; stopped = λ q. absurd (clash q refl); refused = λ _. (n, span-no d at (g .end) len (eqb at (g .start)) p e z) })
 
   pub halts-there : ok (stopIs at (s .before)) ≡ walkRegion (length d) d g target (g .start) [] → {h : Halted} → h ≡ haltedIs at len from from-len true → Halts d g target h
@@ -170,9 +170,9 @@ module _ (d : List ℕ) (g : RegionC) (target key : List ℕ) where
   module _ (inside : g .end ≤ length d) (h : Halted) (w : Halts d (regionFrom g) target h) where
     pub into-no : not (h .good) ≡ true → {x : Refusal} → RefusesAt d (h .at) (g .end) (h .len) (eqb (h .at) (g .start)) x
         → WalksInto d g target key (PlaceRefused x) key
-    into-no bad {x} f = go (readRow d (h .at) (g .end) (h .len) (eqb (h .at) (g .start))) refl
+    into-no bad {x} f = go (rowIn d g (h .at) (h .len)) refl
       where
-        go : (y : Res RowRead) → readRow d (h .at) (g .end) (h .len) (eqb (h .at) (g .start)) ≡ y → WalksInto d g target key (PlaceRefused x) key
+        go : (y : Res RowRead) → rowIn d g (h .at) (h .len) ≡ y → WalksInto d g target key (PlaceRefused x) key
         go (ok r) q = absurd (w .refused (was-not (h .good) bad) .1 r q)
         go (refuse n) q =
             into-not
@@ -202,7 +202,7 @@ module _ (d : List ℕ) (g : RegionC) (target key : List ℕ) where
 -- ---- a turn of the read down
 
 pub turn-down : (d : List ℕ) (g : Region) (target : Key) (fuel at m len best : ℕ) (above : Bool) → MatchingDown d g target fuel at m len best above → at < g .end
-    → (p : RowSpan) → p ≡ spanOf (readRow d at (g .end) len (eqb at (g .start))) → (p .next ≡ 0 → ⊥) → {m′ best′ : ℕ} {above′ : Bool}
+    → (p : RowSpan) → p ≡ spanOf (rowIn d g at len) → (p .next ≡ 0 → ⊥) → {m′ best′ : ℕ} {above′ : Bool}
     → m′ ≡ matchAfter target m (p .shared) (partOf d p) → above′ ≡ aboveAfter target m above (p .shared) (partOf d p) → best′ ≡ cond above′ best (p .next)
     → MatchingDown d g target fuel (p .next) m′ (p .shared + p .suffixLen) best′ above′
 turn-down d g target fuel at m len best above s h p e z w a b =
@@ -259,10 +259,10 @@ module _ (d : List ℕ) (g : RegionC) (stop : ℕ) (out : List ℕ) (h : g .star
   pub stands : Stands d (regionFrom g) q (w .there .before)
   stands = record { rows = w .there .rows; leads = w .there .leads; knows = w .there .knows }
 
-  pub ended-no : {x : Refusal} → readRow d (q .at) (g .end) (q .len) (eqb (q .at) (g .start)) ≡ refuse (number x) → EndsAt d g stop out (EndedRefused x) out
+  pub ended-no : {x : Refusal} → rowIn d g (q .at) (q .len) ≡ refuse (number x) → EndsAt d g stop out (EndedRefused x) out
   ended-no e = gives-not refl (ending-no d (regionFrom g) stop (length out) h (reaching-refused d (regionFrom g) stop (q .at) (q .len) (q .known) (w .there) e))
 
-  module _ (r : Row) (e : readRow d (q .at) (g .end) (q .len) (eqb (q .at) (g .start)) ≡ ok (rowFrom r)) where
+  module _ (r : Row) (e : rowIn d g (q .at) (q .len) ≡ ok (rowFrom r)) where
     abbrev key : Key
     key = keyOf d (w .there .before) (rowFrom r)
 
@@ -291,7 +291,7 @@ module _ (d : List ℕ) (g : RegionC) (stop : ℕ) (out : List ℕ) (h : g .star
           let p-is : r .«suffix_at» + r .«suffix_len» - r .«suffix_at» ≡ r .«suffix_len» = omega arith in
           let first-long = length-take-le (r .shared) (w .there .before) ended-shares in
           let last-long : length (take (r .«suffix_len») (drop (r .«suffix_at») d)) ≡ r .«suffix_len» =
-          part-length d (r .«suffix_at») (r .«suffix_len») (readRow-ends d (q .at) (g .end) (q .len) (eqb (q .at) (g .start)) (rowFrom r) e .suffix) in
+          part-length d (r .«suffix_at») (r .«suffix_len») (rowIn-ends d g (q .at) (q .len) (rowFrom r) e .suffix) in
           gives-ended d (regionFrom g) stop (rowFrom r) key out refl is-given
           (gives-row r stop key out k (rw key-long u)
           (then-write out ys zs 0 (r .shared) (take (r .shared) (w .there .before)) (take (r .«suffix_len») (drop (r .«suffix_at») d)) y (omega arith) (omega arith) (rw p-is at z)))
@@ -332,8 +332,8 @@ walk-few d g zero target at before s e h = let w : stopIs at before ≡ s = ok-i
 walk-few d g (suc fuel) target at before s e h =
     ⊎-elim
     (λ t.
-    bind-then (readRow d at (g .end) (length before) (eqb at (g .start))) _ s (rw (t .0) at e) λ r p q.
-    let w = readRow-ends d at (g .end) (length before) (eqb at (g .start)) r p .fits in
+    bind-then (rowIn d g at (length before)) _ s (rw (t .0) at e) λ r p q.
+    let w = rowIn-ends d g at (length before) r p .fits in
     let l = keyOf-length d at (g .end) before (eqb at (g .start)) r p in
     ⊎-elim
     (λ u. walk-few d g fuel target (r .next) (keyOf d before r) s (u .1) (rw l w))

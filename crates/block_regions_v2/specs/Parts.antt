@@ -9,15 +9,15 @@ use lib.ListN.{length}
 use borrow.Author.Tests.{lt-ltb, le-ltb}
 use Rattle.layout.specs.Answer.{Res, ok, refuse}
 use Rattle.layout.specs.Key.{Key}
-use Rattle.layout.specs.RowRead.{RowRead, readRow, keyLength, keyOf}
+use Rattle.layout.specs.RowRead.{RowRead, keyLength, keyOf}
 use Rattle.layout.specs.Plain.{RowSpan, spanOf}
-use Rattle.layout.specs.Trailer.{Region}
+use Rattle.layout.specs.Trailer.{Region, rowIn}
 use Rattle.layout.specs.Cursor.{Keyed, keyed, rowEndingAt}
 use Rattle.layout.specs.Seek.{stopIs, walkRegion}
 use Rattle.layout.specs.Laws.Answer.{spend}
 use Rattle.layout.specs.Laws.Carry.{keyOf-length}
 use Rattle.layout.specs.Laws.Plain.{span-row}
-use Rattle.layout.specs.Laws.Tells.{readRow-ends, row-shares}
+use Rattle.layout.specs.Laws.Tells.{row-shares, rowIn-ends}
 use Rattle.block_regions_v2.specs.declared.Halted.{Halted}
 use Rattle.block_regions_v2.specs.declared.Known.{Known}
 use Rattle.block_regions_v2.specs.declared.Reached.{Reached}
@@ -35,7 +35,7 @@ pub record Halts (d : List ℕ) (g : Region) (target : Key) (h : Halted) : Type 
   pub match : ℕ
   pub climbs : Climbing d g target (length d) (h .at) match (h .len) (h .from) (h .«from_len»)
   pub stopped : h .good ≡ true → ok (stopIs (h .at) (climbs .before)) ≡ walkRegion (length d) d g target (g .start) []
-  pub refused : h .good ≡ false → (h .at < g .end) × ((r : RowRead) → readRow d (h .at) (g .end) (h .len) (eqb (h .at) (g .start)) ≡ ok r → ⊥)
+  pub refused : h .good ≡ false → (h .at < g .end) × ((r : RowRead) → rowIn d g (h .at) (h .len) ≡ ok r → ⊥)
 
 -- ---- the read back: the row that ends at a position, found by lengths alone
 
@@ -62,26 +62,26 @@ module _ (d : List ℕ) (g : Region) (stop : ℕ) where
 
   pub record Reaches (r : Reached) : Type 0 where
     pub there : Reaching (r .at) (r .len) (r .known)
-    pub far : (x : RowRead) → readRow d (r .at) (g .end) (r .len) (eqb (r .at) (g .start)) ≡ ok x → stop ≤ x .next
+    pub far : (x : RowRead) → rowIn d g (r .at) (r .len) ≡ ok x → stop ≤ x .next
 
   pub reaching-start : g .start < stop → Reaching (g .start) 0 (knownIs 0 0 0 0)
   reaching-start h =
       record { left = stop; before = []; rows = []; enough = omega arith; near = h; long = refl; makes = refl; leads = (refl, refl); knows = knows-none d }
 
   module _ (at len : ℕ) (k : Known) (s : Reaching at len k) where
-    read-near : {x : Res RowRead} → readRow d at (g .end) len (eqb at (g .start)) ≡ x → readRow d at (g .end) (length (s .before)) (eqb at (g .start)) ≡ x
-    read-near e = ap (λ (n : ℕ). readRow d at (g .end) n (eqb at (g .start))) (s .long) ∙ e
+    read-near : {x : Res RowRead} → rowIn d g at len ≡ x → rowIn d g at (length (s .before)) ≡ x
+    read-near e = ap (λ (n : ℕ). rowIn d g at n) (s .long) ∙ e
 
     taken : {A : Type 0} → ((left : ℕ) → stop ≤ at + suc left → rowEndingAt (suc left) d g stop at (s .before) ≡ ends → A) → A
     taken f =
         spend (λ (n : ℕ). rowEndingAt n d g stop at (s .before)) (s .left) (λ z. absurd (omega (arith, s .enough, s .near))) (s .makes)
         λ more is q. f more (omega (arith, s .enough)) q
 
-    pub reaching-refused : {n : ℕ} → readRow d at (g .end) len (eqb at (g .start)) ≡ refuse n → refuse n ≡ ends
+    pub reaching-refused : {n : ℕ} → rowIn d g at len ≡ refuse n → refuse n ≡ ends
     unfolding rowEndingAt
     reaching-refused e = taken λ left q m. rw (read-near e) at m
 
-    module _ (r : RowRead) (e : readRow d at (g .end) len (eqb at (g .start)) ≡ ok r) where
+    module _ (r : RowRead) (e : rowIn d g at len ≡ ok r) where
       pub reaching-straddles : stop < r .next → refuse 18 ≡ ends
       unfolding rowEndingAt
       reaching-straddles h = taken λ left q m. rw (read-near e, le-ltb (r .next) stop (omega arith), lt-ltb stop (r .next) h) at m
@@ -95,13 +95,13 @@ module _ (d : List ℕ) (g : Region) (stop : ℕ) where
       reaching-long = keyOf-length d at (g .end) (s .before) (eqb at (g .start)) r (read-near e)
 
       pub reaching-shares : r .shared ≤ length (s .before)
-      reaching-shares = rw (s .long) (row-shares d at (g .end) len (eqb at (g .start)) r (readRow-ends d at (g .end) len (eqb at (g .start)) r e))
+      reaching-shares = rw (s .long) (row-shares d at (g .end) len (eqb at (g .start)) r (rowIn-ends d g at len r e))
 
       goes-past : r .next < stop → Reaching (r .next) (keyLength r) (knownAfter k (r .suffixAt) (r .shared) (keyLength r))
       unfolding rowEndingAt
       goes-past h =
           taken λ left q m.
-          let tells = readRow-ends d at (g .end) len (eqb at (g .start)) r e in
+          let tells = rowIn-ends d g at len r e in
           record {
             left = left;
             before = keyOf d (s .before) r;
@@ -115,14 +115,14 @@ module _ (d : List ℕ) (g : Region) (stop : ℕ) where
           }
 
     -- by the row's span
-    module _ (p : RowSpan) (e : p ≡ spanOf (readRow d at (g .end) len (eqb at (g .start)))) where
+    module _ (p : RowSpan) (e : p ≡ spanOf (rowIn d g at len)) where
       pub reaching-more : {k′ : Known} → (p .next ≡ 0 → ⊥) → p .next < stop → k′ ≡ knownAfter k (p .suffixAt) (p .shared) (p .shared + p .suffixLen) → Reaching (p .next) (p .shared + p .suffixLen) k′
       reaching-more z h w = span-row d at (g .end) len (eqb at (g .start)) p e z λ r q is. rw (w, sym is) (goes-past r q (rw (sym is) at h))
 
       -- the row that reaches the position, if it is one
-      pub reaching-far : ((p .next ≡ 0 → ⊥) → stop ≤ p .next) → (r : RowRead) → readRow d at (g .end) len (eqb at (g .start)) ≡ ok r → stop ≤ r .next
+      pub reaching-far : ((p .next ≡ 0 → ⊥) → stop ≤ p .next) → (r : RowRead) → rowIn d g at len ≡ ok r → stop ≤ r .next
       reaching-far f r q =
           let n : p .next ≡ r .next = ap (λ (t : RowSpan). t .next) (e ∙ ap spanOf q) in
-          let far = readRow-ends d at (g .end) len (eqb at (g .start)) r q .least in
+          let far = rowIn-ends d g at len r q .least in
           let m = f (λ z. absurd (omega arith)) in
           omega arith

@@ -13,32 +13,32 @@ use borrow.Author.Tests.{le-leb, lt-leb}
 use Rattle.layout.specs.Answer.{ok}
 use Rattle.layout.specs.Place.{splice}
 use Rattle.layout.specs.Key.{Key}
-use Rattle.layout.specs.RowRead.{RowRead, readRow, keyOf}
+use Rattle.layout.specs.RowRead.{RowRead, keyOf}
 use Rattle.layout.specs.Plain.{RowSpan, spanIs, spanOf}
-use Rattle.layout.specs.Trailer.{Region}
+use Rattle.layout.specs.Trailer.{Region, rowIn}
 use Rattle.layout.specs.Laws.Answer.{ltb-cases}
 use Rattle.layout.specs.Laws.Carry.{suffixOf, keyOf-length}
 use Rattle.layout.specs.Laws.MatchWalk.{spanSuffix}
 use Rattle.layout.specs.Laws.Splice.{length-splice}
-use Rattle.layout.specs.Laws.Tells.{readRow-ends, row-shares}
+use Rattle.layout.specs.Laws.Tells.{row-shares, rowIn-ends}
 
 -- ---- rows that follow one another, from a place after a key to a place after a key
 
 abbrev pub Rows : List ℕ → Region → ℕ → Key → List RowRead → ℕ → Key → Type 0
 Rows d g at before [] to last = (at ≡ to) × (before ≡ last)
-Rows d g at before (r ∷ rs) to last = (readRow d at (g .end) (length before) (eqb at (g .start)) ≡ ok r) × Rows d g (r .next) (keyOf d before r) rs to last
+Rows d g at before (r ∷ rs) to last = (rowIn d g at (length before) ≡ ok r) × Rows d g (r .next) (keyOf d before r) rs to last
 
 module _ (d : List ℕ) (g : Region) where
   -- and one row more
   pub rows-on : (at : ℕ) (before : Key) (rs : List RowRead) (to : ℕ) (last : Key) → Rows d g at before rs to last → (r : RowRead)
-      → readRow d to (g .end) (length last) (eqb to (g .start)) ≡ ok r → Rows d g at before (rs ++ (r ∷ [])) (r .next) (keyOf d last r)
+      → rowIn d g to (length last) ≡ ok r → Rows d g at before (rs ++ (r ∷ [])) (r .next) (keyOf d last r)
   rows-on at before [] to last w r e = rw (w .0, w .1) (e, (refl, refl))
   rows-on at before (x ∷ rs) to last w r e = (w .0, rows-on (x .next) (keyOf d before x) rs to last (w .1) r e)
 
   pub rows-far : (at : ℕ) (before : Key) (rs : List RowRead) (to : ℕ) (last : Key) → Rows d g at before rs to last → at ≤ to
   rows-far at before [] to last w = omega (arith, w .0)
   rows-far at before (r ∷ rs) to last w =
-      let far = readRow-ends d at (g .end) (length before) (eqb at (g .start)) r (w .0) .least in
+      let far = rowIn-ends d g at (length before) r (w .0) .least in
       let more = rows-far (r .next) (keyOf d before r) rs to last (w .1) in
       omega arith
 
@@ -46,13 +46,13 @@ module _ (d : List ℕ) (g : Region) where
   pub rows-over : (at : ℕ) (before : Key) (rs : List RowRead) (to : ℕ) (last : Key) → Rows d g at before rs to last → to ≤ at → before ≡ last
   rows-over at before [] to last w h = w .1
   rows-over at before (r ∷ rs) to last w h =
-      let far = readRow-ends d at (g .end) (length before) (eqb at (g .start)) r (w .0) .least in
+      let far = rowIn-ends d g at (length before) r (w .0) .least in
       let more = rows-far (r .next) (keyOf d before r) rs to last (w .1) in
       absurd (omega arith)
 
   -- the first of them
   pub rows-first : {A : Type 0} (at : ℕ) (before : Key) (rs : List RowRead) (to : ℕ) (last : Key) → Rows d g at before rs to last → at < to
-      → ((r : RowRead) (more : List RowRead) → readRow d at (g .end) (length before) (eqb at (g .start)) ≡ ok r → Rows d g (r .next) (keyOf d before r) more to last → A) → A
+      → ((r : RowRead) (more : List RowRead) → rowIn d g at (length before) ≡ ok r → Rows d g (r .next) (keyOf d before r) more to last → A) → A
   rows-first at before [] to last w h f = absurd (omega (arith, w .0))
   rows-first at before (r ∷ rs) to last w h f = f r rs (w .0) (w .1)
 
@@ -157,7 +157,7 @@ module _ (d : List ℕ) (g : Region) (stop : ℕ) (wanted : Key) where
     pub leads : Rows d g at before rows stop wanted
     pub room : length key ≤ length wanted
     -- what the next row shares is there
-    pub kept : (r : RowRead) → readRow d at (g .end) len (eqb at (g .start)) ≡ ok r → AgreesTo (r .shared) key before
+    pub kept : (r : RowRead) → rowIn d g at len ≡ ok r → AgreesTo (r .shared) key before
     pub whole : stop ≤ at → Agrees key before
 
   module _ (key : List ℕ) (at len : ℕ) (s : Filling key at len) where
@@ -169,9 +169,9 @@ module _ (d : List ℕ) (g : Region) (stop : ℕ) (wanted : Key) where
         ext-getD 0 key (take (length key) wanted) (sym n)
         λ i u. s .whole h i u (rw is (omega arith)) ∙ ap (λ (k : Key). getD k i 0) is ∙ sym (getD-take (length key) wanted i 0 u)
 
-    module _ (h : at < stop) (p : RowSpan) (e : p ≡ spanOf (readRow d at (g .end) len (eqb at (g .start)))) where
-      first : {A : Type 0} → ((r : RowRead) (more : List RowRead) → readRow d at (g .end) (length (s .before)) (eqb at (g .start)) ≡ ok r
-          → readRow d at (g .end) len (eqb at (g .start)) ≡ ok r → p ≡ spanIs (r .next) (r .shared) (r .suffixAt) (r .suffixLen)
+    module _ (h : at < stop) (p : RowSpan) (e : p ≡ spanOf (rowIn d g at len)) where
+      first : {A : Type 0} → ((r : RowRead) (more : List RowRead) → rowIn d g at (length (s .before)) ≡ ok r
+          → rowIn d g at len ≡ ok r → p ≡ spanIs (r .next) (r .shared) (r .suffixAt) (r .suffixLen)
           → Rows d g (r .next) (keyOf d (s .before) r) more stop wanted → A) → A
       first f =
           rows-first d g at (s .before) (s .rows) stop wanted (s .leads) h λ r more q w.
@@ -182,14 +182,14 @@ module _ (d : List ℕ) (g : Region) (stop : ℕ) (wanted : Key) where
       pub filling-read : {A : Type 0} → p .next ≡ 0 → A
       filling-read z =
           first λ r more q q′ is w.
-          let far = readRow-ends d at (g .end) len (eqb at (g .start)) r q′ .least in
+          let far = rowIn-ends d g at len r q′ .least in
           let n = ap (λ (x : RowSpan). x .next) is in
           absurd (omega arith)
 
       more : {ys : List ℕ} → ys ≡ clipped key (p .shared) (spanSuffix d p) → Filling ys (p .next) (p .shared + p .suffixLen)
       more y =
           first λ r rest q q′ is w.
-          let fits : r .shared ≤ length (s .before) = rw (s .long) (row-shares d at (g .end) len (eqb at (g .start)) r (readRow-ends d at (g .end) len (eqb at (g .start)) r q′)) in
+          let fits : r .shared ≤ length (s .before) = rw (s .long) (row-shares d at (g .end) len (eqb at (g .start)) r (rowIn-ends d g at len r q′)) in
           let all = agrees-clipped key (s .before) (suffixOf d r) (r .shared) fits (s .kept r q′) in
           rw (y, is)
           (record {

@@ -3,13 +3,13 @@ use Prim.Native.Nat.{ℕ, zero, suc}
 use mathlib.Core.Path.{_≡_}
 use mathlib.Core.Bool.{true, cond}
 use mathlib.Core.List.{List, [], _∷_, _++_, map}
-use lib.Dec.{ltb, eqb}
+use lib.Dec.{ltb}
 use lib.ListN.{length}
 use Rattle.layout.specs.Answer.{Res, ok, bind}
 use Rattle.layout.specs.Key.{Key, mayFollow}
 use Rattle.layout.specs.Row.{Row}
-use Rattle.layout.specs.RowRead.{readRow, keyOf, fieldsOf}
-use Rattle.layout.specs.Trailer.{Trailer, trailerOf, dataOf, Region, regionOf, allOffsets}
+use Rattle.layout.specs.RowRead.{keyOf, fieldsOf}
+use Rattle.layout.specs.Trailer.{Trailer, trailerOf, dataOf, Region, regionOf, allOffsets, rowIn}
 use Rattle.layout.specs.Cursor.{Keyed, keyed}
 
 -- the rows of a region from `at` on, after the key before; as many steps as there are bytes are enough
@@ -17,7 +17,7 @@ unfoldable pub regionRows : ℕ → List ℕ → Region → ℕ → Key → Res 
 regionRows zero d g at before = ok []
 regionRows (suc left) d g at before =
     cond (ltb at (g .end))
-    (bind (readRow d at (g .end) (length before) (eqb at (g .start))) λ r.
+    (bind (rowIn d g at (length before)) λ r.
     bind (regionRows left d g (r .next) (keyOf d before r)) λ more.
     ok (keyed r (keyOf d before r) ∷ more))
     (ok [])

@@ -2,12 +2,12 @@
 use Prim.Native.Nat.{ℕ, zero, suc, _+_}
 use mathlib.Core.Bool.{cond, not}
 use mathlib.Core.List.{List, []}
-use lib.Dec.{ltb, eqb}
+use lib.Dec.{ltb}
 use lib.ListN.{length}
 use Rattle.layout.specs.Answer.{Res, ok, bind, guard}
 use Rattle.layout.specs.Key.{Key, mayFollow}
-use Rattle.layout.specs.RowRead.{RowRead, readRow, keyOf}
-use Rattle.layout.specs.Trailer.{Trailer, trailerOf, dataOf, Region, regionOf, allOffsets}
+use Rattle.layout.specs.RowRead.{RowRead, keyOf}
+use Rattle.layout.specs.Trailer.{Trailer, trailerOf, dataOf, Region, regionOf, allOffsets, rowIn}
 
 -- how far the check has come: the place of the next row, its region, the key before it, and the rows passed
 pub record Passed : Type 0 where
@@ -26,7 +26,7 @@ passedRow d p g r = passedIs (r .next) (cond (ltb (r .next) (g .end)) (p .region
 unfoldable pub checkRow : List ℕ → Trailer → Passed → Res Passed
 checkRow b t p =
     bind (regionOf b t (p .region)) λ g.
-    bind (readRow (dataOf b t) (p .at) (g .end) (length (p .before)) (eqb (p .at) (g .start))) λ r.
+    bind (rowIn (dataOf b t) g (p .at) (length (p .before))) λ r.
     guard (not (mayFollow (p .before) (keyOf (dataOf b t) (p .before) r))) 17
     (ok (passedRow (dataOf b t) p g r))
 

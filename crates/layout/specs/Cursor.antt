@@ -8,8 +8,8 @@ use Rattle.layout.specs.Answer.{Res, ok, refuse, bind, guard}
 use Rattle.layout.specs.Limits.{maxKey}
 use Rattle.layout.specs.Place.{splice}
 use Rattle.layout.specs.Key.{Key}
-use Rattle.layout.specs.RowRead.{RowRead, readRow, keyLength, keyOf}
-use Rattle.layout.specs.Trailer.{Trailer, trailerOf, dataOf, Region, regionOf, allOffsets}
+use Rattle.layout.specs.RowRead.{RowRead, keyLength, keyOf}
+use Rattle.layout.specs.Trailer.{Trailer, trailerOf, dataOf, Region, regionOf, allOffsets, rowIn}
 
 pub data Direction : Type 0 where
   ascending descending : Direction
@@ -77,7 +77,7 @@ stepUp c b t room =
     guard (ltb (c .at) (g .start)) 18
     (guard (ltb (g .reach) (c .at)) 18
     (cond (eqb (c .at) (g .end)) (ok (stepIs (marked c) done))
-    (bind (readRow (dataOf b t) (c .at) (g .end) (c .keyLen) (eqb (c .at) (g .start))) λ r.
+    (bind (rowIn (dataOf b t) g (c .at) (c .keyLen)) λ r.
     give room r (keyOf (dataOf b t) (c .key) r) (pastRow c g r (keyOf (dataOf b t) (c .key) r)))))
 
 -- a row that was read, and its full key
@@ -93,7 +93,7 @@ keyed r k = record { row = r; key = k }
 unfoldable pub rowEndingAt : ℕ → List ℕ → Region → ℕ → ℕ → Key → Res Keyed
 rowEndingAt zero d g stop at before = refuse 18
 rowEndingAt (suc left) d g stop at before =
-    bind (readRow d at (g .end) (length before) (eqb at (g .start))) λ r.
+    bind (rowIn d g at (length before)) λ r.
     cond (ltb (r .next) stop) (rowEndingAt left d g stop (r .next) (keyOf d before r))
     (guard (ltb stop (r .next)) 18
     (ok (keyed r (keyOf d before r))))

@@ -2,12 +2,12 @@
 use Prim.Native.Nat.{ℕ, zero, suc, _+_, _-_, _/_}
 use mathlib.Core.Bool.{Bool, true, false, cond}
 use mathlib.Core.List.{List, []}
-use lib.Dec.{ltb, eqb}
+use lib.Dec.{ltb}
 use lib.ListN.{length}
 use Rattle.layout.specs.Answer.{Res, ok, refuse, bind}
 use Rattle.layout.specs.Key.{Key, below, same}
-use Rattle.layout.specs.RowRead.{readRow, readKey, keyOf, joined}
-use Rattle.layout.specs.Trailer.{Trailer, trailerOf, dataOf, Region, regionOf}
+use Rattle.layout.specs.RowRead.{readKey, keyOf, joined}
+use Rattle.layout.specs.Trailer.{Trailer, trailerOf, dataOf, Region, regionOf, rowIn}
 use Rattle.layout.specs.Cursor.{Direction, ascending, descending, Cursor, cursorIs}
 
 -- ---- the search
@@ -66,7 +66,7 @@ unfoldable pub walkRegion : ℕ → List ℕ → Region → Key → ℕ → Key 
 walkRegion zero d g target at before = ok (stopIs at before)
 walkRegion (suc left) d g target at before =
     cond (ltb at (g .end))
-    (bind (readRow d at (g .end) (length before) (eqb at (g .start))) λ r.
+    (bind (rowIn d g at (length before)) λ r.
     cond (below (keyOf d before r) target) (walkRegion left d g target (r .next) (keyOf d before r))
     (ok (stopIs at before)))
     (ok (stopIs at before))
@@ -110,7 +110,7 @@ unfoldable pub lastAtOrBelow : ℕ → List ℕ → Region → Key → ℕ → K
 lastAtOrBelow zero d g target at before best = ok best
 lastAtOrBelow (suc left) d g target at before best =
     cond (ltb at (g .end))
-    (bind (readRow d at (g .end) (length before) (eqb at (g .start))) λ r.
+    (bind (rowIn d g at (length before)) λ r.
     lastAtOrBelow left d g target (r .next) (keyOf d before r) (cond (below target (keyOf d before r)) best (r .next)))
     (ok best)
 

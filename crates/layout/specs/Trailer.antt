@@ -6,6 +6,7 @@ use lib.Dec.{ltb, leb, eqb}
 use lib.ListN.{length, take, drop}
 use Rattle.layout.specs.Answer.{Res, ok, guard}
 use Rattle.layout.specs.Fixed.{unbig}
+use Rattle.layout.specs.RowRead.{RowRead, readRow}
 
 -- two bytes, high byte first
 unfoldable pub shortAt : List ℕ → ℕ → ℕ
@@ -75,3 +76,7 @@ regionOf b t r =
     (guard (leb (t .size) (offsetAt b t (r + 1))) 15
     (ok (regionIs (offsetAt b t r) (offsetAt b t (r + 1)) (offsetAt b t (r + 1) - 1)))))
     (ok (regionIs (offsetAt b t r) (t .size) (t .size)))))
+
+-- the next row of a region, after a key of `prevLen` bytes: at the region's start it is a restart
+abbrev pub rowIn : List ℕ → Region → ℕ → ℕ → Res RowRead
+rowIn d g at prevLen = readRow d at (g .end) prevLen (eqb at (g .start))

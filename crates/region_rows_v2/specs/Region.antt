@@ -14,8 +14,8 @@ use Rattle.layout.specs.Limits.{maxKey}
 use Rattle.layout.specs.Key.{Key}
 use Rattle.layout.specs.Place.{splice}
 use Rattle.layout.specs.Plain.{Plain, plainAt, plainRead}
-use Rattle.layout.specs.RowRead.{mayShare, readRow, RowRead, keyOf}
-use Rattle.layout.specs.Trailer.{trailerIs, Region}
+use Rattle.layout.specs.RowRead.{mayShare, RowRead, keyOf}
+use Rattle.layout.specs.Trailer.{trailerIs, Region, rowIn}
 use Rattle.layout.specs.Cursor.{Cursor, found, stepIs, pastRow, next}
 use Rattle.layout.specs.Laws.Carry.{Carries, read-carried, keyOf-length, suffixOf, key-parts, key-new}
 use Rattle.layout.specs.Laws.Plain.{PlainTells, plainAt-tells, fixedAt-is}
@@ -56,7 +56,7 @@ module _ (b : List ℕ) (size : ℕ) (g : Region) (p : Place) (key : List ℕ) (
   pub here-tells : PlainTells (take size b) (p .at) (g .end) most r
   here-tells = rw (← e) at (plainAt-tells (take size b) (p .at) (g .end) most (rw (← e) (omega arith)))
 
-  here-read : readRow (take size b) (p .at) (g .end) (p .«key_len») (eqb (p .at) (g .start)) ≡ ok rowHere
+  here-read : rowIn (take size b) g (p .at) (p .«key_len») ≡ ok rowHere
   here-read = plain-reads (take size b) (p .at) (g .end) (p .«key_len») (g .start) r m e (omega arith)
 
   pub here-step : (room : ℕ) → r .shared + r .unshared ≤ room → next (viewIn p key) b room ≡ ok (stepIs (pastRow (viewIn p key) g rowHere keyHere) (found rowHere keyHere))

@@ -12,13 +12,13 @@ use borrow.Author.Tests.{ltb-false}
 use Rattle.layout.specs.Answer.{ok}
 use Rattle.layout.specs.Limits.{maxKey}
 use Rattle.layout.specs.Key.{Key}
-use Rattle.layout.specs.RowRead.{RowRead, readRow, keyLength, keyOf}
-use Rattle.layout.specs.Trailer.{Trailer, trailerOf, dataOf, Region, regionOf}
+use Rattle.layout.specs.RowRead.{RowRead, keyLength, keyOf}
+use Rattle.layout.specs.Trailer.{Trailer, trailerOf, dataOf, Region, regionOf, rowIn}
 use Rattle.layout.specs.Cursor.{Direction, ascending, descending, Cursor, Answer, found, done, Step, stepIs, stepUp, Keyed, keyed, rowEndingAt, stepBackIn, stepDown, stepAlong, next}
 use Rattle.layout.specs.Laws.Answer.{bind-then, guard-then, cond-ok, ok-inj}
 use Rattle.layout.specs.Laws.Carry.{keyOf-length}
 use Rattle.layout.specs.Laws.Cursor.{ended}
-use Rattle.layout.specs.Laws.Tells.{readRow-ends}
+use Rattle.layout.specs.Laws.Tells.{rowIn-ends}
 
 pub record KeyedWell (room : ℕ) (r : RowRead) (key : Key) : Type 0 where
   pub some : 1 ≤ keyLength r
@@ -35,13 +35,13 @@ ended-some : (left : ℕ) (d : List ℕ) (g : Region) (stop at : ℕ) (before : 
 unfolding rowEndingAt
 ended-some zero d g stop at before k e = absurd (let z : _≡_ {A = ℕ} 0 1 = cc in omega arith)
 ended-some (suc left) d g stop at before k e =
-    bind-then (readRow d at (g .end) (length before) (eqb at (g .start))) _ k e λ r p q.
+    bind-then (rowIn d g at (length before)) _ k e λ r p q.
     ⊎-elim
     (λ t. ended-some left d g stop (r .next) (keyOf d before r) k (t .1))
     (λ t.
     guard-then (ltb stop (r .next)) 18 _ k (t .1) λ _ v.
     let is : keyed r (keyOf d before r) ≡ k = ok-inj v in
-    rw (← is) (readRow-ends d at (g .end) (length before) (eqb at (g .start)) r p .some))
+    rw (← is) (rowIn-ends d g at (length before) r p .some))
     (cond-ok (ltb (r .next) stop) _ _ k q)
 
 module _ (c : Cursor) (s : Step) where
@@ -57,19 +57,19 @@ module _ (c : Cursor) (s : Step) where
         guard-then (ltb (g .reach) (c .at)) 18 _ s f λ _ f.
         ⊎-elim (λ w. given-of room (w .1) (refl, refl))
         (λ w.
-        bind-then (readRow (dataOf b t) (c .at) (g .end) (c .keyLen) (eqb (c .at) (g .start))) _ s (w .1) λ r p f.
+        bind-then (rowIn (dataOf b t) g (c .at) (c .keyLen)) _ s (w .1) λ r p f.
         guard-then (ltb room (keyLength r)) 19 _ s f λ l f. given-of room f (keyed-up g r p (ltb-false room (keyLength r) l)))
         (cond-ok (eqb (c .at) (g .end)) _ _ s f)
       where
-        keyed-up : (g : Region) (r : RowRead) → readRow (dataOf b t) (c .at) (g .end) (c .keyLen) (eqb (c .at) (g .start)) ≡ ok r → keyLength r ≤ room
+        keyed-up : (g : Region) (r : RowRead) → rowIn (dataOf b t) g (c .at) (c .keyLen) ≡ ok r → keyLength r ≤ room
             → KeyedWell room r (keyOf (dataOf b t) (c .key) r)
         keyed-up g r p l =
-            let w = readRow-ends (dataOf b t) (c .at) (g .end) (c .keyLen) (eqb (c .at) (g .start)) r p in
+            let w = rowIn-ends (dataOf b t) g (c .at) (c .keyLen) r p in
             record {
               some = w .some;
               fits = w .fits;
               held = l;
-              whole = keyOf-length (dataOf b t) (c .at) (g .end) (c .key) (eqb (c .at) (g .start)) r (ap (λ (n : ℕ). readRow (dataOf b t) (c .at) (g .end) n (eqb (c .at) (g .start))) long ∙ p);
+              whole = keyOf-length (dataOf b t) (c .at) (g .end) (c .key) (eqb (c .at) (g .start)) r (ap (λ (n : ℕ). rowIn (dataOf b t) g (c .at) n) long ∙ p);
             }
 
     back-given : (region : ℕ) (g : Region) → stepBackIn c b t room region g ≡ ok s → GivenWell room c (s .cursor) (s .answer)

@@ -3,12 +3,11 @@ use Prim.Native.Nat.{ℕ, _≤_, _<_}
 use mathlib.Core.Bool.{true, false}
 use mathlib.Core.List.{List}
 use mathlib.Core.Path.{_≡_}
-use lib.Dec.{eqb}
 use lib.ListN.{length}
 use Rattle.layout.specs.Answer.{Res, ok, refuse}
 use Rattle.layout.specs.Limits.{maxKey}
-use Rattle.layout.specs.RowRead.{RowRead as RowReadL, readRow, keyLength, keyOf}
-use Rattle.layout.specs.Trailer.{Trailer as TrailerL, trailerOf, dataOf, Region as RegionL}
+use Rattle.layout.specs.RowRead.{RowRead as RowReadL, keyLength, keyOf}
+use Rattle.layout.specs.Trailer.{Trailer as TrailerL, trailerOf, dataOf, Region as RegionL, rowIn}
 use Rattle.layout.specs.Cursor.{Direction, Cursor, marked, found, done, Step, stepIs, pastRow, stepUp, stepBackIn, stepDown}
 use Rattle.basics.specs.Number.{number}
 use Rattle.basics.specs.Says.{saysOrder}
@@ -75,7 +74,7 @@ saysAhead c d (AheadRefused r) = refuse (number r)
 
 -- a row that was read after the carried key, and whose key the lent buffer holds
 pub record Fits (p : Place) (d : List ℕ) (g : RegionL) (room : ℕ) (r : RowReadL) : Type 0 where
-  pub read : readRow d (p .at) (g .end) (p .«key_len») (eqb (p .at) (g .start)) ≡ ok r
+  pub read : rowIn d g (p .at) (p .«key_len») ≡ ok r
   pub held : keyLength r ≤ room
 
 abbrev pub Ready : Place → List ℕ → ℕ → Ahead → Type 0

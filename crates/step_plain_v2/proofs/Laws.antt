@@ -15,8 +15,8 @@ use Rattle.layout.specs.Limits.{maxKey}
 use Rattle.layout.specs.Fixed.{unbig}
 use Rattle.layout.specs.Place.{NumAt, splice}
 use Rattle.layout.specs.Key.{Key}
-use Rattle.layout.specs.RowRead.{RowRead, readRow, mayShare, keyOf}
-use Rattle.layout.specs.Trailer.{Trailer, trailerOf, dataOf, Region, regionOf}
+use Rattle.layout.specs.RowRead.{RowRead, mayShare, keyOf}
+use Rattle.layout.specs.Trailer.{Trailer, trailerOf, dataOf, Region, regionOf, rowIn}
 use Rattle.layout.specs.Plain.{Plain, plainAt, plainRead}
 use Rattle.layout.specs.Cursor.{ascending, Cursor, cursorIs, found, Step, stepIs, pastRow, next}
 use Rattle.layout.specs.Laws.Answer.{ok-inj, bool-cases, ltb-cases, eqb-cases, cond-ok}
@@ -239,7 +239,7 @@ module _ (b : List ℕ) (region at keyLen : ℕ) (key out : List ℕ) {a : Ahead
         gives = s .fits;
       })
 
-  row : readRow d at (s .g .end) keyLen (eqb at (s .g .start)) ≡ ok r
+  row : rowIn d (s .g) at keyLen ≡ ok r
   row = sym (plain-read d at (s .g .end) keyLen (eqb at (s .g .start)) (s .p) (s .plain))
 
   wanted : next c b (length out) ≡ ok (stepIs (pastRow c (s .g) r k) (found r k))

@@ -22,7 +22,7 @@ use Rattle.demands.specs.Rows.{Rows}
 use Rattle.demands.specs.Demand2.{has-rows}
 use Rattle.layout.specs.Laws.Answer.{bind-then, guard-then, ok-inj}
 use Rattle.demands.specs.Laws.Reads.{RegionIs, over, more, region-is, RegionsAre, next, regions-are, regions-none, allRows-none, allRows-next}
-use Rattle.layout.specs.Laws.Tells.{headAt-tells, bodyAt-tells, timesAt-ends, RowTells, rowAt-tells, readRow-ends}
+use Rattle.layout.specs.Laws.Tells.{headAt-tells, bodyAt-tells, timesAt-ends, RowTells, rowAt-tells, rowIn-ends}
 use Rattle.layout.specs.Laws.Trailer.{regionOf-tells, trailerOf-tells}
 use Rattle.tally.specs.declared.Tally.{Tally}
 use Rattle.tally.specs.Tally.{zeroTally, largest, counted, countedRows, blockRows, tallyBlock}
@@ -108,7 +108,7 @@ region-weight (suc left) d g at before ks e h = go ks (region-is left d g at bef
     go ks (over w) ih = omega arith
     go ks (more r qs w p u) ih =
         let takes = row-takes d at (g .end) (length before) (eqb at (g .start)) r p in
-        let rest = ih (r .next) (keyOf d before r) qs u (readRow-ends d at (g .end) (length before) (eqb at (g .start)) r p .within) in
+        let rest = ih (r .next) (keyOf d before r) qs u (rowIn-ends d g at (length before) r p .within) in
         omega (arith, takes, rest)
 
 -- from the first byte of a region on, the rows of it and of all regions after it take no more than the data has

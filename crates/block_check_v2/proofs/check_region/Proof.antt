@@ -11,8 +11,8 @@ use lib.Seq.{length-take-le}
 use borrow.Author.Needs.{needs}
 use Rattle.layout.specs.Answer.{ok}
 use Rattle.layout.specs.Plain.{RowSpan}
-use Rattle.layout.specs.RowRead.{readRow, RowRead as RowReadL}
-use Rattle.layout.specs.Trailer.{Trailer, trailerOf, dataOf, regionOf}
+use Rattle.layout.specs.RowRead.{RowRead as RowReadL}
+use Rattle.layout.specs.Trailer.{Trailer, trailerOf, dataOf, regionOf, rowIn}
 use Rattle.layout.specs.Laws.Tells.{RowEnds, readRow-ends, row-shares}
 use Rattle.layout.specs.Laws.Trailer.{trailerOf-tells}
 use Rattle.basics.specs.Answers.{yes, no}
@@ -72,13 +72,13 @@ module _ (n : tie.Else2 Inv-loop μ-loop) where
   abbrev span : RowSpan
   span = spanFrom (n .before .before .span-at .result)
 
-  known : (r : RowReadL) × (readRow rows (turn .loop .at) (g turn .end) (turn .loop .key-len) (eqb (turn .loop .at) (g turn .start)) ≡ ok (spanned r span))
+  known : (r : RowReadL) × (rowIn rows (g turn) (turn .loop .at) (turn .loop .key-len) ≡ ok (spanned r span))
   known = span-known _ _ _ _ _ span (n .before .before .span-at .ensures) (n .if2 .left)
 
   abbrev row : RowReadL
   row = spanned (known .0) span
 
-  read : readRow rows (turn .loop .at) (g turn .end) (turn .loop .key-len) (eqb (turn .loop .at) (g turn .start)) ≡ ok row
+  read : rowIn rows (g turn) (turn .loop .at) (turn .loop .key-len) ≡ ok row
   read = known .1
 
   told : RowEnds rows (turn .loop .at) (g turn .end) (turn .loop .key-len) (eqb (turn .loop .at) (g turn .start)) row

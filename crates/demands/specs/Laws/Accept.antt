@@ -8,19 +8,19 @@ use mathlib.Core.Logic.{_⊎_, ⊎-elim, inl, inr}
 use native.Mathlib.Omega.{arith}
 use native.Mathlib.Numerals.{add-one}
 use native.Mathlib.Nat.{zero-add}
-use lib.Dec.{ltb, eqb}
+use lib.Dec.{ltb}
 use lib.ListN.{length}
 use borrow.Author.Tests.{lt-ltb, le-ltb, eq-eqb, not-false}
 use Rattle.layout.specs.Answer.{ok, bind}
 use Rattle.layout.specs.Key.{Key, mayFollow}
 use Rattle.layout.specs.RowRead.{RowRead, readRow, rowAt, headAt, keyOf}
-use Rattle.layout.specs.Trailer.{Trailer, trailerOf, dataOf, Region, regionOf, allOffsets}
+use Rattle.layout.specs.Trailer.{Trailer, trailerOf, dataOf, Region, regionOf, allOffsets, rowIn}
 use Rattle.layout.specs.Check.{Passed, passedIs, passedRow, checkRow, checkFrom, check}
 use Rattle.layout.specs.Cursor.{Keyed, keyed}
 use Rattle.demands.specs.Reads.{regionRows, regionsRows, allRows, NeverFall, Accepts}
 use Rattle.layout.specs.Laws.Answer.{bind-then, guard-then, ok-inj, ltb-cases}
 use Rattle.layout.specs.Laws.Trailer.{regionOf-tells, trailerOf-tells, OffsetsTell, allOffsets-tell, region-good}
-use Rattle.layout.specs.Laws.Tells.{readRow-ends}
+use Rattle.layout.specs.Laws.Tells.{readRow-ends, rowIn-ends}
 use Rattle.demands.specs.Laws.Reads.{region-at, region-cons, region-over, region-more, RegionsAre, next as next-region, regions-are, regions-cons, allRows-none, allRows-next}
 
 -- at a restart the key before is not used: neither its length nor its bytes
@@ -46,12 +46,12 @@ pub record Stands (b : List ℕ) (t : Trailer) (g : Region) (at region : ℕ) (b
 
 -- the read of the next row does not tell the two apart
 same-row : (b : List ℕ) (t : Trailer) (g : Region) (at region : ℕ) (before carried : Key) → Stands b t g at region before carried
-    → readRow (dataOf b t) at (g .end) (length before) (eqb at (g .start)) ≡ readRow (dataOf b t) at (g .end) (length carried) (eqb at (g .start))
+    → rowIn (dataOf b t) g at (length before) ≡ rowIn (dataOf b t) g at (length carried)
 same-row b t g at region before carried s =
     ⊎-elim (λ e. rw (eq-eqb at (g .start) e) (restart-read (dataOf b t) at (g .end) (length before) (length carried))) (λ e. rw e) (s .carries)
 
 same-key : (b : List ℕ) (t : Trailer) (g : Region) (at region : ℕ) (before carried : Key) (r : RowRead) → Stands b t g at region before carried
-    → readRow (dataOf b t) at (g .end) (length carried) (eqb at (g .start)) ≡ ok r → keyOf (dataOf b t) before r ≡ keyOf (dataOf b t) carried r
+    → rowIn (dataOf b t) g at (length carried) ≡ ok r → keyOf (dataOf b t) before r ≡ keyOf (dataOf b t) carried r
 same-key b t g at region before carried r s e =
     ⊎-elim (λ q. restart-key (dataOf b t) at (g .end) (length carried) before carried r (ap (readRow (dataOf b t) at (g .end) (length carried)) (sym (eq-eqb at (g .start) q)) ∙ e)) (λ q. rw q)
     (s .carries)
@@ -63,9 +63,9 @@ pub data Next (b : List ℕ) (t : Trailer) (g : Region) (at region : ℕ) (key :
   end : at ≡ g .end → t .size ≤ at → t .count ≤ region + 1 → Next b t g at region key (region + 1)
 
 pub past-row : (b : List ℕ) (t : Trailer) (offs : OffsetsTell b t) (g : Region) (at region : ℕ) (before carried : Key) (r : RowRead) (key : Key) → Stands b t g at region before carried
-    → readRow (dataOf b t) at (g .end) (length carried) (eqb at (g .start)) ≡ ok r → Next b t g (r .next) region key (cond (ltb (r .next) (g .end)) region (region + 1))
+    → rowIn (dataOf b t) g at (length carried) ≡ ok r → Next b t g (r .next) region key (cond (ltb (r .next) (g .end)) region (region + 1))
 past-row b t offs g at region before carried r key s e =
-    let w = readRow-ends (dataOf b t) at (g .end) (length carried) (eqb at (g .start)) r e in
+    let w = rowIn-ends (dataOf b t) g at (length carried) r e in
     let tells = regionOf-tells b t region g (s .used) in
     ⊎-elim
     (λ c.
@@ -99,10 +99,10 @@ pub record Covers (b : List ℕ) (t : Trailer) (g : Region) (at region : ℕ) (b
 module _ (b : List ℕ) (t : Trailer) (offs : OffsetsTell b t) where
   -- the row r, then what follows it
   pub first-here : (g : Region) (at region : ℕ) (before carried : Key) (r : RowRead) (key : Key) (ks : List Keyed) → Stands b t g at region before carried
-      → readRow (dataOf b t) at (g .end) (length carried) (eqb at (g .start)) ≡ ok r → keyOf (dataOf b t) carried r ≡ key → regionRows (t .size) (dataOf b t) g (r .next) key ≡ ok ks
+      → rowIn (dataOf b t) g at (length carried) ≡ ok r → keyOf (dataOf b t) carried r ≡ key → regionRows (t .size) (dataOf b t) g (r .next) key ≡ ok ks
       → regionRows (t .size) (dataOf b t) g at carried ≡ ok (keyed r key ∷ ks)
   first-here g at region before carried r key ks s e k p =
-      let w = readRow-ends (dataOf b t) at (g .end) (length carried) (eqb at (g .start)) r e in
+      let w = rowIn-ends (dataOf b t) g at (length carried) r e in
       let tells = regionOf-tells b t region g (s .used) in
       region-more (t .size) (suc (t .size)) (dataOf b t) g at carried (omega (arith, tells .inside)) (omega (arith, tells .inside))
       ∙ region-cons (t .size) (dataOf b t) g at carried r ks (s .high) e (ap (regionRows (t .size) (dataOf b t) g (r .next)) k ∙ p)
@@ -127,15 +127,15 @@ module _ (b : List ℕ) (t : Trailer) (offs : OffsetsTell b t) where
   -- one step of the fold
   checked-row : (g : Region) (at region rows : ℕ) (before carried : Key) (q : Passed) → Stands b t g at region before carried → checkRow b t (passedIs at region before rows) ≡ ok q
       → {A : Type 0}
-      → ((r : RowRead) → readRow (dataOf b t) at (g .end) (length carried) (eqb at (g .start)) ≡ ok r → mayFollow before (keyOf (dataOf b t) carried r) ≡ true
+      → ((r : RowRead) → rowIn (dataOf b t) g at (length carried) ≡ ok r → mayFollow before (keyOf (dataOf b t) carried r) ≡ true
       → passedIs (r .next) (cond (ltb (r .next) (g .end)) region (region + 1)) (keyOf (dataOf b t) carried r) (rows + 1) ≡ q → A) → A
   unfolding checkRow
   checked-row g at region rows before carried q s e k =
       bind-then (regionOf b t region) _ q e λ h u e₁.
       let same : g ≡ h = ok-inj (sym (s .used) ∙ u) in
-      bind-then (readRow (dataOf b t) at (h .end) (length before) (eqb at (h .start))) _ q e₁ λ r p e₂.
+      bind-then (rowIn (dataOf b t) h at (length before)) _ q e₁ λ r p e₂.
       guard-then (not (mayFollow before (keyOf (dataOf b t) before r))) 17 _ q e₂ λ m e₃.
-      let p′ : readRow (dataOf b t) at (g .end) (length before) (eqb at (g .start)) ≡ ok r = rw same p in
+      let p′ : rowIn (dataOf b t) g at (length before) ≡ ok r = rw same p in
       let p″ = sym (same-row b t g at region before carried s) ∙ p′ in
       let key = same-key b t g at region before carried r s p″ in
       let w : passedRow (dataOf b t) (passedIs at region before rows) h r ≡ q = ok-inj e₃ in
@@ -165,14 +165,14 @@ module _ (b : List ℕ) (t : Trailer) (offs : OffsetsTell b t) where
       size : g .end ≤ t .size
       size = regionOf-tells b t region g (s .used) .inside
 
-      go : (r : RowRead) → readRow (dataOf b t) at (g .end) (length carried) (eqb at (g .start)) ≡ ok r → mayFollow before (keyOf (dataOf b t) carried r) ≡ true
+      go : (r : RowRead) → rowIn (dataOf b t) g at (length carried) ≡ ok r → mayFollow before (keyOf (dataOf b t) carried r) ≡ true
           → (region′ : ℕ) → checkFrom left b t (passedIs (r .next) region′ (keyOf (dataOf b t) carried r) (rows + 1)) ≡ ok total
           → Next b t g (r .next) region (keyOf (dataOf b t) carried r) region′
           → ((g : Region) (at region rows : ℕ) (before carried : Key) (total : ℕ) → Stands b t g at region before carried → t .size ≤ at + left
           → checkFrom left b t (passedIs at region before rows) ≡ ok total → Covers b t g at region before carried rows total)
           → Covers b t g at region before carried rows total
       go r u m region′ e (stay s′) ih =
-          let on = readRow-ends (dataOf b t) at (g .end) (length carried) (eqb at (g .start)) r u .least in
+          let on = rowIn-ends (dataOf b t) g at (length carried) r u .least in
           let key : Key = keyOf (dataOf b t) carried r in
           let c = ih g (r .next) region (rows + 1) (keyOf (dataOf b t) carried r) (keyOf (dataOf b t) carried r) total s′ (omega arith) e in
           record {
@@ -184,7 +184,7 @@ module _ (b : List ℕ) (t : Trailer) (offs : OffsetsTell b t) where
             many = omega (arith, c .many);
           }
       go r u m region′ e (enter f at-end here s′) ih =
-          let on = readRow-ends (dataOf b t) at (g .end) (length carried) (eqb at (g .start)) r u .least in
+          let on = rowIn-ends (dataOf b t) g at (length carried) r u .least in
           let c = ih f (r .next) (region + 1) (rows + 1) (keyOf (dataOf b t) carried r) [] total s′ (omega arith) e in
           let rows-next : regionRows (t .size) (dataOf b t) f (f .start) [] ≡ ok (c .here) = ap (λ (n : ℕ). regionRows (t .size) (dataOf b t) f n []) (sym here) ∙ c .rows-here in
           record {
@@ -208,7 +208,7 @@ module _ (b : List ℕ) (t : Trailer) (offs : OffsetsTell b t) where
 
   -- and back: rows that are read, in order, are accepted
   passes-row : (g : Region) (at region rows : ℕ) (before carried : Key) (r : RowRead) → Stands b t g at region before carried
-      → readRow (dataOf b t) at (g .end) (length carried) (eqb at (g .start)) ≡ ok r → mayFollow before (keyOf (dataOf b t) carried r) ≡ true
+      → rowIn (dataOf b t) g at (length carried) ≡ ok r → mayFollow before (keyOf (dataOf b t) carried r) ≡ true
       → checkRow b t (passedIs at region before rows) ≡ ok (passedIs (r .next) (cond (ltb (r .next) (g .end)) region (region + 1)) (keyOf (dataOf b t) carried r) (rows + 1))
   unfolding checkRow
   passes-row g at region rows before carried r s u m =
@@ -222,7 +222,7 @@ module _ (b : List ℕ) (t : Trailer) (offs : OffsetsTell b t) where
       region-at (t .size) (dataOf b t) g at carried here p (omega (arith, size))
       (λ over none. absurd (omega (arith, s .high)))
       (λ r ks m lt u more enough is.
-      let w = readRow-ends (dataOf b t) at (g .end) (length carried) (eqb at (g .start)) r u in
+      let w = rowIn-ends (dataOf b t) g at (length carried) r u in
       let more′ : regionRows (t .size) (dataOf b t) g (r .next) (keyOf (dataOf b t) carried r) ≡ ok ks =
       region-more (t .size) m (dataOf b t) g (r .next) (keyOf (dataOf b t) carried r) (omega (arith, size)) enough ∙ more in
       let o′ : NeverFall before (keyed r (keyOf (dataOf b t) carried r) ∷ (ks ++ allRows rest)) = rw is at o in

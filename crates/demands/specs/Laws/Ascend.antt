@@ -12,13 +12,13 @@ use lib.ListN.{length}
 use Rattle.layout.specs.Answer.{Res, ok, refuse}
 use Rattle.layout.specs.Limits.{maxKey}
 use Rattle.layout.specs.Key.{Key}
-use Rattle.layout.specs.RowRead.{RowRead, readRow, keyLength, keyOf}
-use Rattle.layout.specs.Trailer.{Trailer, trailerOf, dataOf, offsetAt, Region, regionOf}
+use Rattle.layout.specs.RowRead.{RowRead, keyLength, keyOf}
+use Rattle.layout.specs.Trailer.{Trailer, trailerOf, dataOf, offsetAt, Region, regionOf, rowIn}
 use Rattle.layout.specs.Cursor.{ascending, Cursor, cursorIs, marked, opened, Keyed, keyed, found, done, stepIs, pastRow, stepUp, next}
 use Rattle.demands.specs.Reads.{regionRows, regionsRows, Reads, allRows}
 use Rattle.layout.specs.Laws.Answer.{ltb-cases}
 use Rattle.layout.specs.Laws.Trailer.{RegionTells, regionOf-tells, trailerOf-tells, OffsetsTell, allOffsets-tell}
-use Rattle.layout.specs.Laws.Tells.{RowEnds, readRow-ends}
+use Rattle.layout.specs.Laws.Tells.{RowEnds, rowIn-ends}
 use Rattle.layout.specs.Laws.Carry.{keyOf-length}
 use Rattle.layout.specs.Laws.Cursor.{next-up, next-marked, up-done, up-found, up-short}
 use Rattle.demands.specs.Laws.Reads.{region-at, region-over, RegionsAre, next as next-region, regions-are, regions-none, allRows-none, allRows-next}
@@ -100,13 +100,13 @@ module _ (b : List ℕ) (t : Trailer) (c : Cursor) (room : ℕ) where
     pub then-before : Before b t moved rows
 
   in-gives : (here : List Keyed) (rest : List (List Keyed)) (i : InRegion b t c here rest) (r : RowRead) (qs : List Keyed) (m : ℕ) → c .at < i .g .end
-      → readRow (dataOf b t) (c .at) (i .g .end) (length (c .key)) (eqb (c .at) (i .g .start)) ≡ ok r
+      → rowIn (dataOf b t) (i .g) (c .at) (length (c .key)) ≡ ok r
       → regionRows m (dataOf b t) (i .g) (r .next) (keyOf (dataOf b t) (c .key) r) ≡ ok qs → i .g .end ≤ r .next + m
       → Gives (keyed r (keyOf (dataOf b t) (c .key) r)) (qs ++ allRows rest)
   in-gives here rest i r qs m h p u n =
-      let w = readRow-ends (dataOf b t) (c .at) (i .g .end) (length (c .key)) (eqb (c .at) (i .g .start)) r p in
+      let w = rowIn-ends (dataOf b t) (i .g) (c .at) (length (c .key)) r p in
       let ne : c .at ≡ i .g .end → ⊥ = λ z. absurd (omega arith) in
-      let p′ : readRow (dataOf b t) (c .at) (i .g .end) (c .keyLen) (eqb (c .at) (i .g .start)) ≡ ok r = rw (i .whole) p in
+      let p′ : rowIn (dataOf b t) (i .g) (c .at) (c .keyLen) ≡ ok r = rw (i .whole) p in
       record {
         moved = pastRow c (i .g) r (keyOf (dataOf b t) (c .key) r);
         fits-key = w .fits;

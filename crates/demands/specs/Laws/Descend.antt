@@ -6,29 +6,28 @@ use mathlib.Core.Bool.{false}
 use mathlib.Core.List.{List, [], _∷_, _++_, append-assoc, append-nil}
 use native.Mathlib.Nat.{zero-add}
 use native.Mathlib.Omega.{arith}
-use lib.Dec.{eqb}
 use lib.ListN.{length, length-append}
 use borrow.Author.Tests.{lt-ltb, le-ltb}
 use Rattle.layout.specs.Answer.{ok, refuse}
 use Rattle.layout.specs.Limits.{maxKey}
 use Rattle.layout.specs.Key.{Key}
-use Rattle.layout.specs.RowRead.{RowRead, readRow, keyLength, keyOf}
-use Rattle.layout.specs.Trailer.{Trailer, trailerOf, dataOf, offsetAt, Region, regionOf}
+use Rattle.layout.specs.RowRead.{RowRead, keyLength, keyOf}
+use Rattle.layout.specs.Trailer.{Trailer, trailerOf, dataOf, offsetAt, Region, regionOf, rowIn}
 use Rattle.layout.specs.Cursor.{descending, Cursor, marked, opened, Keyed, keyed, found, done, stepIs, rowEndingAt, backPast, stepBackIn, stepDown, next}
 use Rattle.demands.specs.Reads.{regionRows, regionsRows, Reads, allRows}
 use Rattle.layout.specs.Laws.Trailer.{regionOf-tells, trailerOf-tells}
-use Rattle.layout.specs.Laws.Tells.{readRow-ends}
+use Rattle.layout.specs.Laws.Tells.{rowIn-ends}
 use Rattle.layout.specs.Laws.Cursor.{next-down, down-done, down-before-in, down-in, back-found, back-short, ended}
 use Rattle.demands.specs.Laws.Reads.{region-at, endsAt, endsAt-snoc, RegionsAre, next as next-region, regions-are, regions-none, allRows-none}
 
 -- ---- the step back finds the row that ends at its place
 
-back-here : (left : ℕ) (d : List ℕ) (g : Region) (stop at : ℕ) (before : Key) (r : RowRead) → readRow d at (g .end) (length before) (eqb at (g .start)) ≡ ok r → r .next ≡ stop
+back-here : (left : ℕ) (d : List ℕ) (g : Region) (stop at : ℕ) (before : Key) (r : RowRead) → rowIn d g at (length before) ≡ ok r → r .next ≡ stop
     → rowEndingAt (suc left) d g stop at before ≡ ok (keyed r (keyOf d before r))
 unfolding rowEndingAt
 back-here left d g stop at before r p e = rw (p, le-ltb (r .next) stop (omega arith), le-ltb stop (r .next) (omega arith))
 
-back-on : (left : ℕ) (d : List ℕ) (g : Region) (stop at : ℕ) (before : Key) (r : RowRead) → readRow d at (g .end) (length before) (eqb at (g .start)) ≡ ok r → r .next < stop
+back-on : (left : ℕ) (d : List ℕ) (g : Region) (stop at : ℕ) (before : Key) (r : RowRead) → rowIn d g at (length before) ≡ ok r → r .next < stop
     → rowEndingAt (suc left) d g stop at before ≡ rowEndingAt left d g stop (r .next) (keyOf d before r)
 unfolding rowEndingAt
 back-on left d g stop at before r p h = rw (p, lt-ltb (r .next) stop h)
@@ -41,14 +40,14 @@ ends-behind left d g at before [] k qs e h =
     region-at left d g at before (k ∷ qs) e h
     (λ over none. absurd (let z : _≡_ {A = ℕ} 0 1 = cc in omega arith))
     (λ r rest m lt p u n is.
-    let w = readRow-ends d at (g .end) (length before) (eqb at (g .start)) r p in
+    let w = rowIn-ends d g at (length before) r p in
     let same : keyed r (keyOf d before r) ≡ k = cc in
     rw (← same) (omega (arith, w .least), w .within, sym (w .starts)))
 ends-behind left d g at before (x ∷ ks) k qs e h =
     region-at left d g at before (x ∷ (ks ++ (k ∷ qs))) e h
     (λ over none. absurd (let z : _≡_ {A = ℕ} 0 1 = cc in omega arith))
     (λ r rest m lt p u n is.
-    let w = readRow-ends d at (g .end) (length before) (eqb at (g .start)) r p in
+    let w = rowIn-ends d g at (length before) r p in
     let first : keyed r (keyOf d before r) ≡ x = cc in
     let tail : rest ≡ ks ++ (k ∷ qs) = cc in
     let ih = ends-behind m d g (r .next) (keyOf d before r) ks k qs (u ∙ ap ok tail) n in
@@ -67,7 +66,7 @@ finds left d g at before (x ∷ ks) k qs (suc n) e h f =
     region-at left d g at before (x ∷ (ks ++ (k ∷ qs))) e h
     (λ over none. absurd (let z : _≡_ {A = ℕ} 0 1 = cc in omega arith))
     (λ r rest m lt p u enough is.
-    let w = readRow-ends d at (g .end) (length before) (eqb at (g .start)) r p in
+    let w = rowIn-ends d g at (length before) r p in
     let tail : rest ≡ ks ++ (k ∷ qs) = cc in
     let u′ : regionRows m d g (r .next) (keyOf d before r) ≡ ok (ks ++ (k ∷ qs)) = u ∙ ap ok tail in
     let far = ends-behind m d g (r .next) (keyOf d before r) ks k qs u′ enough in
@@ -140,7 +139,7 @@ reaches-end left d g at before (k ∷ ks) e h f =
     (λ r qs m lt p u n is.
     let first : keyed r (keyOf d before r) ≡ k = cc in
     let tail : qs ≡ ks = cc in
-    let ih = reaches-end m d g (r .next) (keyOf d before r) ks (u ∙ ap ok tail) n (readRow-ends d at (g .end) (length before) (eqb at (g .start)) r p .within) in
+    let ih = reaches-end m d g (r .next) (keyOf d before r) ks (u ∙ ap ok tail) n (rowIn-ends d g at (length before) r p .within) in
     rw (← first) ih)
 
 endsAt-none : (at : ℕ) → endsAt at [] ≡ at

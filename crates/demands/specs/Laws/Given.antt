@@ -11,8 +11,8 @@ use borrow.Author.Tests.{ltb-false}
 use Rattle.layout.specs.Answer.{Res, ok, guard}
 use Rattle.layout.specs.Limits.{maxKey}
 use Rattle.layout.specs.Key.{Key}
-use Rattle.layout.specs.RowRead.{RowRead, readRow, keyLength, keyOf}
-use Rattle.layout.specs.Trailer.{Trailer, trailerOf, dataOf, Region, regionOf}
+use Rattle.layout.specs.RowRead.{RowRead, keyLength, keyOf}
+use Rattle.layout.specs.Trailer.{Trailer, trailerOf, dataOf, Region, regionOf, rowIn}
 use Rattle.layout.specs.Cursor.{Direction, ascending, descending, Cursor, marked, Answer, found, done, Step, stepIs, give, pastRow, stepUp, rowEndingAt, backPast, stepBackIn, stepDown, stepAlong, next}
 use Rattle.layout.specs.Laws.Answer.{bind-then, guard-then, cond-ok, ok-inj}
 use Rattle.layout.specs.Laws.Carry.{keyOf-length}
@@ -37,7 +37,7 @@ module _ (c : Cursor) (b : List ℕ) (room : ℕ) (s : Step) where
       guard-then (ltb (c .at) (g .start)) 18 _ s e₁ λ _ e₂.
       guard-then (ltb (g .reach) (c .at)) 18 _ s e₂ λ _ e₃.
       ⊎-elim (λ u. none-within (marked c) (u .1))
-      (λ u. bind-then (readRow (dataOf b t) (c .at) (g .end) (c .keyLen) (eqb (c .at) (g .start))) _ s (u .1) λ r p q.
+      (λ u. bind-then (rowIn (dataOf b t) g (c .at) (c .keyLen)) _ s (u .1) λ r p q.
       give-within _ r (keyOf (dataOf b t) (c .key) r) (keyOf-length (dataOf b t) (c .at) (g .end) (c .key) (eqb (c .at) (g .start)) r (rw l p)) q)
       (cond-ok (eqb (c .at) (g .end)) _ _ s e₃)
 
@@ -94,7 +94,7 @@ module _ (c : Cursor) (b : List ℕ) (room other : ℕ) (s : Step) where
       guard-then (ltb (c .at) (g .start)) 18 _ s e₁ λ p₂ e₂.
       guard-then (ltb (g .reach) (c .at)) 18 _ s e₂ λ p₃ e₃.
       ⊎-elim (λ u. rw (p₁, p₂, p₃, u .0) (none-again (marked c) (u .1)))
-      (λ u. bind-then (readRow (dataOf b t) (c .at) (g .end) (c .keyLen) (eqb (c .at) (g .start))) _ s (u .1) λ r p₄ q.
+      (λ u. bind-then (rowIn (dataOf b t) g (c .at) (c .keyLen)) _ s (u .1) λ r p₄ q.
       rw (p₁, p₂, p₃, u .0, p₄) (give-again (pastRow c g r (keyOf (dataOf b t) (c .key) r)) r (keyOf (dataOf b t) (c .key) r) q))
       (cond-ok (eqb (c .at) (g .end)) _ _ s e₃)
 

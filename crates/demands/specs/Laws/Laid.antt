@@ -17,7 +17,7 @@ use Rattle.layout.specs.Key.{Key}
 use Rattle.layout.specs.Row.{Fields, Row, rowBytes, plainRow}
 use Rattle.layout.specs.RowRead.{RowRead, mayShare, readRow, keyOf}
 use Rattle.layout.specs.Block.{isRestart, shareOf, laidRow, rowsFrom, offsetsFrom, blockRows, offsets, trailer, blockBytes}
-use Rattle.layout.specs.Trailer.{Trailer, trailerIs, dataOf, offsetAt, Region, regionOf}
+use Rattle.layout.specs.Trailer.{Trailer, trailerIs, dataOf, offsetAt, Region, regionOf, rowIn}
 use Rattle.layout.specs.Cursor.{Keyed, keyed}
 use Rattle.demands.specs.Reads.{regionRows, regionsRows, Reads, allRows, contentOf}
 use Rattle.layout.specs.Laws.Answer.{ltb-cases, clash}
@@ -191,7 +191,7 @@ module _ (b : List ℕ) (t : Trailer) (n : ℕ) (offs : List ℕ) (tell : Offset
     at-row : drop at (dataOf b t) ≡ rowBytes (shareIn n i before r) (suffixIn n i before r) (r .fields) ++ rowsFrom n (suc i) (r .key) rs
     at-row = then-bytes ∙ ap (λ (x : List ℕ). x ++ rowsFrom n (suc i) (r .key) rs) (as-row n i before r)
 
-    is-read : readRow (dataOf b t) at (g .end) (length carried) (eqb at (g .start)) ≡ ok (placesIn n i at before r)
+    is-read : rowIn (dataOf b t) g at (length carried) ≡ ok (placesIn n i at before r)
     is-read =
         ap (readRow (dataOf b t) at (g .end) (length carried)) (l .marks)
         ∙ readRow-law (dataOf b t) at (shareIn n i before r) (suffixIn n i before r) (r .fields) (rowsFrom n (suc i) (r .key) rs) at-row (length carried) (isRestart n i) shares

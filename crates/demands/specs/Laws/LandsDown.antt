@@ -7,21 +7,20 @@ use mathlib.Core.List.{List, [], _∷_, _++_}
 use mathlib.Core.Logic.{_⊎_, ⊎-elim, inl, inr}
 use native.Mathlib.Omega.{arith}
 use native.Mathlib.Numerals.{add-one}
-use lib.Dec.{eqb}
 use lib.ListN.{length, take, drop, take-append-drop}
 use lib.Seq.{take-add, take-at, drop-at, take-append-le, take-nil}
 use borrow.Author.Tests.{lt-ltb, le-ltb}
 use Rattle.layout.specs.Answer.{Res, ok}
 use Rattle.layout.specs.Key.{Key, below, same, leading, notAbove}
-use Rattle.layout.specs.RowRead.{RowRead, readRow, keyOf}
-use Rattle.layout.specs.Trailer.{Trailer, trailerOf, dataOf, Region, regionOf}
+use Rattle.layout.specs.RowRead.{RowRead, keyOf}
+use Rattle.layout.specs.Trailer.{Trailer, trailerOf, dataOf, Region, regionOf, rowIn}
 use Rattle.layout.specs.Cursor.{descending, Cursor, cursorIs, Keyed, keyed}
 use Rattle.layout.specs.Seek.{Found, restartKey, restartBelow, lastEqual, startDown, lastAtOrBelow, doneDown, walkDown, soughtIs, seek}
 use Rattle.demands.specs.Reads.{regionRows, regionsRows, Reads, allRows, NeverFall, keysOf}
 use Rattle.layout.specs.Laws.Answer.{bool-cases, ltb-cases, ok-inj, clash}
 use Rattle.layout.specs.Laws.Key.{AtMost, at-most-refl, below-false, le-below, below-le, same-is}
 use Rattle.layout.specs.Laws.Trailer.{RegionTells, regionOf-tells, trailerOf-tells}
-use Rattle.layout.specs.Laws.Tells.{readRow-ends}
+use Rattle.layout.specs.Laws.Tells.{rowIn-ends}
 use Rattle.layout.specs.Laws.Search.{Closed}
 use Rattle.layout.specs.Laws.Seek.{below-is, start-past, start-earlier, start-run, down-from, seek-is, falling-start, falling-found, falling-done}
 use Rattle.demands.specs.Laws.Reads.{region-at, region-over, endsAt, RegionsAre, next as next-region, regions-are, regions-none, allRows-none, allRows-next}
@@ -36,7 +35,7 @@ unfolding lastAtOrBelow
 last-over zero d g target at before best h = refl
 last-over (suc fuel) d g target at before best h = rw (le-ltb at (g .end) h)
 
-last-on : (fuel : ℕ) (d : List ℕ) (g : Region) (target : Key) (at : ℕ) (before : Key) (best : ℕ) (r : RowRead) → at < g .end → readRow d at (g .end) (length before) (eqb at (g .start)) ≡ ok r
+last-on : (fuel : ℕ) (d : List ℕ) (g : Region) (target : Key) (at : ℕ) (before : Key) (best : ℕ) (r : RowRead) → at < g .end → rowIn d g at (length before) ≡ ok r
     → lastAtOrBelow (suc fuel) d g target at before best ≡ lastAtOrBelow fuel d g target (r .next) (keyOf d before r) (cond (below target (keyOf d before r)) best (r .next))
 unfolding lastAtOrBelow
 last-on fuel d g target at before best r h p = rw (lt-ltb at (g .end) h, p)
@@ -54,7 +53,7 @@ last-ends (suc fuel) d g target at before best a ks left h n p o =
     region-at left d g at before ks p n
     (λ over is. last-over (suc fuel) d g target at before best over ∙ rw is (ap ok (nothing best (leading (notAbove target) []))))
     (λ r qs m lt u more enough is.
-    let w = readRow-ends d at (g .end) (length before) (eqb at (g .start)) r u in
+    let w = rowIn-ends d g at (length before) r u in
     let o′ : NeverFall a (keyed r (keyOf d before r) ∷ qs) = rw is at o in
     last-on fuel d g target at before best r lt u
     ∙ rw is (go r qs (below target (keyOf d before r)) refl (o′ .1) (λ best. last-ends fuel d g target (r .next) (keyOf d before r) best (keyOf d before r) qs m (omega (arith, w .least)) enough more (o′ .1))))
@@ -92,7 +91,7 @@ ends-later left d g at before (k ∷ ks) n p h s =
     region-at left d g at before (k ∷ ks) p h
     (λ over is. absurd (let z : _≡_ {A = ℕ} 0 1 = cc in omega arith))
     (λ r qs m lt u more enough is.
-    let w = readRow-ends d at (g .end) (length before) (eqb at (g .start)) r u in
+    let w = rowIn-ends d g at (length before) r u in
     let first : keyed r (keyOf d before r) ≡ k = cc in
     let tail : qs ≡ ks = cc in
     let same : r .next ≡ k .row .next = ap (λ (x : Keyed). x .row .next) first in

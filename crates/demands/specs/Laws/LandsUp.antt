@@ -14,14 +14,14 @@ use borrow.Author.Tests.{lt-ltb, le-ltb}
 use Rattle.layout.specs.Answer.{Res, ok}
 use Rattle.layout.specs.Limits.{maxKey}
 use Rattle.layout.specs.Key.{Key, below, leading, isBelow}
-use Rattle.layout.specs.RowRead.{RowRead, readRow, keyOf}
-use Rattle.layout.specs.Trailer.{Trailer, trailerOf, dataOf, Region, regionOf}
+use Rattle.layout.specs.RowRead.{RowRead, keyOf}
+use Rattle.layout.specs.Trailer.{Trailer, trailerOf, dataOf, Region, regionOf, rowIn}
 use Rattle.layout.specs.Cursor.{ascending, Cursor, cursorIs, Keyed, keyed}
 use Rattle.layout.specs.Seek.{restartBelow, Stop, stopIs, walkRegion, doneUp, walkUp, soughtIs, seek}
 use Rattle.demands.specs.Reads.{regionRows, regionsRows, Reads, allRows, NeverFall, keysOf}
 use Rattle.layout.specs.Laws.Answer.{ltb-cases, ok-inj}
 use Rattle.layout.specs.Laws.Trailer.{regionOf-tells}
-use Rattle.layout.specs.Laws.Tells.{readRow-ends}
+use Rattle.layout.specs.Laws.Tells.{rowIn-ends}
 use Rattle.layout.specs.Laws.Carry.{keyOf-length}
 use Rattle.demands.specs.Laws.Split.{split-at, searched}
 use Rattle.layout.specs.Laws.Seek.{below-is, up-from, seek-is}
@@ -48,12 +48,12 @@ unfolding walkRegion
 walk-over zero d g target at before h = refl
 walk-over (suc fuel) d g target at before h = rw (le-ltb at (g .end) h)
 
-walk-here : (fuel : ℕ) (d : List ℕ) (g : Region) (target : Key) (at : ℕ) (before : Key) (r : RowRead) → at < g .end → readRow d at (g .end) (length before) (eqb at (g .start)) ≡ ok r
+walk-here : (fuel : ℕ) (d : List ℕ) (g : Region) (target : Key) (at : ℕ) (before : Key) (r : RowRead) → at < g .end → rowIn d g at (length before) ≡ ok r
     → below (keyOf d before r) target ≡ false → walkRegion (suc fuel) d g target at before ≡ ok (stopIs at before)
 unfolding walkRegion
 walk-here fuel d g target at before r h p b = rw (lt-ltb at (g .end) h, p, b)
 
-walk-on : (fuel : ℕ) (d : List ℕ) (g : Region) (target : Key) (at : ℕ) (before : Key) (r : RowRead) → at < g .end → readRow d at (g .end) (length before) (eqb at (g .start)) ≡ ok r
+walk-on : (fuel : ℕ) (d : List ℕ) (g : Region) (target : Key) (at : ℕ) (before : Key) (r : RowRead) → at < g .end → rowIn d g at (length before) ≡ ok r
     → below (keyOf d before r) target ≡ true → walkRegion (suc fuel) d g target at before ≡ walkRegion fuel d g target (r .next) (keyOf d before r)
 unfolding walkRegion
 walk-on fuel d g target at before r h p b = rw (lt-ltb at (g .end) h, p, b)
@@ -86,13 +86,13 @@ walk-stops (suc fuel) d g target at before ks left h i f n p =
     (λ over is. walk-ended (suc fuel) d g target at before ks left over i f n p is)
     (λ r qs m lt u more enough is. rw is (go r qs m lt u more enough (p ∙ ap ok is) (below (keyOf d before r) target) refl (walk-stops fuel d g target)))
   where
-    go : (r : RowRead) (qs : List Keyed) (m : ℕ) → at < g .end → readRow d at (g .end) (length before) (eqb at (g .start)) ≡ ok r
+    go : (r : RowRead) (qs : List Keyed) (m : ℕ) → at < g .end → rowIn d g at (length before) ≡ ok r
         → regionRows m d g (r .next) (keyOf d before r) ≡ ok qs → g .end ≤ r .next + m → regionRows left d g at before ≡ ok (keyed r (keyOf d before r) ∷ qs) → (t : Bool) → below (keyOf d before r) target ≡ t
         → ((at : ℕ) (before : Key) (ks : List Keyed) (left : ℕ) → g .end ≤ at + fuel → at ≤ g .end → length before ≤ maxKey → g .end ≤ at + left → regionRows left d g at before ≡ ok ks
         → Stopped d g target fuel at before ks)
         → Stopped d g target (suc fuel) at before (keyed r (keyOf d before r) ∷ qs)
     go r qs m lt u more enough all true e ih =
-        let w = readRow-ends d at (g .end) (length before) (eqb at (g .start)) r u in
+        let w = rowIn-ends d g at (length before) r u in
         let q = ih (r .next) (keyOf d before r) qs m (omega (arith, w .least)) (w .within) (rw (keyOf-length d at (g .end) before (eqb at (g .start)) r u) (w .fits)) enough more in
         record {
           s = q .s;

@@ -12,19 +12,19 @@ use borrow.Author.Tests.{lt-ltb, le-ltb}
 use Rattle.layout.specs.Answer.{Res, ok, refuse}
 use Rattle.layout.specs.Key.{Key}
 use Rattle.layout.specs.RowRead.{RowRead, readRow, keyOf}
-use Rattle.layout.specs.Trailer.{Trailer, dataOf, Region, regionOf}
+use Rattle.layout.specs.Trailer.{Trailer, dataOf, Region, regionOf, rowIn}
 use Rattle.layout.specs.Cursor.{Keyed, keyed}
 use Rattle.demands.specs.Reads.{regionRows, regionsRows, allRows, AllOf}
 use Rattle.layout.specs.Laws.Answer.{bind-then, ok-inj, ltb-cases}
 use Rattle.layout.specs.Laws.Trailer.{regionOf-tells}
-use Rattle.layout.specs.Laws.Tells.{readRow-ends}
+use Rattle.layout.specs.Laws.Tells.{rowIn-ends}
 
 -- ---- a region
 
 -- what a region's rows from a place on begin with
 pub data RegionIs (left : ℕ) (d : List ℕ) (g : Region) (at : ℕ) (before : Key) : List Keyed → Type 0 where
   over : g .end ≤ at → RegionIs left d g at before []
-  more : (r : RowRead) (ks : List Keyed) → at < g .end → readRow d at (g .end) (length before) (eqb at (g .start)) ≡ ok r
+  more : (r : RowRead) (ks : List Keyed) → at < g .end → rowIn d g at (length before) ≡ ok r
       → regionRows left d g (r .next) (keyOf d before r) ≡ ok ks → RegionIs left d g at before (keyed r (keyOf d before r) ∷ ks)
 
 pub region-is : (left : ℕ) (d : List ℕ) (g : Region) (at : ℕ) (before : Key) (ks : List Keyed) → regionRows (suc left) d g at before ≡ ok ks → RegionIs left d g at before ks
@@ -32,7 +32,7 @@ unfolding regionRows
 region-is left d g at before ks e =
     ⊎-elim
     (λ t.
-    bind-then (readRow d at (g .end) (length before) (eqb at (g .start))) _ ks (rw (t .0) at e) λ r p q.
+    bind-then (rowIn d g at (length before)) _ ks (rw (t .0) at e) λ r p q.
     bind-then (regionRows left d g (r .next) (keyOf d before r)) _ ks q λ qs u v.
     let w : keyed r (keyOf d before r) ∷ qs ≡ ks = ok-inj v in
     rw (← w) (more r qs (t .1) p u))
@@ -42,7 +42,7 @@ region-is left d g at before ks e =
 -- the same of any number of steps that is enough
 pub region-at : (left : ℕ) (d : List ℕ) (g : Region) (at : ℕ) (before : Key) (ks : List Keyed) → regionRows left d g at before ≡ ok ks → g .end ≤ at + left
     → {A : Type 0} → (g .end ≤ at → ks ≡ [] → A)
-    → ((r : RowRead) (qs : List Keyed) (m : ℕ) → at < g .end → readRow d at (g .end) (length before) (eqb at (g .start)) ≡ ok r → regionRows m d g (r .next) (keyOf d before r) ≡ ok qs
+    → ((r : RowRead) (qs : List Keyed) (m : ℕ) → at < g .end → rowIn d g at (length before) ≡ ok r → regionRows m d g (r .next) (keyOf d before r) ≡ ok qs
     → g .end ≤ r .next + m → ks ≡ keyed r (keyOf d before r) ∷ qs → A) → A
 region-at zero d g at before ks e h {A = A} f k = f (omega arith) (none e)
   where
@@ -51,14 +51,14 @@ region-at zero d g at before ks e h {A = A} f k = f (omega arith) (none e)
 region-at (suc left) d g at before ks e h {A = A} f k = go ks (region-is left d g at before ks e) f k
   where
     go : (ks : List Keyed) → RegionIs left d g at before ks → (g .end ≤ at → ks ≡ [] → A)
-        → ((r : RowRead) (qs : List Keyed) (m : ℕ) → at < g .end → readRow d at (g .end) (length before) (eqb at (g .start)) ≡ ok r → regionRows m d g (r .next) (keyOf d before r) ≡ ok qs
+        → ((r : RowRead) (qs : List Keyed) (m : ℕ) → at < g .end → rowIn d g at (length before) ≡ ok r → regionRows m d g (r .next) (keyOf d before r) ≡ ok qs
         → g .end ≤ r .next + m → ks ≡ keyed r (keyOf d before r) ∷ qs → A) → A
     go ks (over w) f k = f w refl
-    go ks (more r qs w p u) f k = k r qs left w p u (omega (arith, readRow-ends d at (g .end) (length before) (eqb at (g .start)) r p .least)) refl
+    go ks (more r qs w p u) f k = k r qs left w p u (omega (arith, rowIn-ends d g at (length before) r p .least)) refl
 
 -- the rows of a region that is not over
 pub region-cons : (left : ℕ) (d : List ℕ) (g : Region) (at : ℕ) (before : Key) (r : RowRead) (ks : List Keyed) → at < g .end
-    → readRow d at (g .end) (length before) (eqb at (g .start)) ≡ ok r → regionRows left d g (r .next) (keyOf d before r) ≡ ok ks
+    → rowIn d g at (length before) ≡ ok r → regionRows left d g (r .next) (keyOf d before r) ≡ ok ks
     → regionRows (suc left) d g at before ≡ ok (keyed r (keyOf d before r) ∷ ks)
 unfolding regionRows
 region-cons left d g at before r ks h p u = rw (lt-ltb at (g .end) h, p, u)
@@ -72,15 +72,15 @@ region-over (suc left) d g at before h = rw (le-ltb at (g .end) h)
 pub region-more : (m n : ℕ) (d : List ℕ) (g : Region) (at : ℕ) (before : Key) → g .end ≤ at + m → g .end ≤ at + n → regionRows m d g at before ≡ regionRows n d g at before
 region-more zero n d g at before h k = region-over zero d g at before (omega arith) ∙ sym (region-over n d g at before (omega arith))
 region-more (suc m) zero d g at before h k = region-over (suc m) d g at before (omega arith) ∙ sym (region-over zero d g at before (omega arith))
-region-more (suc m) (suc n) d g at before h k = go (readRow d at (g .end) (length before) (eqb at (g .start))) refl (region-more m n d g)
+region-more (suc m) (suc n) d g at before h k = go (rowIn d g at (length before)) refl (region-more m n d g)
   where
-    go : (x : Res RowRead) → readRow d at (g .end) (length before) (eqb at (g .start)) ≡ x
+    go : (x : Res RowRead) → rowIn d g at (length before) ≡ x
         → ((at : ℕ) (before : Key) → g .end ≤ at + m → g .end ≤ at + n → regionRows m d g at before ≡ regionRows n d g at before)
         → regionRows (suc m) d g at before ≡ regionRows (suc n) d g at before
     go (ok r) e ih = same (ih (r .next) (keyOf d before r) (omega (arith, next)) (omega (arith, next)))
       where
         next : at + 12 ≤ r .next
-        next = readRow-ends d at (g .end) (length before) (eqb at (g .start)) r e .least
+        next = rowIn-ends d g at (length before) r e .least
 
         same : regionRows m d g (r .next) (keyOf d before r) ≡ regionRows n d g (r .next) (keyOf d before r) → regionRows (suc m) d g at before ≡ regionRows (suc n) d g at before
         same q = unfold regionRows in rw (e, q)

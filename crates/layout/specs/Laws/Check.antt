@@ -12,12 +12,12 @@ use Rattle.layout.specs.Answer.{Res, ok, refuse, bind}
 use Rattle.layout.specs.Limits.{maxKey}
 use Rattle.layout.specs.Place.{splice}
 use Rattle.layout.specs.Key.{below, mayFollow}
-use Rattle.layout.specs.RowRead.{RowRead, readRow, keyLength, keyOf}
-use Rattle.layout.specs.Trailer.{Trailer, trailerOf, dataOf, Region, regionOf, allOffsets}
+use Rattle.layout.specs.RowRead.{RowRead, keyLength, keyOf}
+use Rattle.layout.specs.Trailer.{Trailer, trailerOf, dataOf, Region, regionOf, allOffsets, rowIn}
 use Rattle.layout.specs.Check.{Passed, passedIs, checkRow, checkFrom, check}
 use Rattle.layout.specs.Laws.Answer.{spend}
 use Rattle.layout.specs.Laws.Carry.{Carries, read-carried, suffixOf, key-new, key-parts, follows-suffix}
-use Rattle.layout.specs.Laws.Tells.{readRow-ends, row-shares}
+use Rattle.layout.specs.Laws.Tells.{row-shares, rowIn-ends}
 
 -- ---- before the rows
 
@@ -46,19 +46,19 @@ module _ (b : List ℕ) (t : Trailer) (at region rows : ℕ) (key : List ℕ) (l
   row-region e = rw e
 
   module _ (g : Region) (e : regionOf b t region ≡ ok g) where
-    as-carried : {x : Res RowRead} → readRow (dataOf b t) at (g .end) len (eqb at (g .start)) ≡ x → readRow (dataOf b t) at (g .end) (length (take len key)) (eqb at (g .start)) ≡ x
+    as-carried : {x : Res RowRead} → rowIn (dataOf b t) g at len ≡ x → rowIn (dataOf b t) g at (length (take len key)) ≡ x
     as-carried p = read-carried (dataOf b t) at (g .end) (eqb at (g .start)) key len c p
 
-    pub row-no : {n : ℕ} → readRow (dataOf b t) at (g .end) len (eqb at (g .start)) ≡ refuse n → refuse n ≡ checkRow b t here
+    pub row-no : {n : ℕ} → rowIn (dataOf b t) g at len ≡ refuse n → refuse n ≡ checkRow b t here
     unfolding checkRow
     row-no p = rw (e, as-carried p)
 
-    module _ (r : RowRead) (p : readRow (dataOf b t) at (g .end) len (eqb at (g .start)) ≡ ok r) where
+    module _ (r : RowRead) (p : rowIn (dataOf b t) g at len ≡ ok r) where
       -- the order is told by what follows the shared bytes
       order : mayFollow (take len key) (keyOf (dataOf b t) (take len key) r) ≡ not (below (suffixOf (dataOf b t) r) (drop (r .shared) (take len key)))
       order =
           ap (mayFollow (take len key)) (sym (key-parts (dataOf b t) at (g .end) (eqb at (g .start)) key len c r p))
-          ∙ follows-suffix key len (r .shared) (suffixOf (dataOf b t) r) (row-shares (dataOf b t) at (g .end) len (eqb at (g .start)) r (readRow-ends (dataOf b t) at (g .end) len (eqb at (g .start)) r p))
+          ∙ follows-suffix key len (r .shared) (suffixOf (dataOf b t) r) (row-shares (dataOf b t) at (g .end) len (eqb at (g .start)) r (rowIn-ends (dataOf b t) g at len r p))
 
       pub row-falls : below (suffixOf (dataOf b t) r) (drop (r .shared) (take len key)) ≡ true → refuse 17 ≡ checkRow b t here
       unfolding checkRow

@@ -13,12 +13,12 @@ use borrow.Author.Tests.{lt-ltb, le-ltb, le-leb, lt-leb, eq-eqb, ne-eqb, ltb-fal
 use Rattle.layout.specs.Answer.{ok, refuse}
 use Rattle.layout.specs.Limits.{maxKey}
 use Rattle.layout.specs.Key.{Key}
-use Rattle.layout.specs.RowRead.{RowRead, readRow, keyLength, keyOf}
-use Rattle.layout.specs.Trailer.{Trailer, trailerOf, dataOf, Region, regionOf, allOffsets}
+use Rattle.layout.specs.RowRead.{RowRead, keyLength, keyOf}
+use Rattle.layout.specs.Trailer.{Trailer, trailerOf, dataOf, Region, regionOf, allOffsets, rowIn}
 use Rattle.layout.specs.Cursor.{Direction, ascending, descending, Cursor, cursorIs, marked, opened, openBlock, Answer, found, done, Step, stepIs, pastRow, stepUp, Keyed, keyed, rowEndingAt, backPast, stepBackIn, stepDown, stepAlong, next, exhausted, isEmpty}
 use Rattle.layout.specs.Laws.Answer.{bind-then, guard-then, cond-ok, ok-inj}
 use Rattle.layout.specs.Laws.Carry.{keyOf-length}
-use Rattle.layout.specs.Laws.Tells.{readRow-ends}
+use Rattle.layout.specs.Laws.Tells.{rowIn-ends}
 
 -- ---- opening
 
@@ -89,11 +89,11 @@ module _ (c : Cursor) (b : List ℕ) (t : Trailer) (room : ℕ) where
         up-done m = rw (e, le-ltb (c .at) (g .start) h, le-ltb (g .reach) (c .at) k, eq-eqb (c .at) (g .end) m)
 
         module _ (m : c .at ≡ g .end → ⊥) where
-          pub up-row : {n : ℕ} → readRow (dataOf b t) (c .at) (g .end) (c .keyLen) (eqb (c .at) (g .start)) ≡ refuse n → stepUp c b t room ≡ refuse n
+          pub up-row : {n : ℕ} → rowIn (dataOf b t) g (c .at) (c .keyLen) ≡ refuse n → stepUp c b t room ≡ refuse n
           unfolding stepUp
           up-row q = rw (e, le-ltb (c .at) (g .start) h, le-ltb (g .reach) (c .at) k, ne-eqb (c .at) (g .end) m, q)
 
-          module _ (r : RowRead) (q : readRow (dataOf b t) (c .at) (g .end) (c .keyLen) (eqb (c .at) (g .start)) ≡ ok r) where
+          module _ (r : RowRead) (q : rowIn (dataOf b t) g (c .at) (c .keyLen) ≡ ok r) where
             pub up-short : room < keyLength r → stepUp c b t room ≡ refuse 19
             unfolding stepUp
             up-short l = rw (e, le-ltb (c .at) (g .start) h, le-ltb (g .reach) (c .at) k, ne-eqb (c .at) (g .end) m, q, lt-ltb room (keyLength r) l)
@@ -173,7 +173,7 @@ module _ (c : Cursor) (s : Step) where
         guard-then (ltb (g .reach) (c .at)) 18 _ s f λ _ f.
         ⊎-elim (λ w. heads-of (w .1) refl)
         (λ w.
-        bind-then (readRow (dataOf b t) (c .at) (g .end) (c .keyLen) (eqb (c .at) (g .start))) _ s (w .1) λ r _ f.
+        bind-then (rowIn (dataOf b t) g (c .at) (c .keyLen)) _ s (w .1) λ r _ f.
         guard-then (ltb room (keyLength r)) 19 _ s f λ _ f. heads-of f (past-heads c g r (keyOf (dataOf b t) (c .key) r) ∙ sym up))
         (cond-ok (eqb (c .at) (g .end)) _ _ s f)
 
@@ -223,8 +223,8 @@ pub ended : (left : ℕ) (d : List ℕ) (g : Region) (stop at : ℕ) (before : K
 unfolding rowEndingAt
 ended zero d g stop at before k e = absurd (let z : _≡_ {A = ℕ} 0 1 = cc in omega arith)
 ended (suc left) d g stop at before k e =
-    bind-then (readRow d at (g .end) (length before) (eqb at (g .start))) _ k e λ r p q.
-    let w = readRow-ends d at (g .end) (length before) (eqb at (g .start)) r p in
+    bind-then (rowIn d g at (length before)) _ k e λ r p q.
+    let w = rowIn-ends d g at (length before) r p in
     let long : r .start + 12 ≤ r .next = omega (arith, w .starts, w .least) in
     ⊎-elim
     (λ t. ended left d g stop (r .next) (keyOf d before r) k (t .1))

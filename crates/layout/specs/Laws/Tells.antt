@@ -14,6 +14,7 @@ use Rattle.layout.specs.Limits.{maxKey, maxValue}
 use Rattle.layout.specs.Place.{varintAt, fixedAt, signedAt}
 use Rattle.layout.specs.Row.{keyLengthTests}
 use Rattle.layout.specs.RowRead.{Lengths, valueAt, seqAt, lengthsAt, mayShare, headAt, Flags, flagsAt, Body, bodyAt, TimeAt, timeAt, Times, timesAt, RowRead, rowIs, rowAt, readRow, keyLength, KeyRead, readKey}
+use Rattle.layout.specs.Trailer.{Region, rowIn}
 use Rattle.layout.specs.Laws.Answer.{bind-then, guard-then, ok-inj}
 use Rattle.layout.specs.Laws.Place.{varintAt-ends, signedAt-ends}
 
@@ -139,6 +140,9 @@ readRow-ends d at end prevLen restart r e =
         let u′ : w .t .next ≤ end = omega arith in
         rw (← w .is)
         (record { starts = refl; least = omega arith; room = omega arith; within = u′; inside = k₁; shares = h .shares; some = h .some; fits = h .fits; suffix = omega arith })
+
+pub rowIn-ends : (d : List ℕ) (g : Region) (at prevLen : ℕ) (r : RowRead) → rowIn d g at prevLen ≡ ok r → RowEnds d at (g .end) prevLen (eqb at (g .start)) r
+rowIn-ends d g at prevLen r e = readRow-ends d at (g .end) prevLen (eqb at (g .start)) r e
 
 -- a restart takes at least 13: it shares nothing, so its suffix has a byte
 pub restart-least : (d : List ℕ) (at end prevLen : ℕ) (r : RowRead) → readRow d at end prevLen true ≡ ok r → at + 13 ≤ r .next

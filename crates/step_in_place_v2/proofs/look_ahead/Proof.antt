@@ -2,12 +2,10 @@
 -- Each exit is a law of the step, over the region and the row that were read on the way to it.
 use mathlib.Core.Path.{_≡_, refl, sym, _∙_}
 use native.Mathlib.Omega.{arith}
-use lib.Dec.{eqb}
 use lib.ListN.{take}
 use lib.Seq.{length-take-le}
 use Rattle.layout.specs.Answer.{ok}
-use Rattle.layout.specs.RowRead.{readRow}
-use Rattle.layout.specs.Trailer.{regionOf}
+use Rattle.layout.specs.Trailer.{regionOf, rowIn}
 use Rattle.layout.specs.Laws.Cursor.{up-region, up-before, up-past, up-done, up-row, up-short, up-found}
 use Rattle.layout.specs.Laws.Tells.{readRow-ends}
 use Rattle.layout.specs.Laws.Trailer.{trailerOf-tells}
@@ -26,7 +24,7 @@ module _ (k : tie.After-known-told) where
 
 module _ (m : tie.After-known-told2) where
   row-read : let k = m .before .before .before .before .before .before .before .before .before .before .before .before in let s = k .before .before .before .before .before .args in let g = k .before .read .given .0 .0 in
-      readRow (take (s .t .size) (s .block .now)) (s .p .at) (g .end) (s .p .«key_len») (eqb (s .p .at) (g .start)) ≡ ok (rowFrom (m .before .a .given .0 .0))
+      rowIn (take (s .t .size) (s .block .now)) g (s .p .at) (s .p .«key_len») ≡ ok (rowFrom (m .before .a .given .0 .0))
   row-read = yes saysRow (m .before .before .before .decode-at .ensures) (m .before .a .given .1)
 
 region-of-requires : tie.Need-region-of-requires
