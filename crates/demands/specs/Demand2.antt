@@ -87,8 +87,8 @@ module _ (b : List ℕ) (n : ℕ) (t : Trailer) (rows : List Keyed) (q : Rows b 
       (λ i h k. rw same at (retry-present b n t rows q target room fits i h k), λ k moved g has. retry-absent b n t rows q target room fits k moved (rw same g) has)
 
 -- A finished block is accepted exactly when its keys never fall.
-pub finished-accepted : (size interval : ℕ) (calls : List Call) (rows : List Row) (end : Held) (block : List ℕ) → Ran size interval calls rows end → 1 ≤ length rows → Finishes end block
+pub finished-accepted : (size interval : ℕ) (calls : List Call) (rows : List Row) (end : Held) (block : List ℕ) → Ran size interval calls rows end → Finishes end block
     → (RowsNeverFall [] rows → check block ≡ ok (length rows)) × ((n : ℕ) → check block ≡ ok n → RowsNeverFall [] rows)
-finished-accepted size interval calls rows end block ran some f =
-    let l = ran-laid size interval calls rows end ran some block f in
+finished-accepted size interval calls rows end block ran f =
+    let l = ran-laid size interval calls rows end ran block f in
     (laid-accepted block interval rows l, λ n e. accepted-laid block interval rows n l e)

@@ -25,20 +25,20 @@ run-finishes size interval calls rows end ran some = ran-finishes size interval 
 
 -- Different accepted rows, in key, kind, value, seq, times or order, give different finished blocks.
 pub blocks-differ : (size₁ size₂ n₁ n₂ : ℕ) (calls₁ calls₂ : List Call) (rows₁ rows₂ : List Row) (end₁ end₂ : Held) (block₁ block₂ : List ℕ)
-    → Ran size₁ n₁ calls₁ rows₁ end₁ → Ran size₂ n₂ calls₂ rows₂ end₂ → 1 ≤ length rows₁ → 1 ≤ length rows₂ → Finishes end₁ block₁ → Finishes end₂ block₂
+    → Ran size₁ n₁ calls₁ rows₁ end₁ → Ran size₂ n₂ calls₂ rows₂ end₂ → Finishes end₁ block₁ → Finishes end₂ block₂
     → (map plainRow rows₁ ≡ map plainRow rows₂ → ⊥) → block₁ ≡ block₂ → ⊥
-blocks-differ size₁ size₂ n₁ n₂ calls₁ calls₂ rows₁ rows₂ end₁ end₂ block₁ block₂ ran₁ ran₂ some₁ some₂ f₁ f₂ differ same =
+blocks-differ size₁ size₂ n₁ n₂ calls₁ calls₂ rows₁ rows₂ end₁ end₂ block₁ block₂ ran₁ ran₂ f₁ f₂ differ same =
     differ
-    (same-rows block₂ n₁ n₂ rows₁ rows₂ (rw same at (ran-laid size₁ n₁ calls₁ rows₁ end₁ ran₁ some₁ block₁ f₁)) (ran-laid size₂ n₂ calls₂ rows₂ end₂ ran₂ some₂ block₂ f₂))
+    (same-rows block₂ n₁ n₂ rows₁ rows₂ (rw same at (ran-laid size₁ n₁ calls₁ rows₁ end₁ ran₁ block₁ f₁)) (ran-laid size₂ n₂ calls₂ rows₂ end₂ ran₂ block₂ f₂))
 
 -- A key buffer of 1,024 bytes is no shorter than any accepted key.
 pub keys-fit : (size interval : ℕ) (calls : List Call) (rows : List Row) (end : Held) → Ran size interval calls rows end → KeysFit maxKey rows
 keys-fit size interval calls rows end ran = ran-fits size interval calls rows end ran
 
-module _ (size interval : ℕ) (calls : List Call) (rows : List Row) (end : Held) (block : List ℕ) (ran : Ran size interval calls rows end) (some : 1 ≤ length rows) (f : Finishes end block)
+module _ (size interval : ℕ) (calls : List Call) (rows : List Row) (end : Held) (block : List ℕ) (ran : Ran size interval calls rows end) (f : Finishes end block)
     (room : ℕ) (fits : KeysFit room rows) where
   all-back : ReadsBack block room rows
-  all-back = laid-reads-back block interval room rows (ran-laid size interval calls rows end ran some block f) fits
+  all-back = laid-reads-back block interval room rows (ran-laid size interval calls rows end ran block f) fits
 
   -- Opened ascending and stepped, with a key buffer no shorter than any key: exactly the accepted rows, then "done" ever after. Keys may have come in any order.
   pub reads-forwards : (t : Trailer) × (given : List Keyed) × (openBlock block ascending ≡ ok (opened ascending t)) × WalksAll block room (opened ascending t) given
@@ -51,11 +51,11 @@ module _ (size interval : ℕ) (calls : List Call) (rows : List Row) (end : Held
   reads-backwards = (all-back .t, all-back .given, all-back .opens-down, all-back .back, all-back .are)
 
 -- Whatever key buffers the steps are lent, refused steps among them, they give the accepted rows in order, or reversed: none twice, and none left out before one that is given.
-pub reads-any-buffers : (size interval : ℕ) (calls : List Call) (rows : List Row) (end : Held) (block : List ℕ) → Ran size interval calls rows end → 1 ≤ length rows → Finishes end block
+pub reads-any-buffers : (size interval : ℕ) (calls : List Call) (rows : List Row) (end : Held) (block : List ℕ) → Ran size interval calls rows end → Finishes end block
     → (rooms : List ℕ) → (t : Trailer) × (given : List Keyed) × GivesFirst block (opened ascending t) rooms given × GivesFirst block (opened descending t) rooms (backwards given)
     × (map (contentOf (dataOf block t)) given ≡ map plainRow rows)
-reads-any-buffers size interval calls rows end block ran some f rooms =
-    let r = laid-reads-back block interval maxKey rows (ran-laid size interval calls rows end ran some block f) (ran-fits size interval calls rows end ran) in
+reads-any-buffers size interval calls rows end block ran f rooms =
+    let r = laid-reads-back block interval maxKey rows (ran-laid size interval calls rows end ran block f) (ran-fits size interval calls rows end ran) in
     (r .t, r .given, walks-first block maxKey rooms (opened ascending (r .t)) (r .given) (r .forwards), walks-first block maxKey rooms (opened descending (r .t)) (backwards (r .given)) (r .back), r .are)
 
 -- After one previous key, of two rows that `encode` accepts: where one's bytes begin the other's, they are one row, and nothing follows.

@@ -1,5 +1,5 @@
--- Each demand's theorem once, on the desk's own rows, so that none is empty: what a theorem asks for is there, by computation, for a run that makes case 2's block with calls of every kind
--- and a refused row among them, and for case 8's block.
+-- Each demand's theorem once, on the desk's own rows, so that none is empty: what a theorem asks for is there, by computation, for a run that makes case 2's block with calls of every kind,
+-- a refused row and longer buffers among them, for case 8's block, and for two runs with other settings whose keys fall.
 use Prim.Native.Nat.{ℕ, zero, suc, _<_, _≤_}
 use mathlib.Core.Path.{_≡_, refl}
 use mathlib.Core.Bool.{Bool, true, false, cond}
@@ -8,28 +8,29 @@ use mathlib.Core.Logic.{⊎-elim}
 use native.Mathlib.Omega.{arith}
 use lib.Count.{leadingZeros}
 use lib.Dec.{ltb}
+use lib.IntN.{ℤ, negsuc}
 use lib.ListN.{length, take, drop, replicate, getD}
 use Rattle.layout.specs.Answer.{Res, ok, refuse}
 use Rattle.layout.specs.Limits.{maxKey, maxRestarts}
 use Rattle.layout.specs.Varint.{varint, varintIn, readVarint, readVarintIn}
-use Rattle.layout.specs.Fixed.{big, unbig}
+use Rattle.layout.specs.Fixed.{big, unbig, bits, unbits}
 use Rattle.layout.specs.Place.{varintAt, fixedAt, splice}
 use Rattle.layout.specs.Key.{Key, below, mayFollow, common, leading, firstAtOrAbove, firstAbove}
-use Rattle.layout.specs.Row.{Absent, Row, timeBytes, rowBytes, keyLengthTests, lengthTests, encodeRow, Typed, plainRow}
+use Rattle.layout.specs.Row.{tombstone, Time, Absent, At, Row, timeBytes, rowBytes, keyLengthTests, lengthTests, encodeRow, written, restoreKey, Typed, plainRow}
 use Rattle.layout.specs.RowRead.{RowRead, holds, lengthsAt, headAt, flagsAt, bodyAt, timeAt, timesAt, rowAt, readRow}
 use Rattle.layout.specs.Block.{isRestart, shareOf, laidRow, rowsFrom, offsetsFrom, blockRows, offsets, offsetBytes, trailer, blockBytes}
 use Rattle.layout.specs.Trailer.{shortAt, Trailer, dataOf, trailerOf, risingFrom, allOffsets, regionOf}
-use Rattle.layout.specs.Builder.{Builder, keptBuilder, fresh, newBuilder, stateTests, fits, wouldFit, add, stateAfter, build}
+use Rattle.layout.specs.Builder.{Builder, keptBuilder, fresh, newBuilder, stateTests, fits, wouldFit, add, stateAfter, build, blockAfter}
 use Rattle.layout.specs.Check.{checkRow, checkFrom, check}
 use Rattle.layout.specs.Cursor.{ascending, descending, Cursor, keptCursor, cursorIs, opened, openBlock, Keyed, stepUp, next, keyAfter, isEmpty}
 use Rattle.layout.specs.Seek.{seek, soughtAfter}
 use Rattle.demands.specs.Reads.{regionRows, regionsRows, allRows, Accepts, contentOf, keysOf}
 use Rattle.layout.specs.Cases.{rowWith}
-use Rattle.demands.specs.Runs.{Held, held, Call, offer, would-fit, is-empty, finish, run, rowsOf, Ran, Finishes, RoomFor, backwards, WalksAll, stepsGive, GivesFirst}
+use Rattle.demands.specs.Runs.{Held, held, Call, offer, would-fit, is-empty, finish, lend-on, run, rowsOf, BeginAlike, Ran, Finishes, RoomFor, backwards, WalksAll, stepsGive, GivesFirst, KeysFit}
 use Rattle.demands.specs.Rows.{DecodesBack, Rows, Walked, SoughtUp, SoughtDown, FoundFirst}
-use Rattle.demands.specs.Demand1.{refused-add, given-bytes, stale-bytes-tell-nothing, stale-bytes-empty, stale-bytes-seek, stale-bytes-fit, stale-bytes-add, stale-bytes-build}
+use Rattle.demands.specs.Demand1.{refused-step, refused-seek, refused-add, refused-build, refused-encode, refused-restore, given-bytes, stale-bytes-tell-nothing, stale-bytes-empty, stale-bytes-seek, stale-bytes-fit, stale-bytes-add, stale-bytes-build}
 use Rattle.demands.specs.Demand2.{decode-encode, check-exact, has-rows, room-enough, walk-any-buffers, first-at-or-above, last-at-or-below, walk-steps, seek-ascending-lands, seek-descending-lands, retry-found, restarts-at-most, finished-accepted}
-use Rattle.demands.specs.Demand3.{run-finishes, blocks-differ, reads-forwards, reads-backwards, reads-any-buffers, row-begins-no-other, read-begins-no-other}
+use Rattle.demands.specs.Demand3.{run-finishes, blocks-differ, keys-fit, reads-forwards, reads-backwards, reads-any-buffers, row-begins-no-other, read-begins-no-other}
 use Rattle.layout.specs.Laws.Answer.{ltb-cases, clash}
 
 -- ---- case 2, by a run
@@ -44,11 +45,15 @@ rowAB = rowWith (97 ∷ 98 ∷ []) (120 ∷ []) 2
 abbrev noKey : Row
 noKey = rowWith [] [] 3
 
+-- longer buffers, lent when the first row is in
+abbrev longer : List ℕ
+longer = rowBytes 0 (97 ∷ []) (rowA .fields) ++ replicate 35 9
+
 abbrev pub calls2 : List Call
-calls2 = is-empty ∷ offer rowA ∷ offer noKey ∷ finish ∷ would-fit rowAB ∷ offer rowAB ∷ []
+calls2 = is-empty ∷ offer rowA ∷ offer noKey ∷ finish ∷ lend-on longer (0 ∷ 5 ∷ []) ∷ would-fit rowAB ∷ offer rowAB ∷ []
 
 abbrev start2 : Held
-start2 = held (fresh 4096 16) (replicate 48 7) (replicate 2 7)
+start2 = held (fresh 4096 16) (replicate 20 7) (replicate 1 7)
 
 typed : (k : Key) (v : List ℕ) (q : ℕ) → q < 100 → Typed (rowWith k v q .fields)
 typed k v q h = record { seq-fits = omega arith; expire-fits = tt; create-fits = tt }
@@ -58,13 +63,16 @@ unfolding leadingZeros run rowsOf newBuilder stateTests fits wouldFit add build 
 case-2-ran =
     record {
       fresh-one = fresh 4096 16;
-      bytes = replicate 48 7;
-      places = replicate 2 7;
+      bytes = replicate 20 7;
+      places = replicate 1 7;
       is-new = refl;
-      typed = (tt, (typed (97 ∷ []) [] 1 (omega arith), (typed [] [] 3 (omega arith), (tt, (tt, (typed (97 ∷ 98 ∷ []) (120 ∷ []) 2 (omega arith), tt))))));
+      typed = (tt, (typed (97 ∷ []) [] 1 (omega arith), (typed [] [] 3 (omega arith), (tt, (alike, (tt, (typed (97 ∷ 98 ∷ []) (120 ∷ []) 2 (omega arith), tt)))))));
       rows-are = refl;
       ends = refl;
     }
+  where
+    alike : BeginAlike (run start2 (is-empty ∷ offer rowA ∷ offer noKey ∷ finish ∷ [])) longer (0 ∷ 5 ∷ [])
+    alike = record { no-fewer-bytes = omega arith; no-fewer-places = omega arith; same-bytes = refl; same-places = refl }
 
 pub case-2-finishes : Finishes (run start2 calls2) (blockBytes 16 (rowA ∷ rowAB ∷ []))
 case-2-finishes = run-finishes 4096 16 calls2 (rowA ∷ rowAB ∷ []) (run start2 calls2) case-2-ran (omega arith)
@@ -78,22 +86,22 @@ case-2-block = refl
 pub case-2-accepted : check (blockBytes 16 (rowA ∷ rowAB ∷ [])) ≡ ok 2
 unfolding mayFollow below
 case-2-accepted =
-    finished-accepted 4096 16 calls2 (rowA ∷ rowAB ∷ []) (run start2 calls2) (blockBytes 16 (rowA ∷ rowAB ∷ [])) case-2-ran (omega arith) case-2-finishes .0 (refl, (refl, tt))
+    finished-accepted 4096 16 calls2 (rowA ∷ rowAB ∷ []) (run start2 calls2) (blockBytes 16 (rowA ∷ rowAB ∷ [])) case-2-ran case-2-finishes .0 (refl, (refl, tt))
 
 abbrev block2 : List ℕ
 block2 = blockBytes 16 (rowA ∷ rowAB ∷ [])
 
 pub case-2-forwards : (t : Trailer) × (given : List Keyed) × (openBlock block2 ascending ≡ ok (opened ascending t)) × WalksAll block2 2 (opened ascending t) given
     × (map (contentOf (dataOf block2 t)) given ≡ map plainRow (rowA ∷ rowAB ∷ []))
-case-2-forwards = reads-forwards 4096 16 calls2 (rowA ∷ rowAB ∷ []) (run start2 calls2) block2 case-2-ran (omega arith) case-2-finishes 2 (omega arith, (omega arith, tt))
+case-2-forwards = reads-forwards 4096 16 calls2 (rowA ∷ rowAB ∷ []) (run start2 calls2) block2 case-2-ran case-2-finishes 2 (omega arith, (omega arith, tt))
 
 pub case-2-backwards : (t : Trailer) × (given : List Keyed) × (openBlock block2 descending ≡ ok (opened descending t)) × WalksAll block2 2 (opened descending t) (backwards given)
     × (map (contentOf (dataOf block2 t)) given ≡ map plainRow (rowA ∷ rowAB ∷ []))
-case-2-backwards = reads-backwards 4096 16 calls2 (rowA ∷ rowAB ∷ []) (run start2 calls2) block2 case-2-ran (omega arith) case-2-finishes 2 (omega arith, (omega arith, tt))
+case-2-backwards = reads-backwards 4096 16 calls2 (rowA ∷ rowAB ∷ []) (run start2 calls2) block2 case-2-ran case-2-finishes 2 (omega arith, (omega arith, tt))
 
 pub case-2-any-buffers : (rooms : List ℕ) → (t : Trailer) × (given : List Keyed) × GivesFirst block2 (opened ascending t) rooms given × GivesFirst block2 (opened descending t) rooms (backwards given)
     × (map (contentOf (dataOf block2 t)) given ≡ map plainRow (rowA ∷ rowAB ∷ []))
-case-2-any-buffers rooms = reads-any-buffers 4096 16 calls2 (rowA ∷ rowAB ∷ []) (run start2 calls2) block2 case-2-ran (omega arith) case-2-finishes rooms
+case-2-any-buffers rooms = reads-any-buffers 4096 16 calls2 (rowA ∷ rowAB ∷ []) (run start2 calls2) block2 case-2-ran case-2-finishes rooms
 
 -- the run of case 2's first row alone accepts other rows, so it makes another block
 abbrev calls1 : List Call
@@ -102,11 +110,11 @@ calls1 = offer rowA ∷ []
 case-1-ran : Ran 4096 16 calls1 (rowA ∷ []) (run start2 calls1)
 unfolding leadingZeros run rowsOf newBuilder stateTests fits wouldFit add keyLengthTests lengthTests isRestart shareOf laidRow rowBytes timeBytes big varint varintIn common splice
 case-1-ran =
-    record { fresh-one = fresh 4096 16; bytes = replicate 48 7; places = replicate 2 7; is-new = refl; typed = (typed (97 ∷ []) [] 1 (omega arith), tt); rows-are = refl; ends = refl }
+    record { fresh-one = fresh 4096 16; bytes = replicate 20 7; places = replicate 1 7; is-new = refl; typed = (typed (97 ∷ []) [] 1 (omega arith), tt); rows-are = refl; ends = refl }
 
 pub case-2-differs : blockBytes 16 (rowA ∷ []) ≡ block2 → ⊥
 case-2-differs =
-    blocks-differ 4096 4096 16 16 calls1 calls2 (rowA ∷ []) (rowA ∷ rowAB ∷ []) (run start2 calls1) (run start2 calls2) (blockBytes 16 (rowA ∷ [])) block2 case-1-ran case-2-ran (omega arith) (omega arith)
+    blocks-differ 4096 4096 16 16 calls1 calls2 (rowA ∷ []) (rowA ∷ rowAB ∷ []) (run start2 calls1) (run start2 calls2) (blockBytes 16 (rowA ∷ [])) block2 case-1-ran case-2-ran
     (run-finishes 4096 16 calls1 (rowA ∷ []) (run start2 calls1) case-1-ran (omega arith))
     case-2-finishes
     (λ e. let z : _≡_ {A = ℕ} 0 1 = cc in omega arith)
@@ -275,7 +283,114 @@ module _ (x y bytes places : List ℕ) where
   pub case-2-stale-build : build (with-a x) (length bytes) (length places) ≡ build (with-a y) (length bytes) (length places)
   case-2-stale-build = stale-bytes-build 4096 16 13 1 1 1 (97 ∷ x) (97 ∷ y) refl bytes places .0
 
--- an empty key is refused with 1, and changes nothing
+-- ---- refused calls change nothing
+
+-- an empty key is refused with 1
 pub case-2-refused : let want = add (fresh 4096 16) 48 2 [] (noKey .fields) in (want ≡ refuse 1) × (stateAfter want (fresh 4096 16) ≡ fresh 4096 16)
 unfolding add wouldFit stateTests lengthTests keyLengthTests
 case-2-refused = (refl, refused-add (fresh 4096 16) (replicate 48 7) (replicate 2 7) 1 [] (noKey .fields) refl .0)
+
+-- a cursor that says its key has 2,000 bytes is refused with 18
+abbrev forged : Cursor
+forged = keptCursor ascending 0 1 2000 [] false
+
+pub case-8-refused-step : (next forged block8 8 ≡ refuse 18) × (keyAfter (next forged block8 8) (replicate 8 7) ≡ replicate 8 7)
+unfolding blockBytes blockRows offsets rowsFrom offsetsFrom trailer offsetBytes isRestart shareOf laidRow rowBytes timeBytes big varint varintIn common trailerOf shortAt unbig next
+case-8-refused-step = (refl, refused-step forged block8 (replicate 8 7) 18 refl .1)
+
+-- a seek in no bytes at all is refused with 14
+pub refused-sought : soughtAfter (seek ascending [] (98 ∷ [])) forged ≡ forged
+unfolding seek trailerOf
+refused-sought = refused-seek forged [] (98 ∷ []) 14 refl
+
+-- a block of no row is refused with 7
+pub refused-built : blockAfter (build (fresh 4096 16) 8 2) (fresh 4096 16) (replicate 8 7) (replicate 2 7) ≡ replicate 8 7
+unfolding build stateTests
+refused-built = refused-build (fresh 4096 16) (replicate 8 7) (replicate 2 7) 7 refl
+
+-- a share of one byte after no key is refused with 13, written and restored
+pub refused-encoded : written (encodeRow 0 1 (98 ∷ []) (rowAB .fields) 8) (replicate 8 7) ≡ replicate 8 7
+unfolding encodeRow
+refused-encoded = refused-encode 0 1 (98 ∷ []) (rowAB .fields) (replicate 8 7) 13 refl
+
+pub refused-restored : written (restoreKey [] 1 (98 ∷ []) 8) (replicate 8 7) ≡ replicate 8 7
+unfolding restoreKey
+refused-restored = refused-restore [] 1 (98 ∷ []) (replicate 8 7) 13 refl
+
+-- ---- two runs with other settings, whose first rows differ in one time alone; a tombstone is offered bytes, and the second run's keys fall
+
+abbrev gone-at : Time → Time → Row
+gone-at expire create = record { key = 98 ∷ []; fields = record { kind = tombstone; val = 1 ∷ 2 ∷ []; seq = 7; expire = expire; create = create } }
+
+abbrev earliest : ℤ
+earliest = negsuc 9223372036854775807
+
+abbrev rowX : Row
+rowX = gone-at (At earliest) Absent
+
+abbrev rowY : Row
+rowY = gone-at Absent (At earliest)
+
+-- block size 0: after the first row none fits
+abbrev callsX : List Call
+callsX = offer rowX ∷ finish ∷ offer rowA ∷ would-fit rowX ∷ []
+
+abbrev startX : Held
+startX = held (fresh 0 1) (replicate 30 9) (replicate 1 9)
+
+abbrev callsY : List Call
+callsY = offer rowY ∷ offer rowA ∷ []
+
+abbrev startY : Held
+startY = held (fresh 131072 1024) (replicate 64 3) (replicate 5 9)
+
+ran-x : Ran 0 1 callsX (rowX ∷ []) (run startX callsX)
+unfolding leadingZeros run rowsOf newBuilder stateTests fits wouldFit add build keyLengthTests lengthTests isRestart shareOf laidRow rowBytes timeBytes big bits varint varintIn common splice trailer offsetBytes
+ran-x =
+    record {
+      fresh-one = fresh 0 1;
+      bytes = replicate 30 9;
+      places = replicate 1 9;
+      is-new = refl;
+      typed = (record { seq-fits = omega arith; expire-fits = omega arith; create-fits = tt }, (tt, (typed (97 ∷ []) [] 1 (omega arith), (tt, tt))));
+      rows-are = refl;
+      ends = refl;
+    }
+
+ran-y : Ran 131072 1024 callsY (rowY ∷ rowA ∷ []) (run startY callsY)
+unfolding leadingZeros run rowsOf newBuilder stateTests fits wouldFit add build keyLengthTests lengthTests isRestart shareOf laidRow rowBytes timeBytes big bits varint varintIn common splice trailer offsetBytes
+ran-y =
+    record {
+      fresh-one = fresh 131072 1024;
+      bytes = replicate 64 3;
+      places = replicate 5 9;
+      is-new = refl;
+      typed = (record { seq-fits = omega arith; expire-fits = tt; create-fits = omega arith }, (typed (97 ∷ []) [] 1 (omega arith), tt));
+      rows-are = refl;
+      ends = refl;
+    }
+
+abbrev blockY : List ℕ
+blockY = blockBytes 1024 (rowY ∷ rowA ∷ [])
+
+finishes-y : Finishes (run startY callsY) blockY
+finishes-y = run-finishes 131072 1024 callsY (rowY ∷ rowA ∷ []) (run startY callsY) ran-y (omega arith)
+
+pub one-time-differs : blockBytes 1 (rowX ∷ []) ≡ blockY → ⊥
+one-time-differs =
+    blocks-differ 0 131072 1 1024 callsX callsY (rowX ∷ []) (rowY ∷ rowA ∷ []) (run startX callsX) (run startY callsY) (blockBytes 1 (rowX ∷ [])) blockY ran-x ran-y
+    (run-finishes 0 1 callsX (rowX ∷ []) (run startX callsX) ran-x (omega arith))
+    finishes-y
+    (λ e. let z : _≡_ {A = ℕ} 0 1 = cc in omega arith)
+
+-- keys that fall: the block is refused with 17, and still reads back
+pub falling-refused : check blockY ≡ refuse 17
+unfolding leadingZeros blockBytes blockRows offsets rowsFrom offsetsFrom trailer offsetBytes isRestart shareOf laidRow rowBytes timeBytes big bits varint varintIn common check checkFrom checkRow trailerOf shortAt unbig allOffsets risingFrom regionOf readRow rowAt headAt lengthsAt varintAt readVarint readVarintIn keyLengthTests bodyAt fixedAt flagsAt timesAt timeAt mayFollow below unbits
+falling-refused = refl
+
+pub falling-backwards : (t : Trailer) × (given : List Keyed) × (openBlock blockY descending ≡ ok (opened descending t)) × WalksAll blockY 1 (opened descending t) (backwards given)
+    × (map (contentOf (dataOf blockY t)) given ≡ map plainRow (rowY ∷ rowA ∷ []))
+falling-backwards = reads-backwards 131072 1024 callsY (rowY ∷ rowA ∷ []) (run startY callsY) blockY ran-y finishes-y 1 (omega arith, (omega arith, tt))
+
+pub falling-keys-fit : KeysFit maxKey (rowY ∷ rowA ∷ [])
+falling-keys-fit = keys-fit 131072 1024 callsY (rowY ∷ rowA ∷ []) (run startY callsY) ran-y

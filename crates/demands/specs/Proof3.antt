@@ -18,7 +18,7 @@ use Rattle.layout.specs.Builder.{blockAfter}
 use Rattle.layout.specs.Cursor.{ascending, descending, opened, openBlock, Keyed}
 use Rattle.demands.specs.Reads.{regionsRows, Reads, allRows, AllOf, contentOf}
 use Rattle.demands.specs.Runs.{Held, Call, Ran, Finishes, RoomFor, backwards, WalksAll, KeysFit}
-use Rattle.demands.specs.RunsProof.{made-ran, made-finishes, walks-before, walks-after}
+use Rattle.demands.specs.RunsProof.{made-ran, finishes-some, made-finishes, walks-before, walks-after}
 use Rattle.layout.specs.Laws.Answer.{bind-then, guard-then, ok-inj}
 use Rattle.layout.specs.Laws.Row.{FieldsOk, KeyOk, prefix-free}
 use Rattle.layout.specs.Laws.Tells.{keyLengthTests-tells}
@@ -40,19 +40,22 @@ finishes-one h x y f g =
     let n : f .n ≡ g .n = ok-inj (sym (f .answers) ∙ g .answers) in
     sym (f .block-is) ∙ ap (λ (k : ℕ). take k (blockAfter (ok k) (h .builder) (h .bytes) (h .places))) n ∙ g .block-is
 
-module _ (size n : ℕ) (calls : List Call) (rows : List Row) (end : Held) (ran : Ran size n calls rows end) (some : 1 ≤ length rows) where
-  pub ran-finishes : Finishes end (blockBytes n rows)
-  ran-finishes = made-finishes n rows end (made-ran size n calls rows end ran) some
+module _ (size n : ℕ) (calls : List Call) (rows : List Row) (end : Held) (ran : Ran size n calls rows end) where
+  m : Made n rows (end .builder) (end .bytes) (end .places)
+  m = made-ran size n calls rows end ran
+
+  pub ran-finishes : 1 ≤ length rows → Finishes end (blockBytes n rows)
+  ran-finishes some = made-finishes n rows end m some
+
+  ran-some : (block : List ℕ) → Finishes end block → 1 ≤ length rows
+  ran-some block f = finishes-some n rows end block m f
 
   pub ran-block : (block : List ℕ) → Finishes end block → block ≡ blockBytes n rows
-  ran-block block f = finishes-one end block (blockBytes n rows) f ran-finishes
+  ran-block block f = finishes-one end block (blockBytes n rows) f (ran-finishes (ran-some block f))
 
   pub ran-laid : (block : List ℕ) → Finishes end block → LaidBlock block n rows
-  ran-laid block f = rw (ran-block block f) (laid rows some (m .rows-ok) (m .offsets-fit))
+  ran-laid block f = rw (ran-block block f) (laid rows (ran-some block f) (m .rows-ok) (m .offsets-fit))
     where
-      m : Made n rows (end .builder) (end .bytes) (end .places)
-      m = made-ran size n calls rows end ran
-
       laid : (rows : List Row) → 1 ≤ length rows → AllOk rows → AllFit (offsets n rows) → LaidBlock (blockBytes n rows) n rows
       laid [] s a o = absurd (omega arith)
       laid (r ∷ rs) s a o = laid-block n r rs a o

@@ -20,12 +20,13 @@ pub record Held : Type 0 where
 abbrev pub held : Builder → List ℕ → List ℕ → Held
 held b bytes places = record { builder = b; bytes = bytes; places = places }
 
--- any mix of calls: rows offered, rows asked about, "is it empty", and build, in the middle too
+-- any mix of calls: rows offered, rows asked about, "is it empty", and build, in the middle too; and other buffers that are lent from there on
 pub data Call : Type 0 where
   offer : Row → Call
   would-fit : Row → Call
   is-empty : Call
   finish : Call
+  lend-on : List ℕ → List ℕ → Call
 
 abbrev pub addTo : Held → Row → Res Builder
 addTo h r = add (h .builder) (length (h .bytes)) (length (h .places)) (r .key) (r .fields)
@@ -40,6 +41,7 @@ after h (offer r) =
 after h (would-fit r) = h
 after h is-empty = h
 after h finish = held (h .builder) (blockAfter (buildOf h) (h .builder) (h .bytes) (h .places)) (h .places)
+after h (lend-on bytes places) = held (h .builder) bytes places
 
 -- the row that a call added: one that was refused is none
 abbrev pub taken : Res Builder → Row → List Row
@@ -51,6 +53,7 @@ accepted h (offer r) = taken (addTo h r) r
 accepted h (would-fit r) = []
 accepted h is-empty = []
 accepted h finish = []
+accepted h (lend-on bytes places) = []
 
 unfoldable pub run : Held → List Call → Held
 run h [] = h
@@ -61,16 +64,24 @@ unfoldable pub rowsOf : Held → List Call → List Row
 rowsOf h [] = []
 rowsOf h (c ∷ cs) = accepted h c ++ rowsOf (after h c) cs
 
--- numbers are offered in their types: 64 bits, signed for times
-abbrev pub TypedCall : Call → Type 0
-TypedCall (offer r) = Typed (r .fields)
-TypedCall (would-fit r) = Unit {0}
-TypedCall is-empty = Unit {0}
-TypedCall finish = Unit {0}
+-- buffers that may be lent in the place of those before: no shorter, and alike as far as they are used
+pub record BeginAlike (h : Held) (bytes places : List ℕ) : Type 0 where
+  pub no-fewer-bytes : length (h .bytes) ≤ length bytes
+  pub no-fewer-places : length (h .places) ≤ length places
+  pub same-bytes : take (h .builder .used) bytes ≡ take (h .builder .used) (h .bytes)
+  pub same-places : take (h .builder .restarts) places ≡ take (h .builder .restarts) (h .places)
 
-abbrev pub TypedCalls : List Call → Type 0
-TypedCalls [] = Unit {0}
-TypedCalls (c ∷ cs) = TypedCall c × TypedCalls cs
+-- numbers are offered in their types: 64 bits, signed for times
+abbrev pub TypedCall : Held → Call → Type 0
+TypedCall h (offer r) = Typed (r .fields)
+TypedCall h (would-fit r) = Unit {0}
+TypedCall h is-empty = Unit {0}
+TypedCall h finish = Unit {0}
+TypedCall h (lend-on bytes places) = BeginAlike h bytes places
+
+abbrev pub TypedCalls : Held → List Call → Type 0
+TypedCalls h [] = Unit {0}
+TypedCalls h (c ∷ cs) = TypedCall h c × TypedCalls (after h c) cs
 
 -- a fresh builder, whatever its buffers hold and however long they are, after a run of calls
 pub record Ran (size interval : ℕ) (calls : List Call) (rows : List Row) (end : Held) : Type 0 where
@@ -78,7 +89,7 @@ pub record Ran (size interval : ℕ) (calls : List Call) (rows : List Row) (end 
   pub bytes : List ℕ
   pub places : List ℕ
   pub is-new : newBuilder size interval ≡ ok fresh-one
-  pub typed : TypedCalls calls
+  pub typed : TypedCalls (held fresh-one bytes places) calls
   pub rows-are : rows ≡ rowsOf (held fresh-one bytes places) calls
   pub ends : end ≡ run (held fresh-one bytes places) calls
 

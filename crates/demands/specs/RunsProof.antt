@@ -7,7 +7,7 @@ use mathlib.Core.Logic.{⊎-elim}
 use native.Mathlib.Omega.{arith}
 use lib.Dec.{ltb, eqb}
 use lib.ListN.{length, take, length-append}
-use borrow.Author.Tests.{ltb-false}
+use borrow.Author.Tests.{ltb-false, eqb-false}
 use Rattle.layout.specs.Answer.{Res, ok, refuse}
 use Rattle.layout.specs.Place.{splice}
 use Rattle.layout.specs.Row.{Row}
@@ -16,7 +16,7 @@ use Rattle.layout.specs.Block.{offsets, trailer, blockBytes}
 use Rattle.layout.specs.Trailer.{Trailer}
 use Rattle.layout.specs.Builder.{Builder, stateTests, presentSize, build, blockAfter}
 use Rattle.layout.specs.Cursor.{Cursor, marked, Keyed, found, done, stepIs}
-use Rattle.demands.specs.Runs.{Held, held, Call, offer, would-fit, is-empty, finish, addTo, buildOf, after, taken, accepted, run, rowsOf, TypedCall, TypedCalls, Ran, Finishes, Walks, stands, gives, EndsDone, RoomFor, backwards, WalksAll, stepsGive, GivesFirst}
+use Rattle.demands.specs.Runs.{Held, held, Call, offer, would-fit, is-empty, finish, lend-on, addTo, buildOf, after, taken, accepted, run, rowsOf, BeginAlike, TypedCall, TypedCalls, Ran, Finishes, Walks, stands, gives, EndsDone, RoomFor, backwards, WalksAll, stepsGive, GivesFirst}
 use Rattle.layout.specs.Laws.Answer.{bind-then, guard-then, ltb-cases}
 use Rattle.layout.specs.Laws.Splice.{length-splice, take-splice}
 use Rattle.layout.specs.Laws.Trailer.{length-trailer}
@@ -59,7 +59,29 @@ made-finish n rs b bytes places k m e =
       offsets-fit = m .offsets-fit;
     }
 
-pub made-after : (n : ℕ) (rs : List Row) (h : Held) (c : Call) → Made n rs (h .builder) (h .bytes) (h .places) → TypedCall c
+-- buffers that begin alike hold the same rows
+made-longer : (n : ℕ) (rs : List Row) (h : Held) (bytes places : List ℕ) → Made n rs (h .builder) (h .bytes) (h .places) → BeginAlike h bytes places → Made n rs (h .builder) bytes places
+made-longer n rs h bytes places m a =
+    record {
+      interval-is = m .interval-is;
+      block = m .block;
+      some = m .some;
+      few = m .few;
+      used-is = m .used-is;
+      restarts-are = m .restarts-are;
+      rows-are = m .rows-are;
+      lastLen-is = m .lastLen-is;
+      last-is = m .last-is;
+      in-data = omega (arith, m .in-data, a .no-fewer-bytes);
+      in-places = omega (arith, m .in-places, a .no-fewer-places);
+      bytes-are = a .same-bytes ∙ m .bytes-are;
+      places-are = a .same-places ∙ m .places-are;
+      room = λ s. omega (arith, m .room s, a .no-fewer-bytes);
+      rows-ok = m .rows-ok;
+      offsets-fit = m .offsets-fit;
+    }
+
+pub made-after : (n : ℕ) (rs : List Row) (h : Held) (c : Call) → Made n rs (h .builder) (h .bytes) (h .places) → TypedCall h c
     → Made n (rs ++ accepted h c) (after h c .builder) (after h c .bytes) (after h c .places)
 made-after n rs h (offer r) m t = go (addTo h r) refl
   where
@@ -73,8 +95,9 @@ made-after n rs h finish m t = rw (append-nil rs) (go (buildOf h) refl)
     go : (x : Res ℕ) → buildOf h ≡ x → Made n rs (h .builder) (blockAfter (buildOf h) (h .builder) (h .bytes) (h .places)) (h .places)
     go (ok k) e = rw e (made-finish n rs (h .builder) (h .bytes) (h .places) k m e)
     go (refuse k) e = rw e m
+made-after n rs h (lend-on bytes places) m t = rw (append-nil rs) (made-longer n rs h bytes places m t)
 
-pub made-run : (n : ℕ) (rs : List Row) (h : Held) (cs : List Call) → Made n rs (h .builder) (h .bytes) (h .places) → TypedCalls cs
+pub made-run : (n : ℕ) (rs : List Row) (h : Held) (cs : List Call) → Made n rs (h .builder) (h .bytes) (h .places) → TypedCalls h cs
     → Made n (rs ++ rowsOf h cs) (run h cs .builder) (run h cs .bytes) (run h cs .places)
 unfolding rowsOf run
 made-run n rs h [] m t = rw (append-nil rs) m
@@ -85,6 +108,15 @@ pub made-ran : (size n : ℕ) (cs : List Call) (rows : List Row) (end : Held) �
 made-ran size n cs rows end r =
     rw (r .rows-are, r .ends)
     (made-run n [] (held (r .fresh-one) (r .bytes) (r .places)) cs (made-none size n (r .fresh-one) (r .bytes) (r .places) (r .is-new)) (r .typed))
+
+-- build answers a block only where a row was accepted
+pub finishes-some : (n : ℕ) (rows : List Row) (h : Held) (block : List ℕ) → Made n rows (h .builder) (h .bytes) (h .places) → Finishes h block → 1 ≤ length rows
+unfolding build
+finishes-some n rows h block m f =
+    bind-then (stateTests (h .builder) (length (h .bytes)) (length (h .places))) _ (f .n) (f .answers) λ u s e₁.
+    guard-then (eqb (h .builder .rows) 0) 7 _ (f .n) e₁ λ t e₂.
+    let ne = eqb-false (h .builder .rows) 0 t in
+    omega (arith, ne, m .rows-are)
 
 -- after an accepted row, build answers the block of the accepted rows
 pub made-finishes : (n : ℕ) (rows : List Row) (h : Held) → Made n rows (h .builder) (h .bytes) (h .places) → 1 ≤ length rows → Finishes h (blockBytes n rows)
