@@ -170,9 +170,9 @@ module _ (d : List ℕ) (g : RegionC) (target key : List ℕ) where
   module _ (inside : g .end ≤ length d) (h : Halted) (w : Halts d (regionFrom g) target h) where
     pub into-no : not (h .good) ≡ true → {x : Refusal} → RefusesAt d (h .at) (g .end) (h .len) (eqb (h .at) (g .start)) x
         → WalksInto d g target key (PlaceRefused x) key
-    into-no bad {x} f = go (rowIn d g (h .at) (h .len)) refl
+    into-no bad {x} f = go (rowIn d (regionFrom g) (h .at) (h .len)) refl
       where
-        go : (y : Res RowRead) → rowIn d g (h .at) (h .len) ≡ y → WalksInto d g target key (PlaceRefused x) key
+        go : (y : Res RowRead) → rowIn d (regionFrom g) (h .at) (h .len) ≡ y → WalksInto d g target key (PlaceRefused x) key
         go (ok r) q = absurd (w .refused (was-not (h .good) bad) .1 r q)
         go (refuse n) q =
             into-not
@@ -259,10 +259,10 @@ module _ (d : List ℕ) (g : RegionC) (stop : ℕ) (out : List ℕ) (h : g .star
   pub stands : Stands d (regionFrom g) q (w .there .before)
   stands = record { rows = w .there .rows; leads = w .there .leads; knows = w .there .knows }
 
-  pub ended-no : {x : Refusal} → rowIn d g (q .at) (q .len) ≡ refuse (number x) → EndsAt d g stop out (EndedRefused x) out
+  pub ended-no : {x : Refusal} → rowIn d (regionFrom g) (q .at) (q .len) ≡ refuse (number x) → EndsAt d g stop out (EndedRefused x) out
   ended-no e = gives-not refl (ending-no d (regionFrom g) stop (length out) h (reaching-refused d (regionFrom g) stop (q .at) (q .len) (q .known) (w .there) e))
 
-  module _ (r : Row) (e : rowIn d g (q .at) (q .len) ≡ ok (rowFrom r)) where
+  module _ (r : Row) (e : rowIn d (regionFrom g) (q .at) (q .len) ≡ ok (rowFrom r)) where
     abbrev key : Key
     key = keyOf d (w .there .before) (rowFrom r)
 
@@ -291,7 +291,7 @@ module _ (d : List ℕ) (g : RegionC) (stop : ℕ) (out : List ℕ) (h : g .star
           let p-is : r .«suffix_at» + r .«suffix_len» - r .«suffix_at» ≡ r .«suffix_len» = omega arith in
           let first-long = length-take-le (r .shared) (w .there .before) ended-shares in
           let last-long : length (take (r .«suffix_len») (drop (r .«suffix_at») d)) ≡ r .«suffix_len» =
-          part-length d (r .«suffix_at») (r .«suffix_len») (rowIn-ends d g (q .at) (q .len) (rowFrom r) e .suffix) in
+          part-length d (r .«suffix_at») (r .«suffix_len») (rowIn-ends d (regionFrom g) (q .at) (q .len) (rowFrom r) e .suffix) in
           gives-ended d (regionFrom g) stop (rowFrom r) key out refl is-given
           (gives-row r stop key out k (rw key-long u)
           (then-write out ys zs 0 (r .shared) (take (r .shared) (w .there .before)) (take (r .«suffix_len») (drop (r .«suffix_at») d)) y (omega arith) (omega arith) (rw p-is at z)))

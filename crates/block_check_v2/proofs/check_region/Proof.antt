@@ -72,13 +72,13 @@ module _ (n : tie.Else2 Inv-loop μ-loop) where
   abbrev span : RowSpan
   span = spanFrom (n .before .before .span-at .result)
 
-  known : (r : RowReadL) × (rowIn rows (g turn) (turn .loop .at) (turn .loop .key-len) ≡ ok (spanned r span))
+  known : (r : RowReadL) × (rowIn rows (regionFrom (g turn)) (turn .loop .at) (turn .loop .key-len) ≡ ok (spanned r span))
   known = span-known _ _ _ _ _ span (n .before .before .span-at .ensures) (n .if2 .left)
 
   abbrev row : RowReadL
   row = spanned (known .0) span
 
-  read : rowIn rows (g turn) (turn .loop .at) (turn .loop .key-len) ≡ ok row
+  read : rowIn rows (regionFrom (g turn)) (turn .loop .at) (turn .loop .key-len) ≡ ok row
   read = known .1
 
   told : RowEnds rows (turn .loop .at) (g turn .end) (turn .loop .key-len) (eqb (turn .loop .at) (g turn .start)) row

@@ -3,6 +3,7 @@ use native.Mathlib.Omega.{arith}
 use Rattle.layout.specs.Answer.{ok}
 use Rattle.layout.specs.Laws.Tells.{readRow-ends}
 use Rattle.layout.specs.Trailer.{rowIn}
+use Rattle.trailer.specs.Says.{regionFrom}
 use Rattle.basics.specs.Answers.{yes, no}
 use Rattle.buf_mut.proofs.Laws.{copied}
 use Rattle.row_decode_v2.specs.Says.{rowFrom, saysRow, refusalOfRow}
@@ -17,7 +18,7 @@ use Rattle.block_regions_v2.proofs.row_ending_at.Tie as tie
 module _ (k : tie.After-known-told) where
   read : let a = k .before .before .before .before .before .before .before .before .before .before .args in
       let q = k .before .before .before .before .before .reach .result in
-      rowIn (a .«data» .now) (a .region) (q .at) (q .len) ≡ ok (rowFrom (k .before .read .given .0 .0))
+      rowIn (a .«data» .now) (regionFrom (a .region)) (q .at) (q .len) ≡ ok (rowFrom (k .before .read .given .0 .0))
   read = yes saysRow (k .before .before .before .row-at .ensures) (k .before .read .given .1)
 
 returns : tie.Need-returns

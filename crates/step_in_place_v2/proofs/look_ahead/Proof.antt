@@ -24,7 +24,7 @@ module _ (k : tie.After-known-told) where
 
 module _ (m : tie.After-known-told2) where
   row-read : let k = m .before .before .before .before .before .before .before .before .before .before .before .before in let s = k .before .before .before .before .before .args in let g = k .before .read .given .0 .0 in
-      rowIn (take (s .t .size) (s .block .now)) g (s .p .at) (s .p .«key_len») ≡ ok (rowFrom (m .before .a .given .0 .0))
+      rowIn (take (s .t .size) (s .block .now)) (regionFrom g) (s .p .at) (s .p .«key_len») ≡ ok (rowFrom (m .before .a .given .0 .0))
   row-read = yes saysRow (m .before .before .before .decode-at .ensures) (m .before .a .given .1)
 
 region-of-requires : tie.Need-region-of-requires
