@@ -13,7 +13,7 @@ use Rattle.layout.specs.Key.{Key}
 use Rattle.layout.specs.Place.{splice}
 use Rattle.layout.specs.Row.{Fields}
 use Rattle.layout.specs.Laws.Made.{add-tells}
-use Rattle.layout.specs.Laws.Splice.{take-past-splice}
+use Rattle.layout.specs.Laws.Splice.{key-over}
 use Rattle.basics.specs.declared.Refusal.{Refusal}
 use Rattle.build_in_place_v2.specs.Promise.{entered, AddsInPlaceAs, Finishes}
 use Rattle.build_in_place_v2.specs.Says.{stateFrom}
@@ -39,12 +39,6 @@ module _ (size interval : ℕ) where
   pub made-good : {b : BlockBuilderV2} → b ≡ builderFrom (stateFrom (fresh size interval)) noKey → newBuilder size interval ≡ ok (fresh size interval)
       → Makes size interval (record { builder = b; answer = GoodMade })
   made-good e q = rw (e, q) (record { answer = refl; view = refl; key-bytes = refl })
-
--- ---- an accepted key
-
--- a key that lies over the start of an array
-key-over : (last key : List ℕ) → length key ≤ length last → take (length key) (splice last 0 key) ≡ key
-key-over last key h = ap (λ (n : ℕ). take n (splice last 0 key)) (sym (zero-add (length key))) ∙ take-past-splice last 0 key (omega arith)
 
 -- ---- the other methods, over the builder's numbers and the bytes of its last key
 

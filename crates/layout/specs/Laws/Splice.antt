@@ -49,6 +49,10 @@ module _ (xs : List ℕ) (a : ℕ) (w : List ℕ) (fits : a + length w ≤ lengt
       ∙ ap (λ (l : List ℕ). (take a xs ++ w) ++ (w′ ++ l)) (sym (drop-drop (length w′) (a + length w) (splice xs a w)) ∙ ap (drop (length w′)) drop-past-splice ∙ drop-drop (length w′) (a + length w) xs)
       ∙ simp (append-assoc, length-append, add-assoc)
 
+-- a key put over the start of a list stands there
+pub key-over : (xs key : List ℕ) → length key ≤ length xs → take (length key) (splice xs 0 key) ≡ key
+key-over xs key h = ap (λ (n : ℕ). take n (splice xs 0 key)) (sym (zero-add (length key))) ∙ take-past-splice xs 0 key (omega arith)
+
 -- a list that is cut at k, from n on
 seam : (n k : ℕ) (ys : List ℕ) → n ≤ length (take k ys) → drop n (take k ys) ++ drop k ys ≡ drop n ys
 seam n k ys h = sym (drop-append-le n (take k ys) (drop k ys) h) ∙ ap (drop n) (take-append-drop k ys)
