@@ -67,7 +67,7 @@ module _ (b : List ℕ) (t : Trailer) where
       pub stands-no : {n : ℕ} → regionOf b t (p .region) ≡ refuse n → refuse n ≡ rowsOf b t
       stands-no {n} e =
           checking-no b t (p .at) (p .region) (p .rows) key (p .«key_len») (s .checking) h n
-          (sym (row-region b t (p .at) (p .region) (p .rows) key (p .«key_len») (s .checking .holds) e))
+          (sym (row-region b t (p .at) (p .region) (p .rows) (s .checking .seq) key (p .«key_len») (s .checking .holds) e))
 
       module _ (g : Region) (e : regionOf b t (p .region) ≡ ok g) where
         tells : RegionTells b t (p .region) g
@@ -108,7 +108,7 @@ module _ (b : List ℕ) (t : Trailer) where
       inside = omega (arith, ends .inside)
 
       pub walks-no : {n : ℕ} → rowIn (dataOf b t) g at len ≡ refuse n → refuse n ≡ rowsOf b t
-      walks-no {n} e = checking-no b t at r rows key len here inside n (sym (row-no b t at r rows key len (here .holds) g used e))
+      walks-no {n} e = checking-no b t at r rows key len here inside n (sym (row-no b t at r rows (here .seq) key len (here .holds) g used e))
 
       module _ (x : RowRead) (e : rowIn (dataOf b t) g at len ≡ ok x) where
         row : RowEnds (dataOf b t) at (g .end) len (eqb at (g .start)) x
@@ -132,7 +132,7 @@ module _ (b : List ℕ) (t : Trailer) where
             rw (suffix-is, drop-take (x .shared) len key h (omega (arith, here .holds .few, here .holds .whole)))
 
         pub walks-falls : below suffix rest ≡ true → refuse 17 ≡ rowsOf b t
-        walks-falls f = checking-no b t at r rows key len here inside 17 (sym (row-falls b t at r rows key len (here .holds) g used x e (order ∙ f)))
+        walks-falls f = checking-no b t at r rows key len here inside 17 (sym (row-falls b t at r rows (here .seq) key len (here .holds) g used x e (order ∙ f)))
 
         pub walks-room : x .shared + length suffix ≤ length key
         walks-room = rw (← suffix-is) (suffix-fits (dataOf b t) at (g .end) (eqb at (g .start)) key len (here .holds) x e)
@@ -144,9 +144,9 @@ module _ (b : List ℕ) (t : Trailer) where
             rw (q ∙ ap (splice key (x .shared)) (sym suffix-is))
             (record {
               checking =
-                  checking-more b t at r rows key len here inside (x .next) (cond (ltb (x .next) (g .end)) r (r + 1)) (rows + 1) (splice key (x .shared) (suffixOf (dataOf b t) x)) (keyLength x)
+                  checking-more b t at r rows key len here inside (x .next) (cond (ltb (x .next) (g .end)) r (r + 1)) (rows + 1) (x .seq) (splice key (x .shared) (suffixOf (dataOf b t) x)) (keyLength x)
                   (carries-on (dataOf b t) at (g .end) (eqb at (g .start)) key len (here .holds) x e) (omega (arith, row .least))
-                  (row-passed b t at r rows key len (here .holds) g used x e (order ∙ f));
+                  (row-passed b t at r rows (here .seq) key len (here .holds) g used x e (order ∙ f));
               few = omega (arith, w .few, row .least);
               within = row .within;
             })

@@ -4,6 +4,7 @@ use mathlib.Core.Path.{_≡_}
 use mathlib.Core.List.{List, []}
 use Rattle.layout.specs.Answer.{Res, refuse}
 use Rattle.layout.specs.Check.{passedIs, checkFrom}
+use Rattle.layout.specs.Key.{noRank}
 use Rattle.layout.specs.Trailer.{Trailer, offsetAt}
 use Rattle.layout.specs.Laws.Check.{Checking}
 use Rattle.basics.specs.Number.{number}
@@ -13,7 +14,7 @@ use Rattle.block_check_v2.specs.declared.Walked.the-variants.{Over, Refu
 
 -- what the check answers once trailer and offsets are good
 abbrev pub rowsOf : List ℕ → Trailer → Res ℕ
-rowsOf b t = checkFrom (t .size) b t (passedIs 0 0 [] 0)
+rowsOf b t = checkFrom (t .size) b t (passedIs 0 0 noRank 0)
 
 -- before a region, or at the data's end: what is left of the check, from here on, answers what the whole does
 pub record Stands (b : List ℕ) (t : Trailer) (p : Passed) (key : List ℕ) : Type 0 where

@@ -10,7 +10,7 @@ use mathlib.Core.List.{List, []}
 use lib.ListN.{length, getD}
 use Rattle.layout.specs.Answer.{ok}
 use Rattle.layout.specs.Limits.{maxKey, maxRestarts}
-use Rattle.layout.specs.Key.{Key, below, firstAtOrAbove, firstAbove}
+use Rattle.layout.specs.Key.{Key, below, noRank, Rising, firstAtOrAbove, firstAbove}
 use Rattle.layout.specs.Row.{Fields, Row, encodeRow, Typed}
 use Rattle.layout.specs.Trailer.{Trailer}
 use Rattle.layout.specs.Check.{check}
@@ -18,7 +18,7 @@ use Rattle.layout.specs.Cursor.{ascending, descending, Cursor, opened, Keyed, f
 use Rattle.layout.specs.Seek.{Sought, soughtIs, seek}
 use Rattle.demands.specs.Reads.{Accepts, keysOf}
 use Rattle.demands.specs.Runs.{Held, Call, Ran, Finishes, RoomFor, backwards, GivesFirst}
-use Rattle.demands.specs.Rows.{DecodesBack, Rows, Walked, SoughtUp, SoughtDown, FoundFirst, RowsNeverFall}
+use Rattle.demands.specs.Rows.{DecodesBack, Rows, Walked, SoughtUp, SoughtDown, FoundFirst, offeredRanks}
 use Rattle.demands.specs.RunsProof.{walks-first}
 use Rattle.demands.specs.Proof3.{encode-tells, ran-laid}
 use Rattle.demands.specs.Proof2.{decodes-back, rows-walked, accepted-rows, rows-room, sought-up, sought-down, first-splits, last-splits, retry-present, retry-absent, restarts-few, laid-accepted, accepted-laid}
@@ -86,9 +86,9 @@ module _ (b : List ℕ) (n : ℕ) (t : Trailer) (rows : List Keyed) (q : Rows b 
       let same : s .c ≡ c = ap (λ (x : Sought). x .cursor) (ok-inj (sym (s .is) ∙ e)) in
       (λ i h k. rw same at (retry-present b n t rows q target room fits i h k), λ k moved g has. retry-absent b n t rows q target room fits k moved (rw same g) has)
 
--- A finished block is accepted exactly when its keys never fall.
+-- A finished block is accepted exactly when its rows are in order: each may follow the one before.
 pub finished-accepted : (size interval : ℕ) (calls : List Call) (rows : List Row) (end : Held) (block : List ℕ) → Ran size interval calls rows end → Finishes end block
-    → (RowsNeverFall [] rows → check block ≡ ok (length rows)) × ((n : ℕ) → check block ≡ ok n → RowsNeverFall [] rows)
+    → (Rising noRank (offeredRanks rows) → check block ≡ ok (length rows)) × ((n : ℕ) → check block ≡ ok n → Rising noRank (offeredRanks rows))
 finished-accepted size interval calls rows end block ran f =
     let l = ran-laid size interval calls rows end ran block f in
     (laid-accepted block interval rows l, λ n e. accepted-laid block interval rows n l e)

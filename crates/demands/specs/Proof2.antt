@@ -1,7 +1,7 @@
 -- Demand 2, proved: a row decodes to what was encoded, a seek lands where it must, a walk gives every row, the check is exact. Over an accepted block these are the laws of
 -- its rows (`Accepts`), with the walks that stand before or after them.
 use Prim.Native.Nat.{ℕ, zero, suc, _+_, _-_, _*_, _<_, _≤_, zero-le}
-use mathlib.Core.Path.{_≡_, refl, ap, sym, _∙_}
+use mathlib.Core.Path.{_≡_, refl, ap, ap₂, sym, _∙_}
 use mathlib.Core.Bool.{true, false}
 use mathlib.Core.List.{List, [], _∷_, _++_, map}
 use mathlib.Core.Logic.{_⊎_, ⊎-elim, inl, inr}
@@ -13,7 +13,7 @@ use lib.Seq.{getD-drop}
 use borrow.Author.Tests.{eq-eqb}
 use Rattle.layout.specs.Answer.{Res, ok}
 use Rattle.layout.specs.Limits.{maxKey, maxRestarts}
-use Rattle.layout.specs.Key.{Key, below, leading, isBelow, notAbove, firstAtOrAbove, firstAbove}
+use Rattle.layout.specs.Key.{Key, below, leading, isBelow, notAbove, firstAtOrAbove, firstAbove, rankIs, noRank, Rising}
 use Rattle.layout.specs.Row.{Fields, Row, rowBytes, Typed, plainRow}
 use Rattle.layout.specs.RowRead.{RowRead, readRow, decodeRow, keyLength}
 use Rattle.layout.specs.Fixed.{unbig}
@@ -21,9 +21,9 @@ use Rattle.layout.specs.Trailer.{shortAt, Trailer, dataOf, offsetAt}
 use Rattle.layout.specs.Check.{check}
 use Rattle.layout.specs.Cursor.{ascending, descending, Cursor, opened, Keyed, found, done, Step, stepIs, next}
 use Rattle.layout.specs.Seek.{doneUp, doneDown}
-use Rattle.demands.specs.Reads.{regionsRows, Reads, allRows, NeverFall, keysOf, contentOf}
+use Rattle.demands.specs.Reads.{regionsRows, Reads, allRows, ranksOf, keysOf, contentOf}
 use Rattle.demands.specs.Runs.{RoomFor, backwards, Walks, stands, gives, WalksAll}
-use Rattle.demands.specs.Rows.{DecodesBack, Rows, Walked, RowsNeverFall, SoughtUp, SoughtDown, FoundFirst}
+use Rattle.demands.specs.Rows.{DecodesBack, Rows, Walked, offeredRanks, SoughtUp, SoughtDown, FoundFirst}
 use Rattle.demands.specs.RunsProof.{walks-before, walks-after}
 use Rattle.demands.specs.Proof3.{Encoded, encoded-fields}
 use Rattle.layout.specs.Laws.Answer.{ok-inj, ltb-cases, bool-cases, clash}
@@ -36,7 +36,7 @@ use Rattle.demands.specs.Laws.Reads.{region-at, rows-all}
 use Rattle.demands.specs.Laws.Ascend.{opened-before}
 use Rattle.demands.specs.Laws.Descend.{opened-after}
 use Rattle.demands.specs.Laws.Accept.{check-accepts, accepts-check}
-use Rattle.demands.specs.Laws.Sorted.{may-at-most}
+use Rattle.demands.specs.Laws.Sorted.{NeverFall, rising-never-falls}
 use Rattle.demands.specs.Laws.First.{first-before, first-here, above-before, above-here}
 use Rattle.demands.specs.Laws.Split.{split-at}
 use Rattle.demands.specs.Laws.LandsUp.{LandsUp, lands, passes, SeeksUp, seeks-up}
@@ -95,10 +95,10 @@ rows-room b n t rows q =
 
 module _ (b : List ℕ) (n : ℕ) (t : Trailer) (rows : List Keyed) (q : Rows b n t rows) (target : Key) (room : ℕ) (f : RoomFor room rows) where
   s-up : SeeksUp b t target rows
-  s-up = rw (q .are) (seeks-up b t (q .regions) target (q .reads) (rw (q .are) at (q .in-order)))
+  s-up = rw (q .are) (seeks-up b t (q .regions) target (q .reads) (rw (q .are) at (rising-never-falls noRank rows (q .in-order))))
 
   s-down : SeeksDown b t target rows
-  s-down = rw (q .are) (seeks-down b t (q .regions) target (q .reads) (rw (q .are) at (q .in-order)))
+  s-down = rw (q .are) (seeks-down b t (q .regions) target (q .reads) (rw (q .are) at (rising-never-falls noRank rows (q .in-order))))
 
   -- a marked cursor says "done", unchanged
   over-up : WalksAll b room (doneUp t) []
@@ -146,8 +146,8 @@ module _ (b : List ℕ) (n : ℕ) (t : Trailer) (rows : List Keyed) (q : Rows b 
 -- keys that never fall, by their numbers
 sorted-from : (a : Key) (ks : List Keyed) → NeverFall a ks → (j : ℕ) → j < length ks → AtMost a (getD (keysOf ks) j [])
 sorted-from a [] o j h = absurd (not-suc-le-zero h)
-sorted-from a (k ∷ ks) o zero h = may-at-most a (k .key) (o .0)
-sorted-from a (k ∷ ks) o (suc j) h = at-most-trans a (k .key) (getD (keysOf ks) j []) (may-at-most a (k .key) (o .0)) (sorted-from (k .key) ks (o .1) j (omega arith))
+sorted-from a (k ∷ ks) o zero h = below-false (k .key) a (o .0)
+sorted-from a (k ∷ ks) o (suc j) h = at-most-trans a (k .key) (getD (keysOf ks) j []) (below-false (k .key) a (o .0)) (sorted-from (k .key) ks (o .1) j (omega arith))
 
 pub sorted-by : (a : Key) (ks : List Keyed) → NeverFall a ks → (i j : ℕ) → i ≤ j → j < length ks → AtMost (getD (keysOf ks) i []) (getD (keysOf ks) j [])
 sorted-by a [] o i j h l = absurd (not-suc-le-zero l)
@@ -158,7 +158,10 @@ sorted-by a (k ∷ ks) o (suc i) (suc j) h l = sorted-by (k .key) ks (o .1) i j 
 
 -- ---- what "first at or above" and "first above" name, where keys never fall
 
-module _ (target : Key) (rows : List Keyed) (o : NeverFall [] rows) (i : ℕ) (here : i < length rows) where
+module _ (target : Key) (rows : List Keyed) (in-order : Rising noRank (ranksOf rows)) (i : ℕ) (here : i < length rows) where
+  o : NeverFall [] rows
+  o = rising-never-falls noRank rows in-order
+
   keys-many : length (keysOf rows) ≡ length rows
   keys-many = length-map rows (λ (k : Keyed). k .key)
 
@@ -237,7 +240,7 @@ module _ (b : List ℕ) (n : ℕ) (t : Trailer) (rows : List Keyed) (q : Rows b 
               let g = first-given b room (sought-up b n t rows q target room f .c) k ks (w .last) (w .walks) in
               let key : getD (keysOf rows) (firstAtOrAbove target (keysOf rows)) [] ≡ k .key = key-at rows (firstAtOrAbove target (keysOf rows)) k ks z in
               let up : AtMost target (k .key) = below-false (k .key) target (rw key at (first-here target (keysOf rows) (omega (arith, count)))) in
-              let down : AtMost (k .key) target = rw (key, e) at (sorted-by [] rows (q .in-order) (firstAtOrAbove target (keysOf rows)) i no-later h) in
+              let down : AtMost (k .key) target = rw (key, e) at (sorted-by [] rows (rising-never-falls noRank rows (q .in-order)) (firstAtOrAbove target (keysOf rows)) i no-later h) in
               record {
                 k = k;
                 rest = ks;
@@ -314,45 +317,34 @@ restarts-few b t regions q h =
     let last = offsets-apart b t regions q (t .count - 1) (omega arith) in
     omega (arith, short-small b (t .size + 2 * (t .count - 1)) h)
 
--- ---- a finished block is accepted exactly when its keys never fall
+-- ---- a finished block is accepted exactly when its rows are in order
 
-same-keys : (d : List ℕ) (k : Keyed) (r : Row) → contentOf d k ≡ plainRow r → k .key ≡ r .key
-same-keys d k r e = ap (λ (x : Row). x .key) e
-
-falls-to : (d : List ℕ) (before : Key) (ks : List Keyed) (rows : List Row) → map (contentOf d) ks ≡ map plainRow rows → NeverFall before ks → RowsNeverFall before rows
-falls-to d before [] [] e o = tt
-falls-to d before [] (r ∷ rows) e o = absurd (let z : _≡_ {A = ℕ} 0 1 = cc in omega arith)
-falls-to d before (k ∷ ks) [] e o = tt
-falls-to d before (k ∷ ks) (r ∷ rows) e o =
+-- rows of equal content stand alike in the order of rows
+same-ranks : (d : List ℕ) (ks : List Keyed) (rows : List Row) → map (contentOf d) ks ≡ map plainRow rows → ranksOf ks ≡ offeredRanks rows
+same-ranks d [] [] e = refl
+same-ranks d [] (r ∷ rows) e = absurd (let z : _≡_ {A = ℕ} 0 1 = cc in omega arith)
+same-ranks d (k ∷ ks) [] e = absurd (let z : _≡_ {A = ℕ} 0 1 = cc in omega arith)
+same-ranks d (k ∷ ks) (r ∷ rows) e =
     let h : contentOf d k ≡ plainRow r = cc in
     let t : map (contentOf d) ks ≡ map plainRow rows = cc in
-    let s = same-keys d k r h in
-    (rw s at (o .0), falls-to d (r .key) ks rows t (rw s at (o .1)))
+    let first : rankIs (k .key) (k .row .seq) ≡ rankIs (r .key) (r .fields .seq) = ap (λ (x : Row). rankIs (x .key) (x .fields .seq)) h in
+    ap₂ _∷_ first (same-ranks d ks rows t)
 
-falls-from : (d : List ℕ) (before : Key) (ks : List Keyed) (rows : List Row) → map (contentOf d) ks ≡ map plainRow rows → RowsNeverFall before rows → NeverFall before ks
-falls-from d before [] rows e o = tt
-falls-from d before (k ∷ ks) [] e o = absurd (let z : _≡_ {A = ℕ} 0 1 = cc in omega arith)
-falls-from d before (k ∷ ks) (r ∷ rows) e o =
-    let h : contentOf d k ≡ plainRow r = cc in
-    let t : map (contentOf d) ks ≡ map plainRow rows = cc in
-    let s = same-keys d k r h in
-    (rw s (o .0), rw s (falls-from d (r .key) ks rows t (o .1)))
-
-pub laid-accepted : (b : List ℕ) (n : ℕ) (rows : List Row) → LaidBlock b n rows → RowsNeverFall [] rows → check b ≡ ok (length rows)
+pub laid-accepted : (b : List ℕ) (n : ℕ) (rows : List Row) → LaidBlock b n rows → Rising noRank (offeredRanks rows) → check b ≡ ok (length rows)
 laid-accepted b n rows l o =
     accepts-check b (length rows)
     (record {
       t = l .t;
       regions = l .regions;
       reads = l .reads;
-      in-order = falls-from (dataOf b (l .t)) [] (allRows (l .regions)) rows (l .contents) o;
+      in-order = rw (same-ranks (dataOf b (l .t)) (allRows (l .regions)) rows (l .contents)) o;
       many =
           sym (length-map rows plainRow) ∙ ap length (sym (l .contents)) ∙ length-map (allRows (l .regions)) (contentOf (dataOf b (l .t)));
     })
 
-pub accepted-laid : (b : List ℕ) (n : ℕ) (rows : List Row) (k : ℕ) → LaidBlock b n rows → check b ≡ ok k → RowsNeverFall [] rows
+pub accepted-laid : (b : List ℕ) (n : ℕ) (rows : List Row) (k : ℕ) → LaidBlock b n rows → check b ≡ ok k → Rising noRank (offeredRanks rows)
 accepted-laid b n rows k l e =
     let a = check-accepts b k e in
     let t : a .t ≡ l .t = ok-inj (sym (a .reads .trailer-good) ∙ l .reads .trailer-good) in
     let r : a .regions ≡ l .regions = ok-inj (sym (a .reads .rows-read) ∙ ap (λ (x : Trailer). regionsRows (x .count) b x 0) t ∙ l .reads .rows-read) in
-    falls-to (dataOf b (l .t)) [] (allRows (l .regions)) rows (l .contents) (rw r at (a .in-order))
+    rw (← same-ranks (dataOf b (l .t)) (allRows (l .regions)) rows (l .contents), ← r) (a .in-order)

@@ -1,12 +1,12 @@
--- A block's rows, region by region, each read from its restart to the region's end. The order of keys is not asked: it stands beside, as `NeverFall`.
+-- A block's rows, region by region, each read from its restart to the region's end. The order of rows is not asked: it stands beside, as `Rising`.
 use Prim.Native.Nat.{ℕ, zero, suc}
 use mathlib.Core.Path.{_≡_}
-use mathlib.Core.Bool.{true, cond}
+use mathlib.Core.Bool.{cond}
 use mathlib.Core.List.{List, [], _∷_, _++_, map}
 use lib.Dec.{ltb}
 use lib.ListN.{length}
 use Rattle.layout.specs.Answer.{Res, ok, bind}
-use Rattle.layout.specs.Key.{Key, mayFollow}
+use Rattle.layout.specs.Key.{Key, Rank, rankIs, noRank, Rising}
 use Rattle.layout.specs.Row.{Row}
 use Rattle.layout.specs.RowRead.{keyOf, fieldsOf}
 use Rattle.layout.specs.Trailer.{Trailer, trailerOf, dataOf, Region, regionOf, allOffsets, rowIn}
@@ -42,17 +42,16 @@ unfoldable pub allRows : List (List Keyed) → List Keyed
 allRows [] = []
 allRows (rows ∷ more) = rows ++ allRows more
 
--- each row may follow the one before
-abbrev pub NeverFall : Key → List Keyed → Type 0
-NeverFall before [] = Unit {0}
-NeverFall before (k ∷ ks) = (mayFollow before (k .key) ≡ true) × NeverFall (k .key) ks
+-- rows that were read, in the order of rows
+abbrev pub ranksOf : List Keyed → List Rank
+ranksOf ks = map (λ (k : Keyed). rankIs (k .key) (k .row .seq)) ks
 
 -- accepted: the rows are read, in order, and the answer is how many there are
 pub record Accepts (b : List ℕ) (n : ℕ) : Type 0 where
   pub t : Trailer
   pub regions : List (List Keyed)
   pub reads : Reads b t regions
-  pub in-order : NeverFall [] (allRows regions)
+  pub in-order : Rising noRank (ranksOf (allRows regions))
   pub many : n ≡ length (allRows regions)
 
 -- ---- what is said of rows that were read

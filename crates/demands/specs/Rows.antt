@@ -1,18 +1,18 @@
 -- What the demands say of rows: of one row that is decoded, of the rows that an accepted block has, of walks through them, and of seeks.
 use Prim.Native.Nat.{ℕ, _<_}
 use mathlib.Core.Path.{_≡_}
-use mathlib.Core.Bool.{true, false}
-use mathlib.Core.List.{List, [], _∷_, _++_}
+use mathlib.Core.Bool.{false}
+use mathlib.Core.List.{List, [], _∷_, _++_, map}
 use mathlib.Core.Logic.{_⊎_}
 use lib.ListN.{length, take, drop, getD}
 use Rattle.layout.specs.Answer.{ok}
-use Rattle.layout.specs.Key.{Key, mayFollow, firstAtOrAbove, firstAbove}
+use Rattle.layout.specs.Key.{Key, Rank, rankIs, noRank, Rising, firstAtOrAbove, firstAbove}
 use Rattle.layout.specs.Row.{Fields, Row, plain}
 use Rattle.layout.specs.RowRead.{RowRead, decodeRow, keyOf, fieldsOf}
 use Rattle.layout.specs.Trailer.{Trailer}
 use Rattle.layout.specs.Cursor.{ascending, descending, Cursor, opened, openBlock, Keyed, found, stepIs, next}
 use Rattle.layout.specs.Seek.{doneUp, doneDown, soughtIs, seek}
-use Rattle.demands.specs.Reads.{Reads, allRows, NeverFall, keysOf}
+use Rattle.demands.specs.Reads.{Reads, allRows, ranksOf, keysOf}
 use Rattle.demands.specs.Runs.{WalksAll, backwards}
 
 -- ---- one row
@@ -32,7 +32,7 @@ pub record Rows (b : List ℕ) (n : ℕ) (t : Trailer) (rows : List Keyed) : Typ
   pub regions : List (List Keyed)
   pub reads : Reads b t regions
   pub are : rows ≡ allRows regions
-  pub in-order : NeverFall [] rows
+  pub in-order : Rising noRank (ranksOf rows)
   pub many : n ≡ length rows
 
 -- opened and stepped through, both ways
@@ -42,10 +42,9 @@ pub record Walked (b : List ℕ) (t : Trailer) (room : ℕ) (rows : List Keyed) 
   pub forwards : WalksAll b room (opened ascending t) rows
   pub back : WalksAll b room (opened descending t) (backwards rows)
 
--- the keys of rows that were offered never fall
-abbrev pub RowsNeverFall : Key → List Row → Type 0
-RowsNeverFall before [] = Unit {0}
-RowsNeverFall before (r ∷ rs) = (mayFollow before (r .key) ≡ true) × RowsNeverFall (r .key) rs
+-- rows that were offered, in the order of rows
+abbrev pub offeredRanks : List Row → List Rank
+offeredRanks rs = map (λ (r : Row). rankIs (r .key) (r .fields .seq)) rs
 
 -- ---- seeks
 

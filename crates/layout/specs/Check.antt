@@ -1,33 +1,37 @@
 -- "The check": the trailer (14), all offsets (15), then rows one after another from 0 to the data's end, 17 last of its row. It answers the number of rows.
 use Prim.Native.Nat.{ℕ, zero, suc, _+_}
 use mathlib.Core.Bool.{cond, not}
-use mathlib.Core.List.{List, []}
+use mathlib.Core.List.{List}
 use lib.Dec.{ltb}
 use lib.ListN.{length}
 use Rattle.layout.specs.Answer.{Res, ok, bind, guard}
-use Rattle.layout.specs.Key.{Key, mayFollow}
+use Rattle.layout.specs.Key.{Key, Rank, rankIs, noRank, mayFollow}
 use Rattle.layout.specs.RowRead.{RowRead, keyOf}
 use Rattle.layout.specs.Trailer.{Trailer, trailerOf, dataOf, Region, regionOf, allOffsets, rowIn}
 
--- how far the check has come: the place of the next row, its region, the key before it, and the rows passed
+-- how far the check has come: the place of the next row, its region, the row before it, and the rows passed
 pub record Passed : Type 0 where
   pub at : ℕ
   pub region : ℕ
-  pub before : Key
+  pub before : Rank
   pub rows : ℕ
 
-abbrev pub passedIs : ℕ → ℕ → Key → ℕ → Passed
+abbrev pub passedIs : ℕ → ℕ → Rank → ℕ → Passed
 passedIs at region before rows = record { at = at; region = region; before = before; rows = rows }
+
+-- a row that was read after a key, in the order of rows
+abbrev pub readRank : List ℕ → Key → RowRead → Rank
+readRank d before r = rankIs (keyOf d before r) (r .seq)
 
 -- past a row: its region's end is where the next region starts
 abbrev pub passedRow : List ℕ → Passed → Region → RowRead → Passed
-passedRow d p g r = passedIs (r .next) (cond (ltb (r .next) (g .end)) (p .region) (p .region + 1)) (keyOf d (p .before) r) (p .rows + 1)
+passedRow d p g r = passedIs (r .next) (cond (ltb (r .next) (g .end)) (p .region) (p .region + 1)) (readRank d (p .before .key) r) (p .rows + 1)
 
 unfoldable pub checkRow : List ℕ → Trailer → Passed → Res Passed
 checkRow b t p =
     bind (regionOf b t (p .region)) λ g.
-    bind (rowIn (dataOf b t) g (p .at) (length (p .before))) λ r.
-    guard (not (mayFollow (p .before) (keyOf (dataOf b t) (p .before) r))) 17
+    bind (rowIn (dataOf b t) g (p .at) (length (p .before .key))) λ r.
+    guard (not (mayFollow (p .before) (readRank (dataOf b t) (p .before .key) r))) 17
     (ok (passedRow (dataOf b t) p g r))
 
 -- as many steps as there are bytes are enough: each row moves on
@@ -39,4 +43,4 @@ unfoldable pub check : List ℕ → Res ℕ
 check b =
     bind (trailerOf b) λ t.
     bind (allOffsets b t) λ _.
-    checkFrom (t .size) b t (passedIs 0 0 [] 0)
+    checkFrom (t .size) b t (passedIs 0 0 noRank 0)

@@ -1,5 +1,6 @@
--- Keys: their order, what two begin with in common, and the first of a list at or above a target.
+-- Keys: their order, what two begin with in common, the order of rows, and the first of a list of keys at or above a target.
 use Prim.Native.Nat.{ℕ, suc}
+use mathlib.Core.Path.{_≡_}
 use mathlib.Core.Bool.{Bool, true, false, cond, not}
 use mathlib.Core.List.{List, [], _∷_}
 use lib.Dec.{ltb, eqb}
@@ -29,9 +30,28 @@ common [] ys = 0
 common (x ∷ xs) [] = 0
 common (x ∷ xs) (y ∷ ys) = cond (eqb x y) (suc (common xs ys)) 0
 
--- the order that a block's check asks of two rows, one after the other
-unfoldable pub mayFollow : Key → Key → Bool
-mayFollow before key = not (below key before)
+-- ---- the order of rows
+
+-- what of a row tells its place in the order: its key and its sequence number
+pub record Rank : Type 0 where
+  pub key : Key
+  pub seq : ℕ
+
+abbrev pub rankIs : Key → ℕ → Rank
+rankIs k q = record { key = k; seq = q }
+
+-- before the first row stands none: no key is below its key
+abbrev pub noRank : Rank
+noRank = rankIs [] 0
+
+-- the order that a block's check asks of two rows, one after the other: the key never falls
+unfoldable pub mayFollow : Rank → Rank → Bool
+mayFollow before row = not (below (row .key) (before .key))
+
+-- each may follow the one before
+abbrev pub Rising : Rank → List Rank → Type 0
+Rising before [] = Unit {0}
+Rising before (r ∷ rs) = (mayFollow before r ≡ true) × Rising r rs
 
 -- ---- over lists of keys
 

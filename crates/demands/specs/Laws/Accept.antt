@@ -12,12 +12,12 @@ use lib.Dec.{ltb}
 use lib.ListN.{length}
 use borrow.Author.Tests.{lt-ltb, le-ltb, eq-eqb, not-false}
 use Rattle.layout.specs.Answer.{ok, bind}
-use Rattle.layout.specs.Key.{Key, mayFollow}
+use Rattle.layout.specs.Key.{Key, Rank, rankIs, noRank, mayFollow, Rising}
 use Rattle.layout.specs.RowRead.{RowRead, readRow, rowAt, headAt, keyOf}
 use Rattle.layout.specs.Trailer.{Trailer, trailerOf, dataOf, Region, regionOf, allOffsets, rowIn}
-use Rattle.layout.specs.Check.{Passed, passedIs, passedRow, checkRow, checkFrom, check}
+use Rattle.layout.specs.Check.{Passed, passedIs, readRank, passedRow, checkRow, checkFrom, check}
 use Rattle.layout.specs.Cursor.{Keyed, keyed}
-use Rattle.demands.specs.Reads.{regionRows, regionsRows, allRows, NeverFall, Accepts}
+use Rattle.demands.specs.Reads.{regionRows, regionsRows, allRows, ranksOf, Accepts}
 use Rattle.layout.specs.Laws.Answer.{bind-then, guard-then, ok-inj, ltb-cases}
 use Rattle.layout.specs.Laws.Trailer.{regionOf-tells, trailerOf-tells, OffsetsTell, allOffsets-tell, region-good}
 use Rattle.layout.specs.Laws.Tells.{readRow-ends, rowIn-ends}
@@ -88,12 +88,12 @@ past-row b t offs g at region before carried r key s e =
 
 -- ---- what is left of the block, from where the fold stands
 
-pub record Covers (b : List ℕ) (t : Trailer) (g : Region) (at region : ℕ) (before carried : Key) (rows total : ℕ) : Type 0 where
+pub record Covers (b : List ℕ) (t : Trailer) (g : Region) (at region : ℕ) (before : Rank) (carried : Key) (rows total : ℕ) : Type 0 where
   pub here : List Keyed
   pub rest : List (List Keyed)
   pub rows-here : regionRows (t .size) (dataOf b t) g at carried ≡ ok here
   pub rows-then : regionsRows (t .count - suc region) b t (suc region) ≡ ok rest
-  pub in-order : NeverFall before (here ++ allRows rest)
+  pub in-order : Rising before (ranksOf (here ++ allRows rest))
   pub many : total ≡ rows + length (here ++ allRows rest)
 
 module _ (b : List ℕ) (t : Trailer) (offs : OffsetsTell b t) where
@@ -125,97 +125,97 @@ module _ (b : List ℕ) (t : Trailer) (offs : OffsetsTell b t) where
       (ap (regionsRows (t .count - suc (region + 1)) b t) (ap suc (sym (add-one region))) ∙ q))
 
   -- one step of the fold
-  checked-row : (g : Region) (at region rows : ℕ) (before carried : Key) (q : Passed) → Stands b t g at region before carried → checkRow b t (passedIs at region before rows) ≡ ok q
+  checked-row : (g : Region) (at region rows : ℕ) (before : Rank) (carried : Key) (q : Passed) → Stands b t g at region (before .key) carried → checkRow b t (passedIs at region before rows) ≡ ok q
       → {A : Type 0}
-      → ((r : RowRead) → rowIn (dataOf b t) g at (length carried) ≡ ok r → mayFollow before (keyOf (dataOf b t) carried r) ≡ true
-      → passedIs (r .next) (cond (ltb (r .next) (g .end)) region (region + 1)) (keyOf (dataOf b t) carried r) (rows + 1) ≡ q → A) → A
+      → ((r : RowRead) → rowIn (dataOf b t) g at (length carried) ≡ ok r → mayFollow before (readRank (dataOf b t) carried r) ≡ true
+      → passedIs (r .next) (cond (ltb (r .next) (g .end)) region (region + 1)) (readRank (dataOf b t) carried r) (rows + 1) ≡ q → A) → A
   unfolding checkRow
   checked-row g at region rows before carried q s e k =
       bind-then (regionOf b t region) _ q e λ h u e₁.
       let same : g ≡ h = ok-inj (sym (s .used) ∙ u) in
-      bind-then (rowIn (dataOf b t) h at (length before)) _ q e₁ λ r p e₂.
-      guard-then (not (mayFollow before (keyOf (dataOf b t) before r))) 17 _ q e₂ λ m e₃.
-      let p′ : rowIn (dataOf b t) g at (length before) ≡ ok r = rw same p in
-      let p″ = sym (same-row b t g at region before carried s) ∙ p′ in
-      let key = same-key b t g at region before carried r s p″ in
+      bind-then (rowIn (dataOf b t) h at (length (before .key))) _ q e₁ λ r p e₂.
+      guard-then (not (mayFollow before (readRank (dataOf b t) (before .key) r))) 17 _ q e₂ λ m e₃.
+      let p′ : rowIn (dataOf b t) g at (length (before .key)) ≡ ok r = rw same p in
+      let p″ = sym (same-row b t g at region (before .key) carried s) ∙ p′ in
+      let key = same-key b t g at region (before .key) carried r s p″ in
       let w : passedRow (dataOf b t) (passedIs at region before rows) h r ≡ q = ok-inj e₃ in
-      k r p″ (ap (mayFollow before) (sym key) ∙ not-false (mayFollow before (keyOf (dataOf b t) before r)) m)
-      (ap (λ (x : Key). passedIs (r .next) (cond (ltb (r .next) (g .end)) region (region + 1)) x (rows + 1)) (sym key)
+      k r p″ (ap (λ (x : Key). mayFollow before (rankIs x (r .seq))) (sym key) ∙ not-false (mayFollow before (readRank (dataOf b t) (before .key) r)) m)
+      (ap (λ (x : Key). passedIs (r .next) (cond (ltb (r .next) (g .end)) region (region + 1)) (rankIs x (r .seq)) (rows + 1)) (sym key)
       ∙ ap (λ (x : Region). passedRow (dataOf b t) (passedIs at region before rows) x r) same ∙ w)
 
-  step-from : (left at region rows : ℕ) (before : Key) → at < t .size
+  step-from : (left at region rows : ℕ) (before : Rank) → at < t .size
       → checkFrom (suc left) b t (passedIs at region before rows) ≡ bind (checkRow b t (passedIs at region before rows)) (λ q. checkFrom left b t q)
   unfolding checkFrom
   step-from left at region rows before h = rw (lt-ltb at (t .size) h)
 
-  over-from : (left at region rows : ℕ) (before : Key) → t .size ≤ at → checkFrom left b t (passedIs at region before rows) ≡ ok rows
+  over-from : (left at region rows : ℕ) (before : Rank) → t .size ≤ at → checkFrom left b t (passedIs at region before rows) ≡ ok rows
   unfolding checkFrom
   over-from zero at region rows before h = refl
   over-from (suc left) at region rows before h = rw (le-ltb at (t .size) h)
 
-  pub accepted-covers : (left : ℕ) (g : Region) (at region rows : ℕ) (before carried : Key) (total : ℕ) → Stands b t g at region before carried → t .size ≤ at + left
+  pub accepted-covers : (left : ℕ) (g : Region) (at region rows : ℕ) (before : Rank) (carried : Key) (total : ℕ) → Stands b t g at region (before .key) carried → t .size ≤ at + left
       → checkFrom left b t (passedIs at region before rows) ≡ ok total → Covers b t g at region before carried rows total
   accepted-covers zero g at region rows before carried total s h e = absurd (omega (arith, s .high, regionOf-tells b t region g (s .used) .inside))
   accepted-covers (suc left) g at region rows before carried total s h e =
       bind-then (checkRow b t (passedIs at region before rows)) _ total (sym (step-from left at region rows before (omega (arith, s .high, size))) ∙ e) λ q p e₁.
       checked-row g at region rows before carried q s p λ r u m is.
-      go r u m (cond (ltb (r .next) (g .end)) region (region + 1)) (ap (checkFrom left b t) is ∙ e₁) (past-row b t offs g at region before carried r (keyOf (dataOf b t) carried r) s u)
+      go r u m (cond (ltb (r .next) (g .end)) region (region + 1)) (ap (checkFrom left b t) is ∙ e₁) (past-row b t offs g at region (before .key) carried r (keyOf (dataOf b t) carried r) s u)
       (accepted-covers left)
     where
       size : g .end ≤ t .size
       size = regionOf-tells b t region g (s .used) .inside
 
-      go : (r : RowRead) → rowIn (dataOf b t) g at (length carried) ≡ ok r → mayFollow before (keyOf (dataOf b t) carried r) ≡ true
-          → (region′ : ℕ) → checkFrom left b t (passedIs (r .next) region′ (keyOf (dataOf b t) carried r) (rows + 1)) ≡ ok total
+      go : (r : RowRead) → rowIn (dataOf b t) g at (length carried) ≡ ok r → mayFollow before (readRank (dataOf b t) carried r) ≡ true
+          → (region′ : ℕ) → checkFrom left b t (passedIs (r .next) region′ (readRank (dataOf b t) carried r) (rows + 1)) ≡ ok total
           → Next b t g (r .next) region (keyOf (dataOf b t) carried r) region′
-          → ((g : Region) (at region rows : ℕ) (before carried : Key) (total : ℕ) → Stands b t g at region before carried → t .size ≤ at + left
+          → ((g : Region) (at region rows : ℕ) (before : Rank) (carried : Key) (total : ℕ) → Stands b t g at region (before .key) carried → t .size ≤ at + left
           → checkFrom left b t (passedIs at region before rows) ≡ ok total → Covers b t g at region before carried rows total)
           → Covers b t g at region before carried rows total
       go r u m region′ e (stay s′) ih =
           let on = rowIn-ends (dataOf b t) g at (length carried) r u .least in
           let key : Key = keyOf (dataOf b t) carried r in
-          let c = ih g (r .next) region (rows + 1) (keyOf (dataOf b t) carried r) (keyOf (dataOf b t) carried r) total s′ (omega arith) e in
+          let c = ih g (r .next) region (rows + 1) (readRank (dataOf b t) carried r) (keyOf (dataOf b t) carried r) total s′ (omega arith) e in
           record {
             here = keyed r (keyOf (dataOf b t) carried r) ∷ c .here;
             rest = c .rest;
-            rows-here = first-here g at region before carried r (keyOf (dataOf b t) carried r) (c .here) s u refl (c .rows-here);
+            rows-here = first-here g at region (before .key) carried r (keyOf (dataOf b t) carried r) (c .here) s u refl (c .rows-here);
             rows-then = c .rows-then;
             in-order = (m, c .in-order);
             many = omega (arith, c .many);
           }
       go r u m region′ e (enter f at-end here s′) ih =
           let on = rowIn-ends (dataOf b t) g at (length carried) r u .least in
-          let c = ih f (r .next) (region + 1) (rows + 1) (keyOf (dataOf b t) carried r) [] total s′ (omega arith) e in
+          let c = ih f (r .next) (region + 1) (rows + 1) (readRank (dataOf b t) carried r) [] total s′ (omega arith) e in
           let rows-next : regionRows (t .size) (dataOf b t) f (f .start) [] ≡ ok (c .here) = ap (λ (n : ℕ). regionRows (t .size) (dataOf b t) f n []) (sym here) ∙ c .rows-here in
           record {
             here = keyed r (keyOf (dataOf b t) carried r) ∷ [];
             rest = c .here ∷ c .rest;
-            rows-here = first-here g at region before carried r (keyOf (dataOf b t) carried r) [] s u refl (region-over (t .size) (dataOf b t) g (r .next) (keyOf (dataOf b t) carried r) (omega arith));
+            rows-here = first-here g at region (before .key) carried r (keyOf (dataOf b t) carried r) [] s u refl (region-over (t .size) (dataOf b t) g (r .next) (keyOf (dataOf b t) carried r) (omega arith));
             rows-then = one-more region f (c .here) (c .rest) (s′ .inside) (s′ .used) rows-next (c .rows-then);
             in-order = (m, rw (allRows-next (c .here) (c .rest)) (c .in-order));
             many = rw (allRows-next (c .here) (c .rest)) (omega (arith, c .many));
           }
       go r u m region′ e (end at-end over last) ih =
-          let one : ok (rows + 1) ≡ ok total = sym (over-from left (r .next) (region + 1) (rows + 1) (keyOf (dataOf b t) carried r) over) ∙ e in
+          let one : ok (rows + 1) ≡ ok total = sym (over-from left (r .next) (region + 1) (rows + 1) (readRank (dataOf b t) carried r) over) ∙ e in
           record {
             here = keyed r (keyOf (dataOf b t) carried r) ∷ [];
             rest = [];
-            rows-here = first-here g at region before carried r (keyOf (dataOf b t) carried r) [] s u refl (region-over (t .size) (dataOf b t) g (r .next) (keyOf (dataOf b t) carried r) (omega arith));
+            rows-here = first-here g at region (before .key) carried r (keyOf (dataOf b t) carried r) [] s u refl (region-over (t .size) (dataOf b t) g (r .next) (keyOf (dataOf b t) carried r) (omega arith));
             rows-then = no-more region last;
             in-order = rw allRows-none (m, tt);
             many = rw allRows-none (sym (ok-inj one));
           }
 
   -- and back: rows that are read, in order, are accepted
-  passes-row : (g : Region) (at region rows : ℕ) (before carried : Key) (r : RowRead) → Stands b t g at region before carried
-      → rowIn (dataOf b t) g at (length carried) ≡ ok r → mayFollow before (keyOf (dataOf b t) carried r) ≡ true
-      → checkRow b t (passedIs at region before rows) ≡ ok (passedIs (r .next) (cond (ltb (r .next) (g .end)) region (region + 1)) (keyOf (dataOf b t) carried r) (rows + 1))
+  passes-row : (g : Region) (at region rows : ℕ) (before : Rank) (carried : Key) (r : RowRead) → Stands b t g at region (before .key) carried
+      → rowIn (dataOf b t) g at (length carried) ≡ ok r → mayFollow before (readRank (dataOf b t) carried r) ≡ true
+      → checkRow b t (passedIs at region before rows) ≡ ok (passedIs (r .next) (cond (ltb (r .next) (g .end)) region (region + 1)) (readRank (dataOf b t) carried r) (rows + 1))
   unfolding checkRow
   passes-row g at region rows before carried r s u m =
-      rw (s .used, same-row b t g at region before carried s, u, same-key b t g at region before carried r s u, m)
+      rw (s .used, same-row b t g at region (before .key) carried s, u, same-key b t g at region (before .key) carried r s u, m)
 
-  pub covers-accepted : (left : ℕ) (g : Region) (at region rows : ℕ) (before carried : Key) (here : List Keyed) (rest : List (List Keyed)) → Stands b t g at region before carried
-      → t .size ≤ at + left → regionRows (t .size) (dataOf b t) g at carried ≡ ok here → regionsRows (t .count - suc region) b t (suc region) ≡ ok rest → NeverFall before (here ++ allRows rest)
+  pub covers-accepted : (left : ℕ) (g : Region) (at region rows : ℕ) (before : Rank) (carried : Key) (here : List Keyed) (rest : List (List Keyed)) → Stands b t g at region (before .key) carried
+      → t .size ≤ at + left → regionRows (t .size) (dataOf b t) g at carried ≡ ok here → regionsRows (t .count - suc region) b t (suc region) ≡ ok rest → Rising before (ranksOf (here ++ allRows rest))
       → checkFrom left b t (passedIs at region before rows) ≡ ok (rows + length (here ++ allRows rest))
   covers-accepted zero g at region rows before carried here rest s h p q o = absurd (omega (arith, s .high, regionOf-tells b t region g (s .used) .inside))
   covers-accepted (suc left) g at region rows before carried here rest s h p q o =
@@ -225,47 +225,47 @@ module _ (b : List ℕ) (t : Trailer) (offs : OffsetsTell b t) where
       let w = rowIn-ends (dataOf b t) g at (length carried) r u in
       let more′ : regionRows (t .size) (dataOf b t) g (r .next) (keyOf (dataOf b t) carried r) ≡ ok ks =
       region-more (t .size) m (dataOf b t) g (r .next) (keyOf (dataOf b t) carried r) (omega (arith, size)) enough ∙ more in
-      let o′ : NeverFall before (keyed r (keyOf (dataOf b t) carried r) ∷ (ks ++ allRows rest)) = rw is at o in
+      let o′ : Rising before (ranksOf (keyed r (keyOf (dataOf b t) carried r) ∷ (ks ++ allRows rest))) = rw is at o in
       step-from left at region rows before (omega (arith, s .high, size))
       ∙ rw (passes-row g at region rows before carried r s u (o′ .0), is)
-      (go r ks (w .least) more′ (o′ .1) (cond (ltb (r .next) (g .end)) region (region + 1)) (past-row b t offs g at region before carried r (keyOf (dataOf b t) carried r) s u) (covers-accepted left)))
+      (go r ks (w .least) more′ (o′ .1) (cond (ltb (r .next) (g .end)) region (region + 1)) (past-row b t offs g at region (before .key) carried r (keyOf (dataOf b t) carried r) s u) (covers-accepted left)))
     where
       size : g .end ≤ t .size
       size = regionOf-tells b t region g (s .used) .inside
 
       go : (r : RowRead) (ks : List Keyed) → at + 12 ≤ r .next → regionRows (t .size) (dataOf b t) g (r .next) (keyOf (dataOf b t) carried r) ≡ ok ks
-          → NeverFall (keyOf (dataOf b t) carried r) (ks ++ allRows rest) → (region′ : ℕ) → Next b t g (r .next) region (keyOf (dataOf b t) carried r) region′
-          → ((g : Region) (at region rows : ℕ) (before carried : Key) (here : List Keyed) (rest : List (List Keyed)) → Stands b t g at region before carried → t .size ≤ at + left
-          → regionRows (t .size) (dataOf b t) g at carried ≡ ok here → regionsRows (t .count - suc region) b t (suc region) ≡ ok rest → NeverFall before (here ++ allRows rest)
+          → Rising (readRank (dataOf b t) carried r) (ranksOf (ks ++ allRows rest)) → (region′ : ℕ) → Next b t g (r .next) region (keyOf (dataOf b t) carried r) region′
+          → ((g : Region) (at region rows : ℕ) (before : Rank) (carried : Key) (here : List Keyed) (rest : List (List Keyed)) → Stands b t g at region (before .key) carried → t .size ≤ at + left
+          → regionRows (t .size) (dataOf b t) g at carried ≡ ok here → regionsRows (t .count - suc region) b t (suc region) ≡ ok rest → Rising before (ranksOf (here ++ allRows rest))
           → checkFrom left b t (passedIs at region before rows) ≡ ok (rows + length (here ++ allRows rest)))
-          → checkFrom left b t (passedIs (r .next) region′ (keyOf (dataOf b t) carried r) (rows + 1)) ≡ ok (rows + suc (length (ks ++ allRows rest)))
+          → checkFrom left b t (passedIs (r .next) region′ (readRank (dataOf b t) carried r) (rows + 1)) ≡ ok (rows + suc (length (ks ++ allRows rest)))
       go r ks on more o region′ (stay s′) ih =
-          ih g (r .next) region (rows + 1) (keyOf (dataOf b t) carried r) (keyOf (dataOf b t) carried r) ks rest s′ (omega arith) more q o ∙ ap ok (omega arith)
+          ih g (r .next) region (rows + 1) (readRank (dataOf b t) carried r) (keyOf (dataOf b t) carried r) ks rest s′ (omega arith) more q o ∙ ap ok (omega arith)
       go r ks on more o region′ (enter f at-end start s′) ih =
           entered (t .count - suc region) (omega (arith, s′ .inside)) q
         where
           entered : (n : ℕ) → n ≡ t .count - suc region → regionsRows n b t (suc region) ≡ ok rest
-              → checkFrom left b t (passedIs (r .next) (region + 1) (keyOf (dataOf b t) carried r) (rows + 1)) ≡ ok (rows + suc (length (ks ++ allRows rest)))
+              → checkFrom left b t (passedIs (r .next) (region + 1) (readRank (dataOf b t) carried r) (rows + 1)) ≡ ok (rows + suc (length (ks ++ allRows rest)))
           entered zero z q = absurd (omega (arith, s′ .inside))
           entered (suc n) z q = made rest o (regions-are n b t (suc region) rest q)
             where
               none : ks ≡ []
               none = ok-inj (sym more ∙ region-over (t .size) (dataOf b t) g (r .next) (keyOf (dataOf b t) carried r) (omega arith))
 
-              made : (rest : List (List Keyed)) → NeverFall (keyOf (dataOf b t) carried r) (ks ++ allRows rest) → RegionsAre n b t (suc region) rest
-                  → checkFrom left b t (passedIs (r .next) (region + 1) (keyOf (dataOf b t) carried r) (rows + 1)) ≡ ok (rows + suc (length (ks ++ allRows rest)))
+              made : (rest : List (List Keyed)) → Rising (readRank (dataOf b t) carried r) (ranksOf (ks ++ allRows rest)) → RegionsAre n b t (suc region) rest
+                  → checkFrom left b t (passedIs (r .next) (region + 1) (readRank (dataOf b t) carried r) (rows + 1)) ≡ ok (rows + suc (length (ks ++ allRows rest)))
               made rest o (next-region e here more′ u p w) =
                   let same : e ≡ f = ok-inj (sym u ∙ ap (regionOf b t) (sym (add-one region)) ∙ s′ .used) in
                   let p′ : regionRows (t .size) (dataOf b t) f (r .next) [] ≡ ok here = rw (start, ← same) p in
-                  let o′ : NeverFall (keyOf (dataOf b t) carried r) (here ++ allRows more′) = rw (none, allRows-next here more′) at o in
+                  let o′ : Rising (readRank (dataOf b t) carried r) (ranksOf (here ++ allRows more′)) = rw (none, allRows-next here more′) at o in
                   let m : n ≡ t .count - suc (region + 1) = omega arith in
                   let w′ : regionsRows (t .count - suc (region + 1)) b t (suc (region + 1)) ≡ ok more′ = rw (← m, add-one region) w in
-                  ih f (r .next) (region + 1) (rows + 1) (keyOf (dataOf b t) carried r) [] here more′ s′ (omega arith) p′ w′ o′
+                  ih f (r .next) (region + 1) (rows + 1) (readRank (dataOf b t) carried r) [] here more′ s′ (omega arith) p′ w′ o′
                   ∙ rw (none, allRows-next here more′) (ap ok (omega arith))
       go r ks on more o region′ (end at-end over last) ih =
           let none : ks ≡ [] = ok-inj (sym more ∙ region-over (t .size) (dataOf b t) g (r .next) (keyOf (dataOf b t) carried r) (omega arith)) in
           let no-rest : rest ≡ [] = ok-inj (sym q ∙ no-more region last) in
-          over-from left (r .next) (region + 1) (rows + 1) (keyOf (dataOf b t) carried r) over ∙ rw (none, no-rest, allRows-none) (ap ok (omega arith))
+          over-from left (r .next) (region + 1) (rows + 1) (readRank (dataOf b t) carried r) over ∙ rw (none, no-rest, allRows-none) (ap ok (omega arith))
 
 -- ---- the check, exactly
 
@@ -284,10 +284,10 @@ check-accepts b n e =
     let offs = allOffsets-tell b t u q in
     let some = trailerOf-tells b t p .1 in
     let s = start-stands b t offs some in
-    let c = accepted-covers b t offs (t .size) (s .0) 0 0 0 [] [] n (s .3) (omega arith) e₂ in
+    let c = accepted-covers b t offs (t .size) (s .0) 0 0 0 noRank [] n (s .3) (omega arith) e₂ in
     made t p q (s .0) (s .1) (s .2) some c
   where
-    made : (t : Trailer) {u : Unit {0}} → trailerOf b ≡ ok t → allOffsets b t ≡ ok u → (g : Region) → regionOf b t 0 ≡ ok g → g .start ≡ 0 → 1 ≤ t .count → Covers b t g 0 0 [] [] 0 n → Accepts b n
+    made : (t : Trailer) {u : Unit {0}} → trailerOf b ≡ ok t → allOffsets b t ≡ ok u → (g : Region) → regionOf b t 0 ≡ ok g → g .start ≡ 0 → 1 ≤ t .count → Covers b t g 0 0 noRank [] 0 n → Accepts b n
     made t p q g used z some c =
         let first : regionRows (t .size) (dataOf b t) g (g .start) [] ≡ ok (c .here) = ap (λ (k : ℕ). regionRows (t .size) (dataOf b t) g k []) z ∙ c .rows-here in
         let m : t .count ≡ suc (t .count - 1) = omega arith in
@@ -314,15 +314,15 @@ accepts-check b n a =
     rw (a .reads .trailer-good, a .reads .offsets-good) (go offs (s .0) (s .1) (s .2) (s .3) (a .t .count) refl some (a .reads .rows-read))
   where
     go : OffsetsTell b (a .t) → (g : Region) → regionOf b (a .t) 0 ≡ ok g → g .start ≡ 0 → Stands b (a .t) g 0 0 [] [] → (m : ℕ) → m ≡ a .t .count → 1 ≤ a .t .count
-        → regionsRows m b (a .t) 0 ≡ ok (a .regions) → checkFrom (a .t .size) b (a .t) (passedIs 0 0 [] 0) ≡ ok n
+        → regionsRows m b (a .t) 0 ≡ ok (a .regions) → checkFrom (a .t .size) b (a .t) (passedIs 0 0 noRank 0) ≡ ok n
     go offs g used z s zero e some p = absurd (omega arith)
     go offs g used z s (suc m) e some p = made (a .regions) (a .in-order) (a .many) (regions-are m b (a .t) 0 (a .regions) p)
       where
-        made : (rss : List (List Keyed)) → NeverFall [] (allRows rss) → n ≡ length (allRows rss) → RegionsAre m b (a .t) 0 rss → checkFrom (a .t .size) b (a .t) (passedIs 0 0 [] 0) ≡ ok n
+        made : (rss : List (List Keyed)) → Rising noRank (ranksOf (allRows rss)) → n ≡ length (allRows rss) → RegionsAre m b (a .t) 0 rss → checkFrom (a .t .size) b (a .t) (passedIs 0 0 noRank 0) ≡ ok n
         made rss o l (next-region f here rest u p w) =
             let same : f ≡ g = ok-inj (sym u ∙ used) in
             let p′ : regionRows (a .t .size) (dataOf b (a .t)) g 0 [] ≡ ok here =
             ap (λ (k : ℕ). regionRows (a .t .size) (dataOf b (a .t)) g k []) (sym z) ∙ ap (λ (x : Region). regionRows (a .t .size) (dataOf b (a .t)) x (x .start) []) (sym same) ∙ p in
             let k : m ≡ a .t .count - 1 = omega arith in
-            covers-accepted b (a .t) offs (a .t .size) g 0 0 0 [] [] here rest s (omega arith) p′ (rw (← k) w) (rw (allRows-next here rest) at o)
+            covers-accepted b (a .t) offs (a .t .size) g 0 0 0 noRank [] here rest s (omega arith) p′ (rw (← k) w) (rw (allRows-next here rest) at o)
             ∙ ap ok (zero-add (length (here ++ allRows rest)) ∙ sym (l ∙ ap length (allRows-next here rest)))

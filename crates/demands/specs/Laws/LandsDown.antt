@@ -16,7 +16,7 @@ use Rattle.layout.specs.RowRead.{RowRead, keyOf}
 use Rattle.layout.specs.Trailer.{Trailer, trailerOf, dataOf, Region, regionOf, rowIn}
 use Rattle.layout.specs.Cursor.{descending, Cursor, cursorIs, Keyed, keyed}
 use Rattle.layout.specs.Seek.{Found, restartKey, restartBelow, lastEqual, startDown, lastAtOrBelow, doneDown, walkDown, soughtIs, seek}
-use Rattle.demands.specs.Reads.{regionRows, regionsRows, Reads, allRows, NeverFall, keysOf}
+use Rattle.demands.specs.Reads.{regionRows, regionsRows, Reads, allRows, keysOf}
 use Rattle.layout.specs.Laws.Answer.{bool-cases, ltb-cases, ok-inj, clash}
 use Rattle.layout.specs.Laws.Key.{AtMost, at-most-refl, below-false, le-below, below-le, same-is}
 use Rattle.layout.specs.Laws.Trailer.{RegionTells, regionOf-tells, trailerOf-tells}
@@ -26,7 +26,7 @@ use Rattle.layout.specs.Laws.Seek.{below-is, start-past, start-earlier, start-r
 use Rattle.demands.specs.Laws.Reads.{region-at, region-over, endsAt, RegionsAre, next as next-region, regions-are, regions-none, allRows-none, allRows-next}
 use Rattle.demands.specs.Laws.Descend.{Front, none, then, After}
 use Rattle.demands.specs.Laws.Split.{Split, split-at, searched}
-use Rattle.demands.specs.Laws.Sorted.{AllPass, leading-all, leading-most, leading-step, leading-stop, leading-within, leading-whole, rises, none-above, above-on, falls-on, falls-first}
+use Rattle.demands.specs.Laws.Sorted.{NeverFall, AllPass, leading-all, leading-most, leading-step, leading-stop, leading-within, leading-whole, rises, none-above, above-on, falls-on, falls-first}
 
 -- ---- the read of a whole region
 

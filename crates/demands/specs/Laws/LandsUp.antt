@@ -18,7 +18,7 @@ use Rattle.layout.specs.RowRead.{RowRead, keyOf}
 use Rattle.layout.specs.Trailer.{Trailer, trailerOf, dataOf, Region, regionOf, rowIn}
 use Rattle.layout.specs.Cursor.{ascending, Cursor, cursorIs, Keyed, keyed}
 use Rattle.layout.specs.Seek.{restartBelow, Stop, stopIs, walkRegion, doneUp, walkUp, soughtIs, seek}
-use Rattle.demands.specs.Reads.{regionRows, regionsRows, Reads, allRows, NeverFall, keysOf}
+use Rattle.demands.specs.Reads.{regionRows, regionsRows, Reads, allRows, keysOf}
 use Rattle.layout.specs.Laws.Answer.{ltb-cases, ok-inj}
 use Rattle.layout.specs.Laws.Trailer.{regionOf-tells}
 use Rattle.layout.specs.Laws.Tells.{rowIn-ends}
@@ -28,7 +28,7 @@ use Rattle.layout.specs.Laws.Seek.{below-is, up-from, seek-is}
 use Rattle.demands.specs.Laws.Reads.{region-at, region-over, RegionsAre, next as next-region, regions-are, regions-none, regions-cons, allRows-none, allRows-next}
 use Rattle.demands.specs.Laws.Ascend.{Before}
 use Rattle.demands.specs.Laws.Descend.{none}
-use Rattle.demands.specs.Laws.Sorted.{AllPass, leading-all, leading-most, leading-step, leading-stop, leading-within, leading-whole, all-below}
+use Rattle.demands.specs.Laws.Sorted.{NeverFall, AllPass, leading-all, leading-most, leading-step, leading-stop, leading-within, leading-whole, all-below}
 
 -- ---- the walk of one region
 

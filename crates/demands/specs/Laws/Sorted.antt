@@ -8,9 +8,9 @@ use native.Mathlib.Omega.{arith}
 use native.Mathlib.Nat.{le-of-suc-le-suc, not-suc-le-zero, suc-add, zero-add}
 use lib.ListN.{length}
 use borrow.Author.Tests.{not-true}
-use Rattle.layout.specs.Key.{Key, below, mayFollow, leading, isBelow, notAbove}
+use Rattle.layout.specs.Key.{Key, below, Rank, rankIs, mayFollow, Rising, leading, isBelow, notAbove}
 use Rattle.layout.specs.Cursor.{Keyed}
-use Rattle.demands.specs.Reads.{NeverFall, AllOf, keysOf}
+use Rattle.demands.specs.Reads.{ranksOf, AllOf, keysOf}
 use Rattle.layout.specs.Laws.Answer.{bool-cases, clash}
 use Rattle.layout.specs.Laws.Key.{AtMost, at-most-trans, below-false, le-below, below-trans}
 
@@ -56,16 +56,24 @@ module _ (p : Key → Bool) where
       (λ t. absurd (omega (arith, rw t at e)))
       (bool-cases (p (k .key)))
 
--- ---- keys that never fall
+-- ---- keys that never fall: all that a seek needs of the order of rows
 
-pub may-at-most : (a b : Key) → mayFollow a b ≡ true → AtMost a b
+abbrev pub NeverFall : Key → List Keyed → Type 0
+NeverFall before [] = Unit {0}
+NeverFall before (k ∷ ks) = (below (k .key) before ≡ false) × NeverFall (k .key) ks
+
+pub may-not-below : (a b : Rank) → mayFollow a b ≡ true → below (b .key) (a .key) ≡ false
 unfolding mayFollow
-may-at-most a b e = below-false b a (not-true (below b a) e)
+may-not-below a b e = not-true (below (b .key) (a .key)) e
+
+pub rising-never-falls : (a : Rank) (ks : List Keyed) → Rising a (ranksOf ks) → NeverFall (a .key) ks
+rising-never-falls a [] o = tt
+rising-never-falls a (k ∷ ks) o = (may-not-below a (rankIs (k .key) (k .row .seq)) (o .0), rising-never-falls (rankIs (k .key) (k .row .seq)) ks (o .1))
 
 -- what stands before is at most what stands after
 pub rises : (a : Key) (xs : List Keyed) (k : Keyed) (ys : List Keyed) → NeverFall a (xs ++ (k ∷ ys)) → AtMost a (k .key)
-rises a [] k ys o = may-at-most a (k .key) (o .0)
-rises a (x ∷ xs) k ys o = at-most-trans a (x .key) (k .key) (may-at-most a (x .key) (o .0)) (rises (x .key) xs k ys (o .1))
+rises a [] k ys o = below-false (k .key) a (o .0)
+rises a (x ∷ xs) k ys o = at-most-trans a (x .key) (k .key) (below-false (x .key) a (o .0)) (rises (x .key) xs k ys (o .1))
 
 pub falls-on : (a : Key) (xs ys : List Keyed) → NeverFall a (xs ++ ys) → (b : Key) × NeverFall b ys
 falls-on a [] ys o = (a, o)
@@ -92,6 +100,6 @@ above-on target a [] o e = refl
 above-on target a (k ∷ ks) o e =
     let b : below target (k .key) ≡ true =
     ⊎-elim (λ t. t)
-    (λ t. absurd (clash e (le-below target a (at-most-trans a (k .key) target (may-at-most a (k .key) (o .0)) (below-false target (k .key) t)))))
+    (λ t. absurd (clash e (le-below target a (at-most-trans a (k .key) target (below-false (k .key) a (o .0)) (below-false target (k .key) t)))))
     (bool-cases (below target (k .key))) in
     rw b

@@ -11,7 +11,7 @@ use borrow.Author.Tests.{le-ltb}
 use Rattle.layout.specs.Answer.{Res, ok}
 use Rattle.layout.specs.Limits.{maxKey}
 use Rattle.layout.specs.Place.{splice}
-use Rattle.layout.specs.Key.{Key, below, mayFollow}
+use Rattle.layout.specs.Key.{Key, below, rankIs, mayFollow}
 use Rattle.layout.specs.RowRead.{RowRead, readRow, keyLength, keyOf}
 use Rattle.layout.specs.Laws.Splice.{length-splice, take-past-splice}
 use Rattle.layout.specs.Laws.Tells.{RowEnds, readRow-ends, row-shares}
@@ -79,9 +79,10 @@ below-after [] a b = refl
 below-after (x ∷ p) a b = rw (le-ltb x x (omega arith)) (below-after p a b)
 
 -- a row's key against the carried one: only what follows the shared bytes is compared
-pub follows-suffix : (key : List ℕ) (len shared : ℕ) (s : List ℕ) → shared ≤ len → mayFollow (take len key) (take shared key ++ s) ≡ not (below s (drop shared (take len key)))
+pub follows-suffix : (key : List ℕ) (len shared : ℕ) (s : List ℕ) (q₁ q₂ : ℕ) → shared ≤ len
+    → mayFollow (rankIs (take len key) q₁) (rankIs (take shared key ++ s) q₂) ≡ not (below s (drop shared (take len key)))
 unfolding mayFollow
-follows-suffix key len shared s h =
+follows-suffix key len shared s q₁ q₂ h =
     let split : take shared key ++ drop shared (take len key) ≡ take len key =
     ap (λ (x : List ℕ). x ++ drop shared (take len key)) (sym (take-take shared len key h)) ∙ take-append-drop shared (take len key) in
     ap not (ap (below (take shared key ++ s)) (sym split) ∙ below-after (take shared key) s (drop shared (take len key)))

@@ -11,10 +11,10 @@ use borrow.Author.Tests.{lt-ltb, le-ltb}
 use Rattle.layout.specs.Answer.{Res, ok, refuse, bind}
 use Rattle.layout.specs.Limits.{maxKey}
 use Rattle.layout.specs.Place.{splice}
-use Rattle.layout.specs.Key.{below, mayFollow}
-use Rattle.layout.specs.RowRead.{RowRead, keyLength, keyOf}
+use Rattle.layout.specs.Key.{below, rankIs, noRank, mayFollow}
+use Rattle.layout.specs.RowRead.{RowRead, keyLength}
 use Rattle.layout.specs.Trailer.{Trailer, trailerOf, dataOf, Region, regionOf, allOffsets, rowIn}
-use Rattle.layout.specs.Check.{Passed, passedIs, checkRow, checkFrom, check}
+use Rattle.layout.specs.Check.{Passed, passedIs, readRank, checkRow, checkFrom, check}
 use Rattle.layout.specs.Laws.Answer.{spend}
 use Rattle.layout.specs.Laws.Carry.{Carries, read-carried, suffixOf, key-new, key-parts, follows-suffix}
 use Rattle.layout.specs.Laws.Tells.{row-shares, rowIn-ends}
@@ -31,15 +31,15 @@ module _ (b : List ℕ) where
     unfolding check
     check-offsets o = rw (e, o)
 
-    pub check-rows : {x : Res ℕ} → allOffsets b t ≡ ok tt → x ≡ checkFrom (t .size) b t (passedIs 0 0 [] 0) → x ≡ check b
+    pub check-rows : {x : Res ℕ} → allOffsets b t ≡ ok tt → x ≡ checkFrom (t .size) b t (passedIs 0 0 noRank 0) → x ≡ check b
     unfolding check
     check-rows o r = rw (e, o) r
 
 -- ---- one row, from the array that carries the key before it
 
-module _ (b : List ℕ) (t : Trailer) (at region rows : ℕ) (key : List ℕ) (len : ℕ) (c : Carries key len) where
+module _ (b : List ℕ) (t : Trailer) (at region rows seq : ℕ) (key : List ℕ) (len : ℕ) (c : Carries key len) where
   abbrev pub here : Passed
-  here = passedIs at region (take len key) rows
+  here = passedIs at region (rankIs (take len key) seq) rows
 
   pub row-region : {n : ℕ} → regionOf b t region ≡ refuse n → refuse n ≡ checkRow b t here
   unfolding checkRow
@@ -55,10 +55,10 @@ module _ (b : List ℕ) (t : Trailer) (at region rows : ℕ) (key : List ℕ) (l
 
     module _ (r : RowRead) (p : rowIn (dataOf b t) g at len ≡ ok r) where
       -- the order is told by what follows the shared bytes
-      order : mayFollow (take len key) (keyOf (dataOf b t) (take len key) r) ≡ not (below (suffixOf (dataOf b t) r) (drop (r .shared) (take len key)))
+      order : mayFollow (rankIs (take len key) seq) (readRank (dataOf b t) (take len key) r) ≡ not (below (suffixOf (dataOf b t) r) (drop (r .shared) (take len key)))
       order =
-          ap (mayFollow (take len key)) (sym (key-parts (dataOf b t) at (g .end) (eqb at (g .start)) key len c r p))
-          ∙ follows-suffix key len (r .shared) (suffixOf (dataOf b t) r) (row-shares (dataOf b t) at (g .end) len (eqb at (g .start)) r (rowIn-ends (dataOf b t) g at len r p))
+          ap (λ (k : List ℕ). mayFollow (rankIs (take len key) seq) (rankIs k (r .seq))) (sym (key-parts (dataOf b t) at (g .end) (eqb at (g .start)) key len c r p))
+          ∙ follows-suffix key len (r .shared) (suffixOf (dataOf b t) r) seq (r .seq) (row-shares (dataOf b t) at (g .end) len (eqb at (g .start)) r (rowIn-ends (dataOf b t) g at len r p))
 
       pub row-falls : below (suffixOf (dataOf b t) r) (drop (r .shared) (take len key)) ≡ true → refuse 17 ≡ checkRow b t here
       unfolding checkRow
@@ -66,7 +66,7 @@ module _ (b : List ℕ) (t : Trailer) (at region rows : ℕ) (key : List ℕ) (l
 
       -- past the row, the array carries its key
       abbrev pub after : Passed
-      after = passedIs (r .next) (cond (ltb (r .next) (g .end)) region (region + 1)) (take (keyLength r) (splice key (r .shared) (suffixOf (dataOf b t) r))) (rows + 1)
+      after = passedIs (r .next) (cond (ltb (r .next) (g .end)) region (region + 1)) (rankIs (take (keyLength r) (splice key (r .shared) (suffixOf (dataOf b t) r))) (r .seq)) (rows + 1)
 
       pub row-passed : below (suffixOf (dataOf b t) r) (drop (r .shared) (take len key)) ≡ false → checkRow b t here ≡ ok after
       unfolding checkRow
@@ -78,10 +78,11 @@ pub record Checking (b : List ℕ) (t : Trailer) (at region rows : ℕ) (key : L
   pub left : ℕ
   pub enough : t .size ≤ at + left
   pub holds : Carries key len
-  pub makes : checkFrom left b t (passedIs at region (take len key) rows) ≡ checkFrom (t .size) b t (passedIs 0 0 [] 0)
+  pub seq : ℕ
+  pub makes : checkFrom left b t (passedIs at region (rankIs (take len key) seq) rows) ≡ checkFrom (t .size) b t (passedIs 0 0 noRank 0)
 
 pub checking-start : (b : List ℕ) (t : Trailer) (key : List ℕ) → length key ≡ maxKey → Checking b t 0 0 0 key 0
-checking-start b t key h = record { left = t .size; enough = omega arith; holds = record { few = omega arith; whole = h }; makes = refl }
+checking-start b t key h = record { left = t .size; enough = omega arith; holds = record { few = omega arith; whole = h }; seq = 0; makes = refl }
 
 checkFrom-over : (left : ℕ) (b : List ℕ) (t : Trailer) (p : Passed) → t .size ≤ p .at → checkFrom left b t p ≡ ok (p .rows)
 unfolding checkFrom
@@ -93,21 +94,21 @@ unfolding checkFrom
 checkFrom-step left b t p h = rw (lt-ltb (p .at) (t .size) h)
 
 module _ (b : List ℕ) (t : Trailer) (at region rows : ℕ) (key : List ℕ) (len : ℕ) (s : Checking b t at region rows key len) where
-  pub checking-over : t .size ≤ at → ok rows ≡ checkFrom (t .size) b t (passedIs 0 0 [] 0)
-  checking-over h = sym (checkFrom-over (s .left) b t (passedIs at region (take len key) rows) h) ∙ s .makes
+  pub checking-over : t .size ≤ at → ok rows ≡ checkFrom (t .size) b t (passedIs 0 0 noRank 0)
+  checking-over h = sym (checkFrom-over (s .left) b t (passedIs at region (rankIs (take len key) (s .seq)) rows) h) ∙ s .makes
 
   module _ (h : at < t .size) where
     -- with steps left, one step is the whole
-    stepped : {A : Type 0} → ((left : ℕ) → t .size ≤ at + suc left → bind (checkRow b t (passedIs at region (take len key) rows)) (λ q. checkFrom left b t q) ≡ checkFrom (t .size) b t (passedIs 0 0 [] 0) → A) → A
+    stepped : {A : Type 0} → ((left : ℕ) → t .size ≤ at + suc left → bind (checkRow b t (passedIs at region (rankIs (take len key) (s .seq)) rows)) (λ q. checkFrom left b t q) ≡ checkFrom (t .size) b t (passedIs 0 0 noRank 0) → A) → A
     stepped f =
-        spend (λ (n : ℕ). checkFrom n b t (passedIs at region (take len key) rows)) (s .left) (λ z. absurd (omega (arith, s .enough))) (s .makes)
-        λ more is m. f more (omega (arith, s .enough)) (sym (checkFrom-step more b t (passedIs at region (take len key) rows) h) ∙ m)
+        spend (λ (n : ℕ). checkFrom n b t (passedIs at region (rankIs (take len key) (s .seq)) rows)) (s .left) (λ z. absurd (omega (arith, s .enough))) (s .makes)
+        λ more is m. f more (omega (arith, s .enough)) (sym (checkFrom-step more b t (passedIs at region (rankIs (take len key) (s .seq)) rows) h) ∙ m)
 
-    pub checking-no : (n : ℕ) → checkRow b t (passedIs at region (take len key) rows) ≡ refuse n → refuse n ≡ checkFrom (t .size) b t (passedIs 0 0 [] 0)
+    pub checking-no : (n : ℕ) → checkRow b t (passedIs at region (rankIs (take len key) (s .seq)) rows) ≡ refuse n → refuse n ≡ checkFrom (t .size) b t (passedIs 0 0 noRank 0)
     checking-no n e = stepped λ left q m. rw e at m
 
     -- the row that was passed moved on
-    pub checking-more : (at′ region′ rows′ : ℕ) (key′ : List ℕ) (len′ : ℕ) → Carries key′ len′ → at < at′
-        → checkRow b t (passedIs at region (take len key) rows) ≡ ok (passedIs at′ region′ (take len′ key′) rows′) → Checking b t at′ region′ rows′ key′ len′
-    checking-more at′ region′ rows′ key′ len′ c on e =
-        stepped λ left q m. record { left = left; enough = omega arith; holds = c; makes = rw e at m }
+    pub checking-more : (at′ region′ rows′ seq′ : ℕ) (key′ : List ℕ) (len′ : ℕ) → Carries key′ len′ → at < at′
+        → checkRow b t (passedIs at region (rankIs (take len key) (s .seq)) rows) ≡ ok (passedIs at′ region′ (rankIs (take len′ key′) seq′) rows′) → Checking b t at′ region′ rows′ key′ len′
+    checking-more at′ region′ rows′ seq′ key′ len′ c on e =
+        stepped λ left q m. record { left = left; enough = omega arith; holds = c; seq = seq′; makes = rw e at m }

@@ -135,15 +135,15 @@ unfolding risingFrom
 rising-none b t r low = refl
 
 -- a loop over the offsets: r of them are tested, and the next must be at least `low`
-pub record Rising (b : List ℕ) (t : Trailer) (r low : ℕ) : Type 0 where
+pub record RisesFrom (b : List ℕ) (t : Trailer) (r low : ℕ) : Type 0 where
   pub left : ℕ
   pub count : r + left ≡ t .count
   pub makes : risingFrom left b t r low ≡ risingFrom (t .count) b t 0 0
 
-pub rising-start : (b : List ℕ) (t : Trailer) → Rising b t 0 0
+pub rising-start : (b : List ℕ) (t : Trailer) → RisesFrom b t 0 0
 rising-start b t = record { left = t .count; count = omega arith; makes = refl }
 
-module _ (b : List ℕ) (t : Trailer) (r low : ℕ) (s : Rising b t r low) where
+module _ (b : List ℕ) (t : Trailer) (r low : ℕ) (s : RisesFrom b t r low) where
   -- with offsets left, a step is the whole
   stepped : r < t .count → {A : Type 0} → ((left : ℕ) → r + suc left ≡ t .count → risingFrom (suc left) b t r low ≡ risingFrom (t .count) b t 0 0 → A) → A
   stepped h f =
@@ -164,7 +164,7 @@ module _ (b : List ℕ) (t : Trailer) (r low : ℕ) (s : Rising b t r low) where
     pub rising-past : low ≤ offsetAt b t r → t .size ≤ offsetAt b t r → refuse 15 ≡ risingFrom (t .count) b t 0 0
     rising-past k l = stepped h λ left c m. sym (rising-far b t left r low k l) ∙ m
 
-    pub rising-next : low ≤ offsetAt b t r → offsetAt b t r < t .size → Rising b t (r + 1) (offsetAt b t r + 1)
+    pub rising-next : low ≤ offsetAt b t r → offsetAt b t r < t .size → RisesFrom b t (r + 1) (offsetAt b t r + 1)
     rising-next k l = stepped h λ left c m. record { left = left; count = omega arith; makes = sym (rising-on b t left r low k l) ∙ m }
 
 module _ (b : List ℕ) (t : Trailer) where

@@ -7,7 +7,7 @@ use mathlib.Core.List.{List}
 use native.Mathlib.Omega.{arith}
 use Rattle.layout.specs.Answer.{Res, refuse}
 use Rattle.layout.specs.Trailer.{Trailer, trailerIs, shortAt, offsetAt, risingFrom, allOffsets}
-use Rattle.layout.specs.Laws.Trailer.{Rising, rising-start, rising-over, rising-falls, rising-past, rising-next, offsets-first, offsets-rest}
+use Rattle.layout.specs.Laws.Trailer.{RisesFrom, rising-start, rising-over, rising-falls, rising-past, rising-next, offsets-first, offsets-rest}
 use Rattle.trailer.proofs.offsets_rise.Statement.{statement}
 use Rattle.trailer.proofs.offsets_rise.Tie as tie
 
@@ -24,22 +24,22 @@ module _ (b : List ℕ) (t : Trailer) (first : ℕ) (read : first ≡ shortAt b 
   no-data : 1 ≤ t .count → t .size ≤ first → refuse 15 ≡ risingFrom (t .count) b t 0 0
   no-data n k = rising-past b t 0 0 (rising-start b t) n zero-le (rw same k)
 
-  start : 1 ≤ t .count → first < t .size → Rising b t 1 (first + 1)
+  start : 1 ≤ t .count → first < t .size → RisesFrom b t 1 (first + 1)
   start n k = rw same at (rising-next b t 0 0 (rising-start b t) n zero-le (rw same k))
 
 -- the offset that a turn read is the definition's
-module _ (b : List ℕ) (t : Trailer) (r previous offset : ℕ) (s : Rising b t r (previous + 1)) (h : r < t .count) (read : offset ≡ offsetAt b t r) where
+module _ (b : List ℕ) (t : Trailer) (r previous offset : ℕ) (s : RisesFrom b t r (previous + 1)) (h : r < t .count) (read : offset ≡ offsetAt b t r) where
   falls : offset ≤ previous → refuse 15 ≡ risingFrom (t .count) b t 0 0
   falls k = rising-falls b t r (previous + 1) s h (omega (arith, read))
 
   beyond : previous < offset → t .size ≤ offset → refuse 15 ≡ risingFrom (t .count) b t 0 0
   beyond k m = rising-past b t r (previous + 1) s h (omega (arith, read)) (omega (arith, read))
 
-  turn : previous < offset → offset < t .size → Rising b t (r + 1) (offset + 1)
+  turn : previous < offset → offset < t .size → RisesFrom b t (r + 1) (offset + 1)
   turn k m = rw read (rising-next b t r (previous + 1) s h (omega (arith, read)) (omega (arith, read)))
 
 abbrev Inv-loop : tie.InvT-loop
-Inv-loop block size count first previous₀ r₀ previous r = Rising block (trailerIs count size) r (previous + 1)
+Inv-loop block size count first previous₀ r₀ previous r = RisesFrom block (trailerIs count size) r (previous + 1)
 
 abbrev μ-loop : tie.MeasureT-loop
 μ-loop block size count first previous₀ r₀ previous r = count - r
