@@ -1,47 +1,33 @@
 -- A row that is read depends on no byte at or past its end: the data is p and then s, the row ends inside p, and s may be any other bytes.
-use Prim.Native.Nat.{ℕ, zero, suc, _+_, _≤_}
+use Prim.Native.Nat.{ℕ, _+_, _≤_}
 use mathlib.Core.Path.{_≡_, ap}
 use mathlib.Core.Bool.{Bool, true, false}
 use mathlib.Core.List.{List, [], _∷_, _++_}
-use mathlib.Core.Logic.{⊎-elim}
 use native.Mathlib.Omega.{arith}
 use lib.Dec.{ltb}
 use lib.ListN.{length, drop, length-append, length-drop, List·getD-append}
 use lib.Seq.{take-append-le, drop-append-le}
 use borrow.Author.Tests.{le-ltb}
-use Rattle.layout.specs.Answer.{ok, bind}
+use Rattle.layout.specs.Answer.{ok}
 use Rattle.layout.specs.Limits.{maxValue}
-use Rattle.layout.specs.Varint.{readVarint, readVarintIn, Num, num}
+use Rattle.layout.specs.Varint.{readVarint}
 use Rattle.layout.specs.Place.{NumAt, varintAt, fixedAt, SignedAt, signedAt}
 use Rattle.layout.specs.Row.{keyLengthTests}
 use Rattle.layout.specs.RowRead.{Lengths, seqAt, lengthsAt, mayShare, headAt, Flags, Body, bodyAt, TimeAt, timeAt, Times, timesAt, RowRead, rowAt, readRow}
-use Rattle.layout.specs.Laws.Answer.{bind-then, guard-then, ok-inj, cond-ok}
-use Rattle.layout.specs.Laws.Varint.{readVarintIn-len}
+use Rattle.layout.specs.Laws.Answer.{bind-then, guard-then, ok-inj}
+use Rattle.layout.specs.Laws.Varint.{readVarint-local}
 use Rattle.layout.specs.Laws.Place.{varintAt-ends, fixedAt-ends}
 use Rattle.layout.specs.Laws.Tells.{bodyAt-tells, timeAt-ends, timesAt-ends}
 
-readVarintIn-local : (room : ℕ) (q s s′ : List ℕ) (r : Num) → readVarintIn room (q ++ s) ≡ ok r → r .len ≤ length q → readVarintIn room (q ++ s′) ≡ ok r
-unfolding readVarintIn
-readVarintIn-local room [] s s′ r e h = absurd (omega (arith, readVarintIn-len room s r e))
-readVarintIn-local zero (b ∷ q) s s′ r e h = e
-readVarintIn-local (suc room) (b ∷ q) s s′ r e h =
-    ⊎-elim
-    (λ t. rw (t .0) (t .1))
-    (λ t.
-    bind-then (readVarintIn room (q ++ s)) _ r (t .1) λ u e₁ e₂.
-    let n = ap (λ (x : Num). x .len) (ok-inj e₂) in
-    rw (t .0, readVarintIn-local room q s s′ u e₁ (omega arith)) e₂)
-    (cond-ok (ltb b 128) (ok (num b 1)) (bind (readVarintIn room (q ++ s)) _) r e)
-
 module _ (p s s′ : List ℕ) where
   varintAt-local : (at : ℕ) (r : NumAt) → varintAt (p ++ s) at ≡ ok r → r .next ≤ length p → varintAt (p ++ s′) at ≡ ok r
-  unfolding varintAt readVarint
+  unfolding varintAt
   varintAt-local at r e h =
       let w = varintAt-ends (p ++ s) at r e in
-      bind-then (readVarintIn 4 (drop at (p ++ s))) _ r e λ a e₁ e₂.
+      bind-then (readVarint (drop at (p ++ s))) _ r e λ a e₁ e₂.
       let n = ap (λ (x : NumAt). x .next) (ok-inj e₂) in
       let e₃ = rw (drop-append-le at p s (omega arith)) at e₁ in
-      rw (drop-append-le at p s′ (omega arith), readVarintIn-local 4 (drop at p) s s′ a e₃ (rw (length-drop at p) (omega arith))) e₂
+      rw (drop-append-le at p s′ (omega arith), readVarint-local (drop at p) s s′ a e₃ (rw (length-drop at p) (omega arith))) e₂
 
   fixedAt-local : (n at : ℕ) (r : NumAt) → fixedAt n (p ++ s) at ≡ ok r → r .next ≤ length p → fixedAt n (p ++ s′) at ≡ ok r
   unfolding fixedAt

@@ -8,7 +8,7 @@ use mathlib.Core.Logic.{⊎-elim}
 use native.Mathlib.Omega.{arith}
 use lib.Dec.{ltb}
 use Rattle.layout.specs.Answer.{Res, ok, refuse, bind, guard}
-use Rattle.layout.specs.Varint.{readVarintIn, readVarint}
+use Rattle.layout.specs.Varint.{Num, readVarint}
 use Rattle.layout.specs.Place.{varintAt, fixedAt}
 use Rattle.layout.specs.Key.{Key}
 use Rattle.layout.specs.Row.{keyLengthTests}
@@ -16,6 +16,7 @@ use Rattle.layout.specs.RowRead.{lengthsAt, headAt, flagsAt, bodyAt, timeAt, ti
 use Rattle.layout.specs.Trailer.{Trailer, trailerOf, Region, regionOf}
 use Rattle.layout.specs.Cursor.{Direction, ascending, descending}
 use Rattle.layout.specs.Seek.{searchIn, search as searchSpan, restartKey, restartBelow, searchRestarts, walkRegion, walkUp, seekUp, lastEqual, startDown, lastAtOrBelow, walkDown, seekDown, Sought, seekAlong, seek}
+use Rattle.layout.specs.Laws.Varint.{VarintAnswer, reads, ends, spells-wrong, readVarint-answers}
 use Rattle.layout.specs.Laws.Answer.{ltb-cases, clash}
 
 -- 1 to 3, or 9 to 16
@@ -43,14 +44,16 @@ ruleset kept = (good, says, both, test, either)
 
 -- ---- a row
 
-varint-keeps : (room : ℕ) (s : List ℕ) → Keeps (readVarintIn room s)
-unfolding readVarintIn
-varint-keeps room [] = search kept
-varint-keeps zero (b ∷ bs) = search kept
-varint-keeps (suc room) (b ∷ bs) = search (kept, varint-keeps room bs)
+varint-keeps : (s : List ℕ) → Keeps (readVarint s)
+varint-keeps s = go (readVarint s) (readVarint-answers s)
+  where
+    go : (x : Res Num) → VarintAnswer x → Keeps x
+    go x (reads r) = good r
+    go x ends = says 9 refl
+    go x spells-wrong = says 10 refl
 
 head-keeps : (d : List ℕ) (at p : ℕ) (restart : Bool) → Keeps (headAt d at p restart)
-unfolding headAt lengthsAt varintAt readVarint keyLengthTests
+unfolding headAt lengthsAt varintAt keyLengthTests
 head-keeps d at p restart = search (kept, varint-keeps) depth 20
 
 time-keeps : (t : Bool) (d : List ℕ) (at : ℕ) → Keeps (timeAt t d at)

@@ -8,11 +8,11 @@ use lib.ListN.{length, take, drop, getD, length-append, length-drop, drop-of-len
 use lib.Seq.{drop-at, drop-drop, drop-cons, getD-drop}
 use borrow.Author.Tests.{lt-ltb, le-ltb, ltb-false}
 use Rattle.layout.specs.Answer.{ok, refuse}
-use Rattle.layout.specs.Varint.{readVarint, readVarintIn, varint, num}
+use Rattle.layout.specs.Varint.{readVarint, varint, num}
 use Rattle.layout.specs.Fixed.{big, unbig}
 use Rattle.layout.specs.Place.{NumAt, numAt, varintAt, fixedAt, SignedAt, signedAt}
 use Rattle.layout.specs.Laws.Answer.{bind-then, guard-then, ok-inj}
-use Rattle.layout.specs.Laws.Varint.{readVarint-varint, readVarint-len}
+use Rattle.layout.specs.Laws.Varint.{readVarint-varint, readVarint-len, readVarint-none}
 use Rattle.layout.specs.Laws.Fixed.{length-big, unbig-take-big}
 
 -- ---- laws: bytes that were laid
@@ -72,8 +72,8 @@ unfolding varintAt
 varintAt-no d at k e = rw (← e)
 
 pub varintAt-none : (d : List ℕ) (at : ℕ) → length d ≤ at → refuse 9 ≡ varintAt d at
-unfolding varintAt readVarint readVarintIn
-varintAt-none d at h = rw (drop-of-length-le d h)
+unfolding varintAt
+varintAt-none d at h = rw (drop-of-length-le d h, readVarint-none)
 
 pub fixedAt-none : (n : ℕ) (d : List ℕ) (at : ℕ) → length d < at + n → refuse 9 ≡ fixedAt n d at
 unfolding fixedAt

@@ -2,6 +2,7 @@
 -- as a loop meets it: one record, `Reading`, with a law for each thing that the loop does.
 use Prim.Native.Nat.{ℕ, zero, suc, _+_, _-_, _*_, _/_, _%_, _^_, _<_, _≤_}
 use mathlib.Core.Path.{_≡_, refl, ap, ap₂, sym, _∙_}
+use mathlib.Core.Bool.{Bool, true, false, cond}
 use mathlib.Core.List.{List, [], _∷_, _++_}
 use mathlib.Core.Logic.{⊎-elim}
 use native.Mathlib.Omega.{arith}
@@ -19,7 +20,7 @@ use Rattle.layout.specs.Laws.Answer.{ltb-cases, eqb-cases, bind-then, co
 
 -- ---- what is written reads back
 
-pub readVarintIn-varintIn : (room v : ℕ) (rest : List ℕ) → v < 16 * 128 ^ room → readVarintIn room (varintIn room v ++ rest) ≡ ok (num v (length (varintIn room v)))
+readVarintIn-varintIn : (room v : ℕ) (rest : List ℕ) → v < 16 * 128 ^ room → readVarintIn room (varintIn room v ++ rest) ≡ ok (num v (length (varintIn room v)))
 unfolding readVarintIn varintIn
 readVarintIn-varintIn zero v rest h = rw (le-ltb 15 v (omega arith))
 readVarintIn-varintIn (suc room) v rest h =
@@ -34,33 +35,33 @@ readVarint-varint v rest h = readVarintIn-varintIn 4 v rest (omega arith)
 -- ---- the reader at a place of a slice: what a loop over `data[at + i]` uses. Nothing else about the reader is needed there
 
 -- what a loop has read: the low bytes' number, the weight of the next byte, and how many bytes
-abbrev pub carry : ℕ → ℕ → ℕ → Num → Res Num
+abbrev carry : ℕ → ℕ → ℕ → Num → Res Num
 carry acc w i r = ok (num (acc + w * r .val) (i + r .len))
 
-pub carry-none : (x : Res Num) → bind x (carry 0 1 0) ≡ x
+carry-none : (x : Res Num) → bind x (carry 0 1 0) ≡ x
 carry-none (ok r) = ap₂ (λ a b. ok (num a b)) (omega arith) (omega arith)
 carry-none (refuse n) = refl
 
-pub carry-end : (room acc w i p : ℕ) (d : List ℕ) → length d ≤ p → bind (readVarintIn room (drop p d)) (carry acc w i) ≡ refuse 9
+carry-end : (room acc w i p : ℕ) (d : List ℕ) → length d ≤ p → bind (readVarintIn room (drop p d)) (carry acc w i) ≡ refuse 9
 unfolding readVarintIn
 carry-end zero acc w i p d h = rw (drop-of-length-le d h)
 carry-end (suc room) acc w i p d h = rw (drop-of-length-le d h)
 
-pub carry-fifth : (acc w i p : ℕ) (d : List ℕ) → p < length d → 15 < getD d p 0 → bind (readVarintIn 0 (drop p d)) (carry acc w i) ≡ refuse 10
+carry-fifth : (acc w i p : ℕ) (d : List ℕ) → p < length d → 15 < getD d p 0 → bind (readVarintIn 0 (drop p d)) (carry acc w i) ≡ refuse 10
 unfolding readVarintIn
 carry-fifth acc w i p d h k = rw (drop-cons d p 0 h, lt-ltb 15 (getD d p 0) k)
 
-pub carry-last : (acc w i p : ℕ) (d : List ℕ) → p < length d → getD d p 0 ≤ 15
+carry-last : (acc w i p : ℕ) (d : List ℕ) → p < length d → getD d p 0 ≤ 15
     → bind (readVarintIn 0 (drop p d)) (carry acc w i) ≡ ok (num (acc + w * getD d p 0) (i + 1))
 unfolding readVarintIn
 carry-last acc w i p d h k = rw (drop-cons d p 0 h, le-ltb 15 (getD d p 0) k)
 
-pub carry-small : (room acc w i p : ℕ) (d : List ℕ) → p < length d → getD d p 0 < 128
+carry-small : (room acc w i p : ℕ) (d : List ℕ) → p < length d → getD d p 0 < 128
     → bind (readVarintIn (suc room) (drop p d)) (carry acc w i) ≡ ok (num (acc + w * getD d p 0) (i + 1))
 unfolding readVarintIn
 carry-small room acc w i p d h k = rw (drop-cons d p 0 h, lt-ltb (getD d p 0) 128 k)
 
-pub carry-more : (room acc w i p : ℕ) (d : List ℕ) → p < length d → 128 ≤ getD d p 0
+carry-more : (room acc w i p : ℕ) (d : List ℕ) → p < length d → 128 ≤ getD d p 0
     → bind (readVarintIn (suc room) (drop p d)) (carry acc w i)
     ≡ bind (readVarintIn room (drop (p + 1) d)) (carry (acc + w * (getD d p 0 - 128)) (w * 128) (i + 1))
 unfolding readVarintIn
@@ -136,7 +137,7 @@ module _ {d : List ℕ} {at acc w i : ℕ} (r : Reading d at acc w i) where
 -- ---- how long a varint is
 
 -- b is the count of significant bits of v: 2 ^ b is the first power above v
-pub varintIn-length : (room v b : ℕ) → 1 ≤ b → b ≤ 7 * suc room → v < 2 ^ b → 2 ^ b ≤ 2 * v + 1 → length (varintIn room v) ≡ (b + 6) / 7
+varintIn-length : (room v b : ℕ) → 1 ≤ b → b ≤ 7 * suc room → v < 2 ^ b → 2 ^ b ≤ 2 * v + 1 → length (varintIn room v) ≡ (b + 6) / 7
 unfolding varintIn
 varintIn-length zero v b h1 h2 lo hi = omega arith
 varintIn-length (suc room) v b h1 h2 lo hi =
@@ -187,7 +188,7 @@ length-varint v h = ⊎-elim (λ t. rw (t .0, t .1) zero-takes-one) (λ t. rw (t
 
 -- ---- any bytes: a number that is read has at least a byte
 
-pub readVarintIn-len : (room : ℕ) (s : List ℕ) (r : Num) → readVarintIn room s ≡ ok r → (1 ≤ r .len) × (r .len ≤ length s)
+readVarintIn-len : (room : ℕ) (s : List ℕ) (r : Num) → readVarintIn room s ≡ ok r → (1 ≤ r .len) × (r .len ≤ length s)
 unfolding readVarintIn
 readVarintIn-len room [] r e = absurd (let z : _≡_ {A = ℕ} 0 1 = cc in omega arith)
 readVarintIn-len zero (b ∷ bs) r e =
@@ -205,3 +206,61 @@ readVarintIn-len (suc room) (b ∷ bs) r e =
 pub readVarint-len : (s : List ℕ) (r : Num) → readVarint s ≡ ok r → (1 ≤ r .len) × (r .len ≤ length s)
 unfolding readVarint
 readVarint-len s r e = readVarintIn-len 4 s r e
+
+-- ---- what else callers need of the reader, so that nothing else opens it
+
+pub readVarint-none : readVarint [] ≡ refuse 9
+unfolding readVarint readVarintIn
+readVarint-none = refl
+
+-- a byte below 128 is a number by itself
+pub readVarint-byte : (b : ℕ) (bs : List ℕ) → b < 128 → readVarint (b ∷ bs) ≡ ok (num b 1)
+unfolding readVarint readVarintIn
+readVarint-byte b bs h = rw (lt-ltb b 128 h)
+
+-- no byte past a number's own tells
+readVarintIn-local : (room : ℕ) (q s s′ : List ℕ) (r : Num) → readVarintIn room (q ++ s) ≡ ok r → r .len ≤ length q → readVarintIn room (q ++ s′) ≡ ok r
+unfolding readVarintIn
+readVarintIn-local room [] s s′ r e h = absurd (omega (arith, readVarintIn-len room s r e))
+readVarintIn-local zero (b ∷ q) s s′ r e h = e
+readVarintIn-local (suc room) (b ∷ q) s s′ r e h =
+    ⊎-elim
+    (λ t. rw (t .0) (t .1))
+    (λ t.
+    bind-then (readVarintIn room (q ++ s)) _ r (t .1) λ u e₁ e₂.
+    let n = ap (λ (x : Num). x .len) (ok-inj e₂) in
+    rw (t .0, readVarintIn-local room q s s′ u e₁ (omega arith)) e₂)
+    (cond-ok (ltb b 128) (ok (num b 1)) (bind (readVarintIn room (q ++ s)) _) r e)
+
+pub readVarint-local : (q s s′ : List ℕ) (r : Num) → readVarint (q ++ s) ≡ ok r → r .len ≤ length q → readVarint (q ++ s′) ≡ ok r
+unfolding readVarint
+readVarint-local q s s′ r e h = readVarintIn-local 4 q s s′ r e h
+
+-- it refuses with 9 or 10 and nothing else
+pub data VarintAnswer : Res Num → Type 0 where
+  reads : (r : Num) → VarintAnswer (ok r)
+  ends : VarintAnswer (refuse 9)
+  spells-wrong : VarintAnswer (refuse 10)
+
+readVarintIn-answers : (room : ℕ) (s : List ℕ) → VarintAnswer (readVarintIn room s)
+unfolding readVarintIn
+readVarintIn-answers room [] = ends
+readVarintIn-answers zero (b ∷ bs) = fifth (ltb 15 b)
+  where
+    fifth : (t : Bool) → VarintAnswer (cond t (refuse 10) (ok (num b 1)))
+    fifth true = spells-wrong
+    fifth false = reads (num b 1)
+readVarintIn-answers (suc room) (b ∷ bs) = first (ltb b 128) (more (readVarintIn room bs) (readVarintIn-answers room bs))
+  where
+    more : (x : Res Num) → VarintAnswer x → VarintAnswer (bind x (above b))
+    more x (reads r) = reads (num (b - 128 + 128 * r .val) (suc (r .len)))
+    more x ends = ends
+    more x spells-wrong = spells-wrong
+
+    first : (t : Bool) → VarintAnswer (bind (readVarintIn room bs) (above b)) → VarintAnswer (cond t (ok (num b 1)) (bind (readVarintIn room bs) (above b)))
+    first true m = reads (num b 1)
+    first false m = m
+
+pub readVarint-answers : (s : List ℕ) → VarintAnswer (readVarint s)
+unfolding readVarint
+readVarint-answers s = readVarintIn-answers 4 s
