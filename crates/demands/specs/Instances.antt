@@ -17,7 +17,7 @@ use Rattle.layout.specs.Fixed.{big, unbig, bits, unbits}
 use Rattle.layout.specs.Place.{varintAt, fixedAt, splice}
 use Rattle.layout.specs.Key.{Key, below, mayFollow, common, leading, firstAtOrAbove, firstAbove}
 use Rattle.layout.specs.Row.{tombstone, Time, Absent, At, Row, timeBytes, rowBytes, keyLengthTests, lengthTests, encodeRow, written, restoreKey, Typed, plainRow}
-use Rattle.layout.specs.RowRead.{RowRead, holds, lengthsAt, headAt, flagsAt, bodyAt, timeAt, timesAt, rowAt, readRow}
+use Rattle.layout.specs.RowRead.{RowRead, holds, lengthsAt, headTests, headAt, flagsAt, bodyTests, bodyAt, timeAt, timesAt, rowAt, readRow}
 use Rattle.layout.specs.Block.{isRestart, shareOf, laidRow, rowsFrom, offsetsFrom, blockRows, offsets, offsetBytes, trailer, blockBytes}
 use Rattle.layout.specs.Trailer.{shortAt, Trailer, dataOf, trailerOf, risingFrom, allOffsets, regionOf}
 use Rattle.layout.specs.Builder.{Builder, keptBuilder, fresh, newBuilder, stateTests, fits, wouldFit, add, stateAfter, build, blockAfter}
@@ -130,7 +130,7 @@ abbrev block8 : List ℕ
 block8 = blockBytes 2 (rowWith (97 ∷ []) [] 1 ∷ rowWith (98 ∷ []) [] 2 ∷ rowWith (98 ∷ []) [] 3 ∷ rowWith (98 ∷ []) [] 4 ∷ rowWith (99 ∷ []) [] 5 ∷ [])
 
 pub case-8-accepted : check block8 ≡ ok 5
-unfolding blockBytes blockRows offsets rowsFrom offsetsFrom trailer offsetBytes isRestart shareOf laidRow rowBytes timeBytes big varint varintIn common check checkFrom checkRow trailerOf shortAt unbig allOffsets risingFrom regionOf readRow rowAt headAt lengthsAt varintAt readVarint readVarintIn keyLengthTests bodyAt fixedAt flagsAt timesAt timeAt mayFollow below
+unfolding blockBytes blockRows offsets rowsFrom offsetsFrom trailer offsetBytes isRestart shareOf laidRow rowBytes timeBytes big varint varintIn common check checkFrom checkRow trailerOf shortAt unbig allOffsets risingFrom regionOf readRow rowAt headTests headAt lengthsAt varintAt readVarint readVarintIn keyLengthTests bodyTests bodyAt fixedAt flagsAt timesAt timeAt mayFollow below
 case-8-accepted = refl
 
 pub case-8-exact : Accepts block8 5
@@ -154,7 +154,7 @@ abbrev rows8 : List Keyed
 rows8 = allRows regions8
 
 reads8 : Rows block8 5 t8 rows8
-unfolding blockBytes blockRows offsets rowsFrom offsetsFrom trailer offsetBytes isRestart shareOf laidRow rowBytes timeBytes big varint varintIn common regionsRows regionRows allRows trailerOf shortAt unbig allOffsets risingFrom regionOf readRow rowAt headAt lengthsAt varintAt readVarint readVarintIn keyLengthTests bodyAt fixedAt flagsAt timesAt timeAt mayFollow below
+unfolding blockBytes blockRows offsets rowsFrom offsetsFrom trailer offsetBytes isRestart shareOf laidRow rowBytes timeBytes big varint varintIn common regionsRows regionRows allRows trailerOf shortAt unbig allOffsets risingFrom regionOf readRow rowAt headTests headAt lengthsAt varintAt readVarint readVarintIn keyLengthTests bodyTests bodyAt fixedAt flagsAt timesAt timeAt mayFollow below
 reads8 =
     record {
       regions = regions8;
@@ -172,7 +172,7 @@ case-8-walked = walk-steps block8 5 t8 rows8 reads8 maxKey room8
 
 -- of steps with key buffers of 0, 8, 0 and 1 bytes two are refused, and two give the first two rows
 pub case-8-two-given : length (stepsGive block8 (opened ascending t8) (0 ∷ 8 ∷ 0 ∷ 1 ∷ [])) ≡ 2
-unfolding blockBytes blockRows offsets rowsFrom offsetsFrom trailer offsetBytes isRestart shareOf laidRow rowBytes timeBytes big varint varintIn common trailerOf shortAt unbig regionOf readRow rowAt headAt lengthsAt varintAt readVarint readVarintIn keyLengthTests bodyAt fixedAt flagsAt timesAt timeAt next stepUp stepsGive
+unfolding blockBytes blockRows offsets rowsFrom offsetsFrom trailer offsetBytes isRestart shareOf laidRow rowBytes timeBytes big varint varintIn common trailerOf shortAt unbig regionOf readRow rowAt headTests headAt lengthsAt varintAt readVarint readVarintIn keyLengthTests bodyTests bodyAt fixedAt flagsAt timesAt timeAt next stepUp stepsGive
 case-8-two-given = refl
 
 pub case-8-any-buffers : GivesFirst block8 (opened ascending t8) (0 ∷ 8 ∷ 0 ∷ 1 ∷ []) rows8
@@ -186,7 +186,7 @@ case-8-descending = seek-descending-lands block8 5 t8 rows8 reads8 maxKey room8 
 
 -- row 1 has the key "b", so the row after the seek has it
 pub case-8-retry : FoundFirst block8 (98 ∷ []) rows8 maxKey (case-8-ascending .c)
-unfolding blockBytes blockRows offsets rowsFrom offsetsFrom trailer offsetBytes isRestart shareOf laidRow rowBytes timeBytes big varint varintIn common regionsRows regionRows allRows trailerOf shortAt unbig allOffsets risingFrom regionOf readRow rowAt headAt lengthsAt varintAt readVarint readVarintIn keyLengthTests bodyAt fixedAt flagsAt timesAt timeAt
+unfolding blockBytes blockRows offsets rowsFrom offsetsFrom trailer offsetBytes isRestart shareOf laidRow rowBytes timeBytes big varint varintIn common regionsRows regionRows allRows trailerOf shortAt unbig allOffsets risingFrom regionOf readRow rowAt headTests headAt lengthsAt varintAt readVarint readVarintIn keyLengthTests bodyTests bodyAt fixedAt flagsAt timesAt timeAt
 case-8-retry =
     retry-found block8 5 t8 rows8 reads8 maxKey room8 (98 ∷ []) (case-8-ascending .c) (case-8-ascending .reads) (case-8-ascending .is) .0
     1
@@ -208,7 +208,7 @@ case-8-restarts = restarts-at-most block8 5 t8 rows8 reads8 (are-bytes block8 re
 
 -- row 1 is the first at or above "b", and row 3 the last at or below: so row 0 is below it, and row 4 above
 pub case-8-parts : (firstAtOrAbove (98 ∷ []) (keysOf rows8) ≡ 1) × (firstAbove (98 ∷ []) (keysOf rows8) ≡ 4)
-unfolding blockBytes blockRows offsets rowsFrom offsetsFrom trailer offsetBytes isRestart shareOf laidRow rowBytes timeBytes big varint varintIn common regionsRows regionRows allRows trailerOf shortAt unbig allOffsets risingFrom regionOf readRow rowAt headAt lengthsAt varintAt readVarint readVarintIn keyLengthTests bodyAt fixedAt flagsAt timesAt timeAt firstAtOrAbove firstAbove leading below
+unfolding blockBytes blockRows offsets rowsFrom offsetsFrom trailer offsetBytes isRestart shareOf laidRow rowBytes timeBytes big varint varintIn common regionsRows regionRows allRows trailerOf shortAt unbig allOffsets risingFrom regionOf readRow rowAt headTests headAt lengthsAt varintAt readVarint readVarintIn keyLengthTests bodyTests bodyAt fixedAt flagsAt timesAt timeAt firstAtOrAbove firstAbove leading below
 case-8-parts = (refl, refl)
 
 pub case-8-below : below (getD (keysOf rows8) 0 []) (98 ∷ []) ≡ true
@@ -266,7 +266,7 @@ row1 : RowRead
 row1 = record { start = 13; next = 26; shared = 0; suffixAt = 16; suffixLen = 1; held = holds 17 0; seq = 2; expire = Absent; create = Absent }
 
 pub case-8-given : let after = keyAfter (next (after-a []) block8 8) (replicate 8 7) in (take 1 after ≡ 98 ∷ []) × (drop 1 after ≡ drop 1 (replicate 8 7))
-unfolding blockBytes blockRows offsets rowsFrom offsetsFrom trailer offsetBytes isRestart shareOf laidRow rowBytes timeBytes big varint varintIn common trailerOf shortAt unbig regionOf readRow rowAt headAt lengthsAt varintAt readVarint readVarintIn keyLengthTests bodyAt fixedAt flagsAt timesAt timeAt next stepUp row1
+unfolding blockBytes blockRows offsets rowsFrom offsetsFrom trailer offsetBytes isRestart shareOf laidRow rowBytes timeBytes big varint varintIn common trailerOf shortAt unbig regionOf readRow rowAt headTests headAt lengthsAt varintAt readVarint readVarintIn keyLengthTests bodyTests bodyAt fixedAt flagsAt timesAt timeAt next stepUp row1
 case-8-given = given-bytes (after-a []) block8 (replicate 8 7) (cursorIs ascending 1 26 [] false) row1 (98 ∷ []) refl refl
 
 -- a builder after case 2's first row, whatever bytes stand behind its key, over buffers of 48 bytes and two places
@@ -385,7 +385,7 @@ one-time-differs =
 
 -- keys that fall: the block is refused with 17, and still reads back
 pub falling-refused : check blockY ≡ refuse 17
-unfolding leadingZeros blockBytes blockRows offsets rowsFrom offsetsFrom trailer offsetBytes isRestart shareOf laidRow rowBytes timeBytes big bits varint varintIn common check checkFrom checkRow trailerOf shortAt unbig allOffsets risingFrom regionOf readRow rowAt headAt lengthsAt varintAt readVarint readVarintIn keyLengthTests bodyAt fixedAt flagsAt timesAt timeAt mayFollow below unbits
+unfolding leadingZeros blockBytes blockRows offsets rowsFrom offsetsFrom trailer offsetBytes isRestart shareOf laidRow rowBytes timeBytes big bits varint varintIn common check checkFrom checkRow trailerOf shortAt unbig allOffsets risingFrom regionOf readRow rowAt headTests headAt lengthsAt varintAt readVarint readVarintIn keyLengthTests bodyTests bodyAt fixedAt flagsAt timesAt timeAt mayFollow below unbits
 falling-refused = refl
 
 pub falling-backwards : (t : Trailer) × (given : List Keyed) × (openBlock blockY descending ≡ ok (opened descending t)) × WalksAll blockY 1 (opened descending t) (backwards given)

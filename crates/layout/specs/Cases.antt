@@ -13,7 +13,7 @@ use Rattle.layout.specs.Fixed.{big, unbig, bits, unbits}
 use Rattle.layout.specs.Place.{varintAt, fixedAt, splice}
 use Rattle.layout.specs.Key.{Key, below, common}
 use Rattle.layout.specs.Row.{value, Absent, Row, present, timeBytes, rowBytes, rowSize, sizeAlone, keyLengthTests, lengthTests}
-use Rattle.layout.specs.RowRead.{decodeRow, lengthsAt, headAt, flagsAt, bodyAt, timeAt, timesAt, rowAt, readRow, readKey}
+use Rattle.layout.specs.RowRead.{decodeRow, lengthsAt, headTests, headAt, flagsAt, bodyTests, bodyAt, timeAt, timesAt, rowAt, readRow, readKey}
 use Rattle.layout.specs.Block.{isRestart, shareOf, laidRow, offsetBytes, trailer}
 use Rattle.layout.specs.Trailer.{shortAt, trailerOf, risingFrom, allOffsets, regionOf}
 use Rattle.layout.specs.Builder.{Builder, fresh, stateTests, fits, wouldFit, add, stateAfter, dataAfter, placesAfter, build, blockAfter}
@@ -197,6 +197,6 @@ cases =
     ∷ []
 
 pub cases-hold : AllHold cases
-unfolding leadingZeros answers offered finished blockFor rowStarts numberIn landed varint varintIn varintLength readVarint readVarintIn big unbig bits unbits varintAt fixedAt splice below common timeBytes rowBytes rowSize sizeAlone keyLengthTests lengthTests decodeRow lengthsAt headAt flagsAt bodyAt timeAt timesAt rowAt readRow readKey isRestart shareOf laidRow offsetBytes trailer shortAt trailerOf risingFrom allOffsets regionOf stateTests fits wouldFit add build rowEndingAt stepUp stepBackIn stepDown next middle searchIn search restartKey restartBelow searchRestarts walkRegion walkUp seekUp lastEqual startDown lastAtOrBelow walkDown seekDown seek
+unfolding leadingZeros answers offered finished blockFor rowStarts numberIn landed varint varintIn varintLength readVarint readVarintIn big unbig bits unbits varintAt fixedAt splice below common timeBytes rowBytes rowSize sizeAlone keyLengthTests lengthTests decodeRow lengthsAt headTests headAt flagsAt bodyTests bodyAt timeAt timesAt rowAt readRow readKey isRestart shareOf laidRow offsetBytes trailer shortAt trailerOf risingFrom allOffsets regionOf stateTests fits wouldFit add build rowEndingAt stepUp stepBackIn stepDown next middle searchIn search restartKey restartBelow searchRestarts walkRegion walkUp seekUp lastEqual startDown lastAtOrBelow walkDown seekDown seek
 cases-hold =
     ((refl, refl, refl), ((refl, refl), ((refl, refl), ((refl, refl), ((refl, refl, refl), ((refl, refl), ((refl, refl), ((refl, refl), ((refl, refl), ((refl, refl), (refl, (refl, (refl, (refl, (refl, (refl, (refl, (refl, (refl, (refl, (refl, tt)))))))))))))))))))))

@@ -41,12 +41,17 @@ abbrev pub mayShare : Bool → ℕ → ℕ
 mayShare true prevLen = 0
 mayShare false prevLen = prevLen
 
+-- of the lengths alone: `most` bytes may be shared
+unfoldable pub headTests : ℕ → ℕ → ℕ → Res (Unit {0})
+headTests most shared unshared =
+    guard (ltb most shared) 13
+    (keyLengthTests (shared + unshared))
+
 unfoldable pub headAt : List ℕ → ℕ → ℕ → Bool → Res Lengths
 headAt d at prevLen restart =
     bind (lengthsAt d at) λ l.
-    guard (ltb (mayShare restart prevLen) (l .shared)) 13
-    (bind (keyLengthTests (l .shared + l .unshared)) λ _.
-    ok l)
+    bind (headTests (mayShare restart prevLen) (l .shared) (l .unshared)) λ _.
+    ok l
 
 -- ---- flags: unknown (11), tombstone with merge (12)
 
@@ -89,13 +94,19 @@ pub record Body : Type 0 where
 abbrev pub bodyIs : Held → ℕ → Flags → ℕ → Body
 bodyIs h q f n = record { held = h; seq = q; flags = f; next = n }
 
+-- of the lengths alone: the flags end at `end`, in data of `dataLen` bytes
+unfoldable pub bodyTests : ℕ → ℕ → ℕ → Res (Unit {0})
+bodyTests dataLen vlen end =
+    guard (ltb maxValue vlen) 3
+    (guard (ltb dataLen end) 9
+    (ok tt))
+
 unfoldable pub bodyAt : List ℕ → Lengths → Res Body
 bodyAt d l =
-    guard (ltb maxValue (l .vlen)) 3
-    (guard (ltb (length d) (seqAt l + 9)) 9
-    (bind (fixedAt 8 d (seqAt l)) λ q.
+    bind (bodyTests (length d) (l .vlen) (seqAt l + 9)) λ _.
+    bind (fixedAt 8 d (seqAt l)) λ q.
     bind (flagsAt (getD d (q .next) 0)) λ f.
-    ok (bodyIs (heldAs (f .kind) (valueAt l) (l .vlen)) (q .val) f (seqAt l + 9))))
+    ok (bodyIs (heldAs (f .kind) (valueAt l) (l .vlen)) (q .val) f (seqAt l + 9))
 
 -- ---- times missing (9)
 

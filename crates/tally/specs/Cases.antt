@@ -9,7 +9,7 @@ use Rattle.layout.specs.Varint.{readVarint, readVarintIn}
 use Rattle.layout.specs.Place.{varintAt, fixedAt}
 use Rattle.layout.specs.Key.{below, mayFollow}
 use Rattle.layout.specs.Row.{keyLengthTests}
-use Rattle.layout.specs.RowRead.{lengthsAt, headAt, flagsAt, bodyAt, timeAt, timesAt, rowAt, readRow}
+use Rattle.layout.specs.RowRead.{lengthsAt, headTests, headAt, flagsAt, bodyTests, bodyAt, timeAt, timesAt, rowAt, readRow}
 use Rattle.layout.specs.Trailer.{shortAt, trailerOf, risingFrom, allOffsets, regionOf}
 use Rattle.layout.specs.Check.{checkRow, checkFrom, check}
 use Rattle.demands.specs.Reads.{regionRows, regionsRows, allRows}
@@ -29,5 +29,5 @@ cases-hold :
     × (tallyBlock (tallyIs (largest - 1) 5 6 7) case-2 ≡ ok (tallyIs largest 5 6 8))
     × (tallyBlock zeroTally falling ≡ refuse 17)
     × (tallyBlock zeroTally mixed ≡ ok (tallyIs 3 1 1 3))
-unfolding readVarint readVarintIn unbig unbits varintAt fixedAt below mayFollow keyLengthTests lengthsAt headAt flagsAt bodyAt timeAt timesAt rowAt readRow shortAt trailerOf risingFrom allOffsets regionOf checkRow checkFrom check regionRows regionsRows allRows countedRows tallyBlock
+unfolding readVarint readVarintIn unbig unbits varintAt fixedAt below mayFollow keyLengthTests lengthsAt headTests headAt flagsAt bodyTests bodyAt timeAt timesAt rowAt readRow shortAt trailerOf risingFrom allOffsets regionOf checkRow checkFrom check regionRows regionsRows allRows countedRows tallyBlock
 cases-hold = (refl, refl, refl, refl)

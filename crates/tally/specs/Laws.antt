@@ -9,11 +9,10 @@ use native.Mathlib.Numerals.{add-one}
 use lib.Dec.{ltb, eqb}
 use lib.ListN.{length, getD}
 use Rattle.layout.specs.Answer.{Res, ok, refuse, whether}
-use Rattle.layout.specs.Limits.{maxValue}
 use Rattle.layout.specs.Key.{Key}
 use Rattle.layout.specs.Place.{fixedAt}
 use Rattle.layout.specs.Row.{Kind, value, tombstone, merge}
-use Rattle.layout.specs.RowRead.{RowRead, Held, holds, gone, merges, heldAs, Lengths, valueAt, seqAt, Body, flagsAt, bodyAt, rowAt, readRow, keyOf}
+use Rattle.layout.specs.RowRead.{RowRead, Held, holds, gone, merges, heldAs, Lengths, valueAt, seqAt, Body, flagsAt, bodyTests, bodyAt, rowAt, readRow, keyOf}
 use Rattle.layout.specs.Trailer.{Trailer, trailerOf, dataOf, offsetAt, Region, regionOf, allOffsets}
 use Rattle.layout.specs.Check.{check}
 use Rattle.layout.specs.Cursor.{Keyed}
@@ -70,8 +69,7 @@ weight-append (x ∷ xs) ys = omega (arith, weight-append xs ys)
 body-carries : (d : List ℕ) (l : Lengths) (b : Body) → bodyAt d l ≡ ok b → carries (b .held) ≤ l .vlen
 unfolding bodyAt
 body-carries d l b e =
-    guard-then (ltb maxValue (l .vlen)) 3 _ b e λ _ e₁.
-    guard-then (ltb (length d) (seqAt l + 9)) 9 _ b e₁ λ _ e₂.
+    bind-then (bodyTests (length d) (l .vlen) (seqAt l + 9)) _ b e λ _ _ e₂.
     bind-then (fixedAt 8 d (seqAt l)) _ b e₂ λ q _ e₃.
     bind-then (flagsAt (getD d (q .next) 0)) _ b e₃ λ f _ e₄.
     rw (← ap (λ (x : Body). x .held) (ok-inj e₄)) (go (f .kind))

@@ -12,8 +12,7 @@ use Rattle.layout.specs.Answer.{ok}
 use Rattle.layout.specs.Limits.{maxValue}
 use Rattle.layout.specs.Varint.{readVarint}
 use Rattle.layout.specs.Place.{NumAt, varintAt, fixedAt, SignedAt, signedAt}
-use Rattle.layout.specs.Row.{keyLengthTests}
-use Rattle.layout.specs.RowRead.{Lengths, seqAt, lengthsAt, mayShare, headAt, Flags, Body, bodyAt, TimeAt, timeAt, Times, timesAt, RowRead, rowAt, readRow}
+use Rattle.layout.specs.RowRead.{Lengths, seqAt, lengthsAt, mayShare, headTests, headAt, Flags, Body, bodyTests, bodyAt, TimeAt, timeAt, Times, timesAt, RowRead, rowAt, readRow}
 use Rattle.layout.specs.Laws.Answer.{bind-then, guard-then, ok-inj}
 use Rattle.layout.specs.Laws.Varint.{readVarint-local}
 use Rattle.layout.specs.Laws.Place.{varintAt-ends, fixedAt-ends}
@@ -63,24 +62,22 @@ module _ (p s s′ : List ℕ) where
   unfolding headAt
   headAt-local at n restart l e h =
       bind-then (lengthsAt (p ++ s) at) _ l e λ m e₁ e₂.
-      guard-then (ltb (mayShare restart n) (m .shared)) 13 _ l e₂ λ t₁ e₃.
-      bind-then (keyLengthTests (m .shared + m .unshared)) _ l e₃ λ u t₂ e₄.
-      let k = ap (λ (x : Lengths). x .body) (ok-inj e₄) in
+      bind-then (headTests (mayShare restart n) (m .shared) (m .unshared)) _ l e₂ λ u t e₃.
+      let k = ap (λ (x : Lengths). x .body) (ok-inj e₃) in
       rw (lengthsAt-local at m e₁ (omega arith)) e₂
 
   bodyAt-local : (l : Lengths) (b : Body) → bodyAt (p ++ s) l ≡ ok b → b .next ≤ length p → bodyAt (p ++ s′) l ≡ ok b
-  unfolding bodyAt
+  unfolding bodyAt bodyTests
   bodyAt-local l b e h =
       let k = bodyAt-tells (p ++ s) l b e in
       let k₂ = k .2 in
-      guard-then (ltb maxValue (l .vlen)) 3 _ b e λ t₁ e₁.
-      guard-then (ltb (length (p ++ s)) (seqAt l + 9)) 9 _ b e₁ λ t₂ e₂.
+      bind-then (bodyTests (length (p ++ s)) (l .vlen) (seqAt l + 9)) _ b e λ u t e₂.
       bind-then (fixedAt 8 (p ++ s) (seqAt l)) _ b e₂ λ q pq e₃.
       let w = fixedAt-ends 8 (p ++ s) (seqAt l) q pq in
       let w₀ = w .0 in
       let e₄ = rw (List·getD-append p s 0 (q .next) (omega arith)) at e₃ in
       rw (
-        t₁,
+        le-ltb maxValue (l .vlen) (k .0),
         le-ltb (length (p ++ s′)) (seqAt l + 9) (rw (length-append p s′) (omega arith)),
         fixedAt-local 8 (seqAt l) q pq (omega arith),
         List·getD-append p s′ 0 (q .next) (omega arith),

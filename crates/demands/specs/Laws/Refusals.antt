@@ -12,7 +12,7 @@ use Rattle.layout.specs.Varint.{Num, readVarint}
 use Rattle.layout.specs.Place.{varintAt, fixedAt}
 use Rattle.layout.specs.Key.{Key}
 use Rattle.layout.specs.Row.{keyLengthTests}
-use Rattle.layout.specs.RowRead.{lengthsAt, headAt, flagsAt, bodyAt, timeAt, timesAt, rowAt, readRow, readKey}
+use Rattle.layout.specs.RowRead.{lengthsAt, headTests, headAt, flagsAt, bodyTests, bodyAt, timeAt, timesAt, rowAt, readRow, readKey}
 use Rattle.layout.specs.Trailer.{Trailer, trailerOf, Region, regionOf}
 use Rattle.layout.specs.Cursor.{Direction, ascending, descending}
 use Rattle.layout.specs.Seek.{searchIn, search as searchSpan, restartKey, restartBelow, searchRestarts, walkRegion, walkUp, seekUp, lastEqual, startDown, lastAtOrBelow, walkDown, seekDown, Sought, seekAlong, seek}
@@ -53,7 +53,7 @@ varint-keeps s = go (readVarint s) (readVarint-answers s)
     go x spells-wrong = says 10 refl
 
 head-keeps : (d : List ℕ) (at p : ℕ) (restart : Bool) → Keeps (headAt d at p restart)
-unfolding headAt lengthsAt varintAt keyLengthTests
+unfolding headAt headTests lengthsAt varintAt keyLengthTests
 head-keeps d at p restart = search (kept, varint-keeps) depth 20
 
 time-keeps : (t : Bool) (d : List ℕ) (at : ℕ) → Keeps (timeAt t d at)
@@ -62,7 +62,7 @@ time-keeps true d at = search kept
 time-keeps false d at = search kept
 
 row-keeps : (d : List ℕ) (at end p : ℕ) (restart : Bool) → Keeps (readRow d at end p restart)
-unfolding readRow rowAt bodyAt fixedAt flagsAt timesAt
+unfolding readRow rowAt bodyAt bodyTests fixedAt flagsAt timesAt
 row-keeps d at end p restart = search (kept, head-keeps, time-keeps) depth 20
 
 -- ---- a region, and its restart's key

@@ -1,6 +1,6 @@
 -- Bytes that tell nothing: cursors, and builders, that are kept in arrays which differ only past the length of the key are one cursor, or one builder.
 use Prim.Native.Nat.{ℕ}
-use mathlib.Core.Path.{_≡_, refl}
+use mathlib.Core.Path.{_≡_}
 use mathlib.Core.Bool.{Bool}
 use mathlib.Core.List.{List}
 use lib.ListN.{take}

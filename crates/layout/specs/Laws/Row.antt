@@ -14,7 +14,7 @@ use Rattle.layout.specs.Varint.{varint}
 use Rattle.layout.specs.Fixed.{big, bits}
 use Rattle.layout.specs.Key.{Key}
 use Rattle.layout.specs.Row.{Kind, value, tombstone, merge, Time, Absent, At, Fields, kept, keptLength, valueOf, ifSo, present, flagsOf, timeBytes, rowBytes, rowSize, keyLengthTests, TimeOk, plain, SameRow}
-use Rattle.layout.specs.RowRead.{Lengths, lengthsIs, lengthsAt, valueAt, seqAt, mayShare, headAt, Flags, flagsIs, flagsAt, heldAs, Body, bodyIs, bodyAt, timeIs, timeAt, timesIs, timesAt, RowRead, rowIs, rowAt, readRow, keyOf, kindOf, heldBytes, fieldsOf}
+use Rattle.layout.specs.RowRead.{Lengths, lengthsIs, lengthsAt, valueAt, seqAt, mayShare, headTests, headAt, Flags, flagsIs, flagsAt, heldAs, Body, bodyIs, bodyTests, bodyAt, timeIs, timeAt, timesIs, timesAt, RowRead, rowIs, rowAt, readRow, keyOf, kindOf, heldBytes, fieldsOf}
 use Rattle.layout.specs.Laws.Answer.{ok-inj}
 use Rattle.layout.specs.Laws.Varint.{length-varint, varint-few}
 use Rattle.layout.specs.Laws.Fixed.{length-big, bits-fit, unbits-bits}
@@ -138,7 +138,7 @@ timesAt-law d at k e c post he hc p =
 bodyAt-parts : (d : List ℕ) (l : Lengths) (suffix v : List ℕ) (q fl : ℕ) (more : List ℕ) (f : Flags) → length suffix ≡ l .unshared → length v ≡ l .vlen → l .vlen ≤ maxValue
     → q < 2 ^ 64 → flagsAt fl ≡ ok f → drop (l .body) d ≡ suffix ++ (v ++ (big 8 q ++ (fl ∷ more)))
     → (bodyAt d l ≡ ok (bodyIs (heldAs (f .kind) (valueAt l) (l .vlen)) q f (seqAt l + 9))) × (drop (seqAt l + 9) d ≡ more)
-unfolding bodyAt
+unfolding bodyAt bodyTests
 bodyAt-parts d l suffix v q fl more f hs hv k kq hf e =
     let e₁ : drop (valueAt l) d ≡ v ++ (big 8 q ++ (fl ∷ more)) = rw hs at (past d (l .body) suffix (v ++ (big 8 q ++ (fl ∷ more))) e) in
     let e₂ : drop (seqAt l) d ≡ big 8 q ++ (fl ∷ more) = rw hv at (past d (valueAt l) v (big 8 q ++ (fl ∷ more)) e₁) in
@@ -168,7 +168,7 @@ module _ (d : List ℕ) (at shared : ℕ) (suffix : List ℕ) (f : Fields) (post
 
   module _ (prevLen : ℕ) (restart : Bool) (shares : shared ≤ mayShare restart prevLen) (k : KeyOk shared (length suffix)) (h : FieldsOk f) where
     headAt-law : headAt d at prevLen restart ≡ ok (lengthsOf at shared suffix f)
-    unfolding headAt keyLengthTests
+    unfolding headAt headTests keyLengthTests
     headAt-law =
         rw (
           lengthsAt-law d at shared (length suffix) (length (valueOf f)) (suffix ++ (valueOf f ++ afterValue f post)) (omega (arith, k .fits)) (omega (arith, k .fits)) (omega (arith, h .value-fits))

@@ -12,7 +12,7 @@ use Rattle.layout.specs.Limits.{maxKey, maxValue}
 use Rattle.layout.specs.Place.{NumAt, varintAt, fixedAt, SignedAt, signedAt}
 use Rattle.layout.specs.Key.{Key}
 use Rattle.layout.specs.Row.{Kind, Absent, At, Fields, keptLength, valueOf, rowBytes, rowSize, keyLengthTests, lengthTests, sizeAlone, encodeRow, restoreKey}
-use Rattle.layout.specs.RowRead.{Lengths, lengthsIs, valueAt, seqAt, lengthsAt, mayShare, headAt, Flags, flagsAt, heldAs, Body, bodyIs, bodyAt, TimeAt, timeIs, timeAt, Times, timesIs, timesAt, rowIs, rowAt, readRow, keyIs, readKey}
+use Rattle.layout.specs.RowRead.{Lengths, lengthsIs, valueAt, seqAt, lengthsAt, mayShare, headTests, headAt, Flags, flagsAt, heldAs, Body, bodyIs, bodyTests, bodyAt, TimeAt, timeIs, timeAt, Times, timesIs, timesAt, rowIs, rowAt, readRow, keyIs, readKey}
 
 module _ (d : List ℕ) (at : ℕ) where
   pub lengths-one : {n : ℕ} → varintAt d at ≡ refuse n → refuse n ≡ lengthsAt d at
@@ -38,19 +38,19 @@ module _ (d : List ℕ) (at p : ℕ) (restart : Bool) where
   head-no e = rw e
 
   pub head-share : {l : Lengths} → lengthsAt d at ≡ ok l → mayShare restart p < l .shared → refuse 13 ≡ headAt d at p restart
-  unfolding headAt keyLengthTests
+  unfolding headAt headTests keyLengthTests
   head-share {l} e h = rw (e, lt-ltb (mayShare restart p) (l .shared) h)
 
   pub head-empty : {l : Lengths} → lengthsAt d at ≡ ok l → l .shared ≤ mayShare restart p → l .shared + l .unshared ≡ 0 → refuse 1 ≡ headAt d at p restart
-  unfolding headAt keyLengthTests
+  unfolding headAt headTests keyLengthTests
   head-empty {l} e h k = rw (e, le-ltb (mayShare restart p) (l .shared) h, eq-eqb (l .shared + l .unshared) 0 k)
 
   pub head-long : {l : Lengths} → lengthsAt d at ≡ ok l → l .shared ≤ mayShare restart p → maxKey < l .shared + l .unshared → refuse 2 ≡ headAt d at p restart
-  unfolding headAt keyLengthTests
+  unfolding headAt headTests keyLengthTests
   head-long {l} e h k = rw (e, le-ltb (mayShare restart p) (l .shared) h, ne-eqb (l .shared + l .unshared) 0 (omega arith), lt-ltb maxKey (l .shared + l .unshared) k)
 
   pub head-good : {l : Lengths} → lengthsAt d at ≡ ok l → l .shared ≤ mayShare restart p → (l .shared + l .unshared ≡ 0 → ⊥) → l .shared + l .unshared ≤ maxKey → ok l ≡ headAt d at p restart
-  unfolding headAt keyLengthTests
+  unfolding headAt headTests keyLengthTests
   head-good {l} e h k m = rw (e, le-ltb (mayShare restart p) (l .shared) h, ne-eqb (l .shared + l .unshared) 0 k, le-ltb maxKey (l .shared + l .unshared) m)
 
 pub flagsAt-both : (flagsAt 9 ≡ refuse 12) × (flagsAt 11 ≡ refuse 12) × (flagsAt 13 ≡ refuse 12) × (flagsAt 15 ≡ refuse 12)
@@ -63,24 +63,24 @@ flagsAt-unknown f h = rw (lt-ltb 15 f h)
 
 module _ (d : List ℕ) (l : Lengths) where
   pub body-long : maxValue < l .vlen → refuse 3 ≡ bodyAt d l
-  unfolding bodyAt
+  unfolding bodyAt bodyTests
   body-long h = rw (lt-ltb maxValue (l .vlen) h)
 
   pub body-short : l .vlen ≤ maxValue → length d < seqAt l + 9 → refuse 9 ≡ bodyAt d l
-  unfolding bodyAt
+  unfolding bodyAt bodyTests
   body-short h k = rw (le-ltb maxValue (l .vlen) h, lt-ltb (length d) (seqAt l + 9) k)
 
   pub body-word : {n : ℕ} → l .vlen ≤ maxValue → seqAt l + 9 ≤ length d → fixedAt 8 d (seqAt l) ≡ refuse n → refuse n ≡ bodyAt d l
-  unfolding bodyAt
+  unfolding bodyAt bodyTests
   body-word h k e = rw (le-ltb maxValue (l .vlen) h, le-ltb (length d) (seqAt l + 9) k, e)
 
   pub body-flags : {q : NumAt} {n : ℕ} → l .vlen ≤ maxValue → seqAt l + 9 ≤ length d → fixedAt 8 d (seqAt l) ≡ ok q → flagsAt (getD d (q .next) 0) ≡ refuse n → refuse n ≡ bodyAt d l
-  unfolding bodyAt
+  unfolding bodyAt bodyTests
   body-flags h k e₁ e₂ = rw (le-ltb maxValue (l .vlen) h, le-ltb (length d) (seqAt l + 9) k, e₁, e₂)
 
   pub body-good : {q : NumAt} {f : Flags} → l .vlen ≤ maxValue → seqAt l + 9 ≤ length d → fixedAt 8 d (seqAt l) ≡ ok q → flagsAt (getD d (q .next) 0) ≡ ok f
       → ok (bodyIs (heldAs (f .kind) (valueAt l) (l .vlen)) (q .val) f (seqAt l + 9)) ≡ bodyAt d l
-  unfolding bodyAt
+  unfolding bodyAt bodyTests
   body-good h k e₁ e₂ = rw (le-ltb maxValue (l .vlen) h, le-ltb (length d) (seqAt l + 9) k, e₁, e₂)
 
 module _ (d : List ℕ) (at : ℕ) where

@@ -13,7 +13,7 @@ use Rattle.layout.specs.Answer.{ok}
 use Rattle.layout.specs.Limits.{maxKey, maxValue}
 use Rattle.layout.specs.Place.{varintAt, fixedAt, signedAt}
 use Rattle.layout.specs.Row.{keyLengthTests}
-use Rattle.layout.specs.RowRead.{Lengths, valueAt, seqAt, lengthsAt, mayShare, headAt, Flags, flagsAt, Body, bodyAt, TimeAt, timeAt, Times, timesAt, RowRead, rowIs, rowAt, readRow, keyLength, KeyRead, readKey}
+use Rattle.layout.specs.RowRead.{Lengths, valueAt, seqAt, lengthsAt, mayShare, headTests, headAt, Flags, flagsAt, Body, bodyTests, bodyAt, TimeAt, timeAt, Times, timesAt, RowRead, rowIs, rowAt, readRow, keyLength, KeyRead, readKey}
 use Rattle.layout.specs.Trailer.{Region, rowIn}
 use Rattle.layout.specs.Laws.Answer.{bind-then, guard-then, ok-inj}
 use Rattle.layout.specs.Laws.Place.{varintAt-ends, signedAt-ends}
@@ -46,27 +46,40 @@ keyLengthTests-tells n u e =
     let ne = eqb-false n 0 t₁ in
     (omega arith, ltb-false maxKey n t₂)
 
+pub headTests-tell : (most shared unshared : ℕ) (u : Unit {0}) → headTests most shared unshared ≡ ok u → (shared ≤ most) × (1 ≤ shared + unshared) × (shared + unshared ≤ maxKey)
+unfolding headTests
+headTests-tell most shared unshared u e =
+    guard-then (ltb most shared) 13 _ u e λ t k.
+    let w = keyLengthTests-tells (shared + unshared) u k in
+    (ltb-false most shared t, w .0, w .1)
+
+pub bodyTests-tell : (dataLen vlen end : ℕ) (u : Unit {0}) → bodyTests dataLen vlen end ≡ ok u → (vlen ≤ maxValue) × (end ≤ dataLen)
+unfolding bodyTests
+bodyTests-tell dataLen vlen end u e =
+    guard-then (ltb maxValue vlen) 3 _ u e λ t₁ e₁.
+    guard-then (ltb dataLen end) 9 _ u e₁ λ t₂ e₂.
+    (ltb-false maxValue vlen t₁, ltb-false dataLen end t₂)
+
 pub headAt-tells : (d : List ℕ) (at prevLen : ℕ) (restart : Bool) (l : Lengths) → headAt d at prevLen restart ≡ ok l → Headed d at prevLen restart l
 unfolding headAt
 headAt-tells d at prevLen restart l e =
     bind-then (lengthsAt d at) _ l e λ m p q.
-    guard-then (ltb (mayShare restart prevLen) (m .shared)) 13 _ l q λ t₁ q₁.
-    bind-then (keyLengthTests (m .shared + m .unshared)) _ l q₁ λ u k q₂.
-    rw (← ok-inj q₂) (made m (lengthsAt-ends d at m p) (ltb-false (mayShare restart prevLen) (m .shared) t₁) (keyLengthTests-tells (m .shared + m .unshared) u k))
+    bind-then (headTests (mayShare restart prevLen) (m .shared) (m .unshared)) _ l q λ u k q₁.
+    rw (← ok-inj q₁) (made m (lengthsAt-ends d at m p) (headTests-tell (mayShare restart prevLen) (m .shared) (m .unshared) u k))
   where
-    made : (m : Lengths) → (at + 3 ≤ m .body) × (m .body ≤ length d) → m .shared ≤ mayShare restart prevLen → (1 ≤ m .shared + m .unshared) × (m .shared + m .unshared ≤ maxKey)
+    made : (m : Lengths) → (at + 3 ≤ m .body) × (m .body ≤ length d) → (m .shared ≤ mayShare restart prevLen) × (1 ≤ m .shared + m .unshared) × (m .shared + m .unshared ≤ maxKey)
         → Headed d at prevLen restart m
-    made m a s b = record { moved = a .0; inside = a .1; shares = s; some = b .0; fits = b .1 }
+    made m a b = record { moved = a .0; inside = a .1; shares = b .0; some = b .1; fits = b .2 }
 
 -- the value's length passed its test, and the fixed part lies inside the data
 pub bodyAt-tells : (d : List ℕ) (l : Lengths) (b : Body) → bodyAt d l ≡ ok b → (l .vlen ≤ maxValue) × (seqAt l + 9 ≤ length d) × (seqAt l + 9 ≡ b .next)
 unfolding bodyAt
 bodyAt-tells d l b e =
-    guard-then (ltb maxValue (l .vlen)) 3 _ b e λ t₁ e₁.
-    guard-then (ltb (length d) (seqAt l + 9)) 9 _ b e₁ λ t₂ e₂.
-    bind-then (fixedAt 8 d (seqAt l)) _ b e₂ λ q p e₃.
-    bind-then (flagsAt (getD d (q .next) 0)) _ b e₃ λ f u e₄.
-    (ltb-false maxValue (l .vlen) t₁, ltb-false (length d) (seqAt l + 9) t₂, ap (λ (x : Body). x .next) (ok-inj e₄))
+    bind-then (bodyTests (length d) (l .vlen) (seqAt l + 9)) _ b e λ u t e₁.
+    bind-then (fixedAt 8 d (seqAt l)) _ b e₁ λ q p e₂.
+    bind-then (flagsAt (getD d (q .next) 0)) _ b e₂ λ f v e₃.
+    let w = bodyTests-tell (length d) (l .vlen) (seqAt l + 9) u t in
+    (w .0, w .1, ap (λ (x : Body). x .next) (ok-inj e₃))
 
 pub timeAt-ends : (f : Bool) (d : List ℕ) (at : ℕ) (t : TimeAt) → timeAt f d at ≡ ok t → at ≤ length d → (at ≤ t .next) × (t .next ≤ length d)
 unfolding timeAt
