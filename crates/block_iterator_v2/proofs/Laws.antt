@@ -13,7 +13,8 @@ use Rattle.layout.specs.Trailer.{Trailer, trailerOf, dataOf, regionOf}
 use Rattle.layout.specs.Cursor.{Direction, ascending, descending, Cursor, opened, openBlock, Step, next, cursorAfter, exhausted, isEmpty}
 use Rattle.layout.specs.Seek.{searchRestarts, walkRegion, walkUp, seekUp, startDown, lastAtOrBelow, walkDown, seekDown, Sought, seekAlong, seek, soughtAfter}
 use Rattle.layout.specs.Laws.Answer.{bind-then, cond-ok, ok-inj}
-use Rattle.layout.specs.Laws.Cursor.{next-heads, empty-is}
+use Rattle.layout.specs.Laws.Cursor.{empty-is}
+use Rattle.layout.specs.Laws.Step.{next-heads}
 use Rattle.basics.specs.Answers.{apart}
 use Rattle.basics.specs.Number.{number}
 use Rattle.basics.specs.Says.{saysOrder, saysOrder-one}

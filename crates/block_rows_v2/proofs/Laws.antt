@@ -30,7 +30,7 @@ use Rattle.row_words.specs.Words.{badWords, doneCode, codeOf, cursorIn, cursorW
 use Rattle.row_words.specs.Promise.{Stores}
 use Rattle.row_words.proofs.Laws.{stored}
 use Rattle.region_rows_v2.specs.Found.{Finds}
-use Rattle.region_rows_v2.specs.StepKey.{next-given}
+use Rattle.layout.specs.Laws.Step.{next-given}
 use Rattle.block_rows_v2.specs.declared.Gave.{Gave}
 use Rattle.block_rows_v2.specs.declared.Gave.the-variants.{Rows, Refused}
 use Rattle.block_rows_v2.specs.Rows.{Run, runIs, nextRows, keysOf, wordsOf}

@@ -20,7 +20,7 @@ use Rattle.layout.specs.Laws.Answer.{bind-then, guard-then, ok-inj, eqb-cases}
 use Rattle.layout.specs.Laws.Splice.{length-splice, splice-none}
 use Rattle.row_words.specs.Words.{badWords, counted, wordAt, oneOf, truthIn, truthWord, orderIn, orderWord, cursorFrom, cursorIn, cursorWords, rowWords, cursorCount, rowCount}
 use Rattle.block_words.specs.Exports.{StepsAs, StepsFlat}
-use Rattle.region_rows_v2.specs.StepKey.{next-given}
+use Rattle.layout.specs.Laws.Step.{next-given}
 use Rattle.block_rows_v2.specs.Rows.{Run, stepOn, rowsFrom, orDone, nextRows, keysOf, wordsOf}
 use Rattle.block_rows_v2.specs.Promise.{RowsAs, mostRows, RowsFlat}
 

@@ -17,7 +17,7 @@ use Rattle.layout.specs.Cursor.{Direction, Cursor, keptCursor, found, stepIs, n
 use Rattle.layout.specs.Seek.{seek, soughtAfter}
 use Rattle.layout.specs.Laws.Kept.{kept-cursor, kept-builder}
 use Rattle.layout.specs.Laws.Splice.{take-past-splice, drop-past-splice}
-use Rattle.demands.specs.Laws.Given.{next-within}
+use Rattle.layout.specs.Laws.Step.{next-given}
 
 -- ---- a refused call changes nothing
 
@@ -73,7 +73,8 @@ pub given-bytes : (c : Cursor) (b out : List ℕ) (moved : Cursor) (r : RowRead)
     → let after = keyAfter (next c b (length out)) out in (take (length key) after ≡ key) × (drop (length key) after ≡ drop (length key) out)
 given-bytes c b out moved r key whole e =
     let n : 0 + length key ≡ length key = zero-add (length key) in
-    let within : length key ≤ length out = next-within c b (length out) (stepIs moved (found r key)) whole e in
+    let w = next-given c (stepIs moved (found r key)) b (length out) (λ few. whole) e in
+    let within : length key ≤ length out = omega (arith, w .whole, w .held) in
     let fits : 0 + length key ≤ length out = omega arith in
     rw e (rw n at (take-past-splice out 0 key fits), rw n at (drop-past-splice out 0 key fits))
 

@@ -1,5 +1,4 @@
 pub mod Reads
-pub mod Given
 pub mod Refusals
 pub mod Local
 pub mod First

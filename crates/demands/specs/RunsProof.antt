@@ -23,7 +23,7 @@ use Rattle.layout.specs.Laws.Trailer.{length-trailer}
 use Rattle.demands.specs.Laws.Ascend.{Before, before-gives, before-done, marked-stays}
 use Rattle.demands.specs.Laws.Descend.{After, after-gives, after-done, FromEnd, empty, ending, from-end}
 use Rattle.layout.specs.Laws.Made.{Made, made-none, made-more, made-builds}
-use Rattle.demands.specs.Laws.Given.{next-again}
+use Rattle.layout.specs.Laws.Step.{next-again}
 
 -- ---- the builder
 

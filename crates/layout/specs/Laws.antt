@@ -24,6 +24,7 @@ pub mod Made
 pub mod Carry
 pub mod Check
 pub mod Cursor
+pub mod Step
 pub mod PlainStep
 pub mod Seek
 pub mod MatchWalk

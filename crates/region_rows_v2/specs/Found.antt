@@ -13,7 +13,7 @@ use Rattle.layout.specs.Place.{splice}
 use Rattle.layout.specs.RowRead.{RowRead}
 use Rattle.layout.specs.Cursor.{Cursor, Answer, found, done, Step, stepIs, next, cursorAfter, keyAfter}
 use Rattle.layout.specs.Laws.Answer.{ok-inj}
-use Rattle.region_rows_v2.specs.StepKey.{KeyedWell, next-given}
+use Rattle.layout.specs.Laws.Step.{KeyedWell, next-given}
 use Rattle.basics.specs.Answers.{apart, yes}
 use Rattle.basics.specs.Number.{number}
 use Rattle.basics.specs.declared.Refusal.{Refusal}

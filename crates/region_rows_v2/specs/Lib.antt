@@ -1,4 +1,3 @@
-pub mod StepKey
 pub mod Found
 pub mod Bounds
 pub mod Region

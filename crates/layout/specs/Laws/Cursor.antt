@@ -1,13 +1,13 @@
 -- Each way through opening, a step and `is_empty`, by what was met on it: one law for each exit of the code. And what is known of the row that a
 -- step back finds.
 use Prim.Native.Nat.{ℕ, zero, suc, _+_, _-_, _<_, _≤_}
-use mathlib.Core.Path.{_≡_, refl, ap, sym, _∙_, subst}
-use mathlib.Core.Bool.{Bool, true, false, cond}
+use mathlib.Core.Path.{_≡_, subst}
+use mathlib.Core.Bool.{true, false}
 use mathlib.Core.List.{List, []}
 use mathlib.Core.Logic.{⊎-elim}
 use native.Mathlib.Nat.{le-antisymm}
 use native.Mathlib.Omega.{arith}
-use lib.Dec.{ltb, leb, eqb}
+use lib.Dec.{ltb, eqb}
 use lib.ListN.{length}
 use borrow.Author.Tests.{lt-ltb, le-ltb, le-leb, lt-leb, eq-eqb, ne-eqb, ltb-false}
 use Rattle.layout.specs.Answer.{ok, refuse}
@@ -15,7 +15,7 @@ use Rattle.layout.specs.Limits.{maxKey}
 use Rattle.layout.specs.Key.{Key}
 use Rattle.layout.specs.RowRead.{RowRead, keyLength, keyOf}
 use Rattle.layout.specs.Trailer.{Trailer, trailerOf, dataOf, Region, regionOf, allOffsets, rowIn}
-use Rattle.layout.specs.Cursor.{Direction, ascending, descending, Cursor, cursorIs, marked, opened, openBlock, Answer, found, done, Step, stepIs, pastRow, stepUp, Keyed, keyed, rowEndingAt, backPast, stepBackIn, stepDown, stepAlong, next, exhausted, isEmpty}
+use Rattle.layout.specs.Cursor.{Direction, ascending, descending, Cursor, marked, opened, openBlock, found, done, stepIs, pastRow, stepUp, Keyed, keyed, rowEndingAt, backPast, stepBackIn, stepDown, next, exhausted, isEmpty}
 use Rattle.layout.specs.Laws.Answer.{bind-then, guard-then, cond-ok, ok-inj}
 use Rattle.layout.specs.Laws.Carry.{keyOf-length}
 use Rattle.layout.specs.Laws.Tells.{rowIn-ends}
@@ -150,69 +150,11 @@ module _ (c : Cursor) (b : List ℕ) (t : Trailer) (room region : ℕ) (g : Regi
     unfolding stepBackIn
     back-found h = rw (e, le-ltb room (keyLength (k .row)) h)
 
--- ---- a step keeps the direction
-
-past-heads : (c : Cursor) (g : Region) (r : RowRead) (key : Key) → pastRow c g r key .direction ≡ ascending
-past-heads c g r key = go (ltb (g .reach) (r .next))
-  where
-    go : (t : Bool) → cond t (cursorIs ascending (c .region + 1) (r .next) [] false) (cursorIs ascending (c .region) (r .next) key false) .direction ≡ ascending
-    go true = refl
-    go false = refl
-
-module _ (c : Cursor) (s : Step) where
-  -- the cursor of a step that is this one
-  heads-of : {d : Cursor} {a : Answer} → ok (stepIs d a) ≡ ok s → d .direction ≡ c .direction → s .cursor .direction ≡ c .direction
-  heads-of e h = ap (λ (x : Step). x .cursor .direction) (sym (ok-inj e)) ∙ h
-
-  module _ (b : List ℕ) (t : Trailer) (room : ℕ) where
-    up-heads : c .direction ≡ ascending → stepUp c b t room ≡ ok s → s .cursor .direction ≡ c .direction
-    unfolding stepUp
-    up-heads up e =
-        bind-then (regionOf b t (c .region)) _ s e λ g _ f.
-        guard-then (ltb (c .at) (g .start)) 18 _ s f λ _ f.
-        guard-then (ltb (g .reach) (c .at)) 18 _ s f λ _ f.
-        ⊎-elim (λ w. heads-of (w .1) refl)
-        (λ w.
-        bind-then (rowIn (dataOf b t) g (c .at) (c .keyLen)) _ s (w .1) λ r _ f.
-        guard-then (ltb room (keyLength r)) 19 _ s f λ _ f. heads-of f (past-heads c g r (keyOf (dataOf b t) (c .key) r) ∙ sym up))
-        (cond-ok (eqb (c .at) (g .end)) _ _ s f)
-
-    back-heads : (region : ℕ) (g : Region) → stepBackIn c b t room region g ≡ ok s → s .cursor .direction ≡ c .direction
-    unfolding stepBackIn
-    back-heads region g e =
-        bind-then (rowEndingAt (c .at) (dataOf b t) g (c .at) (g .start) []) _ s e λ k _ f.
-        guard-then (ltb room (keyLength (k .row))) 19 _ s f λ _ f. heads-of f refl
-
-    down-heads : stepDown c b t room ≡ ok s → s .cursor .direction ≡ c .direction
-    unfolding stepDown
-    down-heads e =
-        bind-then (regionOf b t (c .region)) _ s e λ g _ f.
-        guard-then (ltb (c .at) (g .start)) 18 _ s f λ _ f.
-        guard-then (ltb (g .end) (c .at)) 18 _ s f λ _ f.
-        ⊎-elim
-        (λ w.
-        ⊎-elim (λ v. heads-of (v .1) refl) (λ v. bind-then (regionOf b t (c .region - 1)) _ s (v .1) λ h _ f. back-heads (c .region - 1) h f)
-        (cond-ok (eqb (c .region) 0) _ _ s (w .1)))
-        (λ w. back-heads (c .region) g (w .1))
-        (cond-ok (eqb (c .at) (g .start)) _ _ s f)
-
-    along-heads : (d : Direction) → c .direction ≡ d → stepAlong d c b t room ≡ ok s → s .cursor .direction ≡ c .direction
-    along-heads ascending up e = up-heads up e
-    along-heads descending down e = down-heads e
-
-  pub next-heads : (b : List ℕ) (room : ℕ) → next c b room ≡ ok s → s .cursor .direction ≡ c .direction
-  unfolding next
-  next-heads b room e =
-      bind-then (trailerOf b) _ s e λ t _ f.
-      guard-then (leb (t .count) (c .region)) 18 _ s f λ _ f.
-      guard-then (ltb maxKey (c .keyLen)) 18 _ s f λ _ f.
-      ⊎-elim (λ w. heads-of (w .1) refl) (λ w. along-heads b t room (c .direction) refl (w .1))
-      (cond-ok (c .mark) _ _ s f)
-
 -- ---- the step back
 
 -- a row that the step back finds: it is read, and its key is as long as it says
 pub record Ended (d : List ℕ) (g : Region) (stop : ℕ) (k : Keyed) : Type 0 where
+  pub some : 1 ≤ keyLength (k .row)
   pub fits : keyLength (k .row) ≤ maxKey
   pub whole : length (k .key) ≡ keyLength (k .row)
   pub ends : k .row .next ≡ stop
@@ -234,6 +176,7 @@ ended (suc left) d g stop at before k e =
     let is : keyed r (keyOf d before r) ≡ k = ok-inj v in
     rw (← is)
     (record {
+      some = w .some;
       fits = w .fits;
       whole = keyOf-length d at (g .end) before (eqb at (g .start)) r p;
       ends = n;
