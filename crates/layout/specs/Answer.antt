@@ -2,6 +2,7 @@
 use Prim.Native.Nat.{ℕ}
 use mathlib.Core.Bool.{Bool, true, false}
 
+infixr 1 _when_else_
 pub data Res (A : Type 0) : Type 0 where
   ok : A → Res A
   refuse : ℕ → Res A
@@ -19,3 +20,7 @@ whether x = bind x λ _. ok tt
 abbrev pub guard : {A : Type 0} → Bool → ℕ → Res A → Res A
 guard true n k = refuse n
 guard false n k = k
+
+-- the same in the words of the refusal table: `n when test else` what follows
+abbrev pub _when_else_ : {A : Type 0} → ℕ → Bool → Res A → Res A
+n when test else k = guard test n k

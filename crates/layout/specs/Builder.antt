@@ -4,7 +4,7 @@ use mathlib.Core.Bool.{Bool, cond, not, _&&_, _||_}
 use mathlib.Core.List.{List, []}
 use lib.Dec.{ltb, leb, eqb}
 use lib.ListN.{length, take, set}
-use Rattle.layout.specs.Answer.{Res, ok, refuse, bind, guard}
+use Rattle.layout.specs.Answer.{Res, ok, refuse, bind, _when_else_}
 use Rattle.layout.specs.Limits.{maxKey, maxBlock, maxInterval, maxOffset, maxRestarts, leastRow}
 use Rattle.layout.specs.Place.{splice}
 use Rattle.layout.specs.Key.{Key}
@@ -31,10 +31,10 @@ fresh size interval = record { size = size; interval = interval; used = 0; resta
 -- block size or interval outside its limits: 8
 unfoldable pub newBuilder : ℕ → ℕ → Res Builder
 newBuilder size interval =
-    guard (ltb maxBlock size) 8
-    (guard (eqb interval 0) 8
-    (guard (ltb maxInterval interval) 8
-    (ok (fresh size interval))))
+    8 when ltb maxBlock size else
+    8 when eqb interval 0 else
+    8 when ltb maxInterval interval else
+    ok (fresh size interval)
 
 -- what a refused constructor gives
 abbrev pub built : Res Builder → Builder
@@ -52,17 +52,17 @@ restartsOf rows interval = (rows + (interval - 1)) / interval
 
 unfoldable pub stateTests : Builder → ℕ → ℕ → Res (Unit {0})
 stateTests b dataLen placesLen =
-    guard (ltb maxBlock (b .size)) 18
-    (guard (eqb (b .interval) 0) 18
-    (guard (ltb maxInterval (b .interval)) 18
-    (guard (ltb dataLen (b .used)) 18
-    (guard (ltb placesLen (b .restarts)) 18
-    (guard (ltb maxRestarts (b .restarts)) 18
-    (guard (not (eqb (b .restarts) (restartsOf (b .rows) (b .interval)))) 18
-    (guard (ltb (b .used) (leastRow * b .rows)) 18
-    (guard (eqb (b .rows) 0 && ltb 0 (b .used)) 18
-    (guard (ltb maxKey (b .lastLen)) 18
-    (ok tt))))))))))
+    18 when ltb maxBlock (b .size) else
+    18 when eqb (b .interval) 0 else
+    18 when ltb maxInterval (b .interval) else
+    18 when ltb dataLen (b .used) else
+    18 when ltb placesLen (b .restarts) else
+    18 when ltb maxRestarts (b .restarts) else
+    18 when not (eqb (b .restarts) (restartsOf (b .rows) (b .interval))) else
+    18 when ltb (b .used) (leastRow * b .rows) else
+    18 when eqb (b .rows) 0 && ltb 0 (b .used) else
+    18 when ltb maxKey (b .lastLen) else
+    ok tt
 
 -- ---- the fit question: 18, 1, 2, 3, 4
 
@@ -87,8 +87,8 @@ unfoldable pub wouldFit : Builder → ℕ → ℕ → Key → Fields → Res (Un
 wouldFit b dataLen placesLen key f =
     bind (stateTests b dataLen placesLen) λ _.
     bind (lengthTests (length key) (length (valueOf f))) λ _.
-    guard (not (fits b key f)) 4
-    (ok tt)
+    4 when not (fits b key f) else
+    ok tt
 
 -- ---- adding: 18, 1, 2, 3, 4, 5, 6
 
@@ -107,10 +107,10 @@ grown b key f =
 unfoldable pub add : Builder → ℕ → ℕ → Key → Fields → Res Builder
 add b dataLen placesLen key f =
     bind (wouldFit b dataLen placesLen key f) λ _.
-    guard (atRestart b && ltb maxOffset (b .used)) 5
-    (guard (ltb dataLen (grownSize b key f)) 6
-    (guard (atRestart b && leb placesLen (b .restarts)) 6
-    (ok (grown b key f))))
+    5 when atRestart b && ltb maxOffset (b .used) else
+    6 when ltb dataLen (grownSize b key f) else
+    6 when atRestart b && leb placesLen (b .restarts) else
+    ok (grown b key f)
 
 -- the state given back, and both buffers: the row goes to the free rest of the data, a restart's offset to the next place
 abbrev pub stateAfter : Res Builder → Builder → Builder
@@ -130,9 +130,9 @@ placesAfter (refuse n) b places = places
 unfoldable pub build : Builder → ℕ → ℕ → Res ℕ
 build b dataLen placesLen =
     bind (stateTests b dataLen placesLen) λ _.
-    guard (eqb (b .rows) 0) 7
-    (guard (ltb dataLen (presentSize b)) 6
-    (ok (presentSize b)))
+    7 when eqb (b .rows) 0 else
+    6 when ltb dataLen (presentSize b) else
+    ok (presentSize b)
 
 abbrev pub blockAfter : Res ℕ → Builder → List ℕ → List ℕ → List ℕ
 blockAfter (ok n) b bytes places = splice bytes (b .used) (trailer (take (b .restarts) places))

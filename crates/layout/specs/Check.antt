@@ -4,7 +4,7 @@ use mathlib.Core.Bool.{cond, not}
 use mathlib.Core.List.{List}
 use lib.Dec.{ltb}
 use lib.ListN.{length}
-use Rattle.layout.specs.Answer.{Res, ok, bind, guard}
+use Rattle.layout.specs.Answer.{Res, ok, bind, _when_else_}
 use Rattle.layout.specs.Key.{Key, Rank, rankIs, noRank, mayFollow}
 use Rattle.layout.specs.RowRead.{RowRead, keyOf}
 use Rattle.layout.specs.Trailer.{Trailer, trailerOf, dataOf, Region, regionOf, allOffsets, rowIn}
@@ -31,8 +31,8 @@ unfoldable pub checkRow : List ℕ → Trailer → Passed → Res Passed
 checkRow b t p =
     bind (regionOf b t (p .region)) λ g.
     bind (rowIn (dataOf b t) g (p .at) (length (p .before .key))) λ r.
-    guard (not (mayFollow (p .before) (readRank (dataOf b t) (p .before .key) r))) 17
-    (ok (passedRow (dataOf b t) p g r))
+    17 when not (mayFollow (p .before) (readRank (dataOf b t) (p .before .key) r)) else
+    ok (passedRow (dataOf b t) p g r)
 
 -- as many steps as there are bytes are enough: each row moves on
 unfoldable pub checkFrom : ℕ → List ℕ → Trailer → Passed → Res ℕ

@@ -4,7 +4,7 @@ use mathlib.Core.Bool.{Bool, true, false, cond, _||_}
 use mathlib.Core.List.{List, []}
 use lib.Dec.{ltb, leb, eqb}
 use lib.ListN.{length, take}
-use Rattle.layout.specs.Answer.{Res, ok, refuse, bind, guard}
+use Rattle.layout.specs.Answer.{Res, ok, refuse, bind, _when_else_}
 use Rattle.layout.specs.Limits.{maxKey}
 use Rattle.layout.specs.Place.{splice}
 use Rattle.layout.specs.Key.{Key}
@@ -65,7 +65,7 @@ stepIs c a = record { cursor = c; answer = a }
 
 -- 19 only for the key that is given
 abbrev pub give : ℕ → RowRead → Key → Cursor → Res Step
-give room r key c = guard (ltb room (keyLength r)) 19 (ok (stepIs c (found r key)))
+give room r key c = 19 when ltb room (keyLength r) else ok (stepIs c (found r key))
 
 -- ascending, past a row: a finished region hands over to the next at once, then with no key
 abbrev pub pastRow : Cursor → Region → RowRead → Key → Cursor
@@ -74,11 +74,11 @@ pastRow c g r key = cond (ltb (g .reach) (r .next)) (cursorIs ascending (c .regi
 unfoldable pub stepUp : Cursor → List ℕ → Trailer → ℕ → Res Step
 stepUp c b t room =
     bind (regionOf b t (c .region)) λ g.
-    guard (ltb (c .at) (g .start)) 18
-    (guard (ltb (g .reach) (c .at)) 18
-    (cond (eqb (c .at) (g .end)) (ok (stepIs (marked c) done))
+    18 when ltb (c .at) (g .start) else
+    18 when ltb (g .reach) (c .at) else
+    cond (eqb (c .at) (g .end)) (ok (stepIs (marked c) done))
     (bind (rowIn (dataOf b t) g (c .at) (c .keyLen)) λ r.
-    give room r (keyOf (dataOf b t) (c .key) r) (pastRow c g r (keyOf (dataOf b t) (c .key) r)))))
+    give room r (keyOf (dataOf b t) (c .key) r) (pastRow c g r (keyOf (dataOf b t) (c .key) r)))
 
 -- a row that was read, and its full key
 pub record Keyed : Type 0 where
@@ -95,8 +95,8 @@ rowEndingAt zero d g stop at before = refuse 18
 rowEndingAt (suc left) d g stop at before =
     bind (rowIn d g at (length before)) λ r.
     cond (ltb (r .next) stop) (rowEndingAt left d g stop (r .next) (keyOf d before r))
-    (guard (ltb stop (r .next)) 18
-    (ok (keyed r (keyOf d before r))))
+    (18 when ltb stop (r .next) else
+    ok (keyed r (keyOf d before r)))
 
 -- back past a row: the key is neither used nor changed
 abbrev pub backPast : Cursor → ℕ → RowRead → Cursor
@@ -111,12 +111,12 @@ stepBackIn c b t room region g =
 unfoldable pub stepDown : Cursor → List ℕ → Trailer → ℕ → Res Step
 stepDown c b t room =
     bind (regionOf b t (c .region)) λ g.
-    guard (ltb (c .at) (g .start)) 18
-    (guard (ltb (g .end) (c .at)) 18
-    (cond (eqb (c .at) (g .start))
+    18 when ltb (c .at) (g .start) else
+    18 when ltb (g .end) (c .at) else
+    cond (eqb (c .at) (g .start))
     (cond (eqb (c .region) 0) (ok (stepIs (marked c) done))
     (bind (regionOf b t (c .region - 1)) λ h. stepBackIn c b t room (c .region - 1) h))
-    (stepBackIn c b t room (c .region) g)))
+    (stepBackIn c b t room (c .region) g)
 
 abbrev pub stepAlong : Direction → Cursor → List ℕ → Trailer → ℕ → Res Step
 stepAlong ascending c b t room = stepUp c b t room
@@ -126,10 +126,10 @@ stepAlong descending c b t room = stepDown c b t room
 unfoldable pub next : Cursor → List ℕ → ℕ → Res Step
 next c b room =
     bind (trailerOf b) λ t.
-    guard (leb (t .count) (c .region)) 18
-    (guard (ltb maxKey (c .keyLen)) 18
-    (cond (c .mark) (ok (stepIs c done))
-    (stepAlong (c .direction) c b t room)))
+    18 when leb (t .count) (c .region) else
+    18 when ltb maxKey (c .keyLen) else
+    cond (c .mark) (ok (stepIs c done))
+    (stepAlong (c .direction) c b t room)
 
 -- what a step gives back, and the lent key buffer after it: its other bytes stay
 abbrev pub cursorAfter : Res Step → Cursor → Cursor

@@ -5,7 +5,7 @@ use mathlib.Core.List.{List, _++_}
 use lib.Dec.{ltb}
 use lib.IntN.{ℤ}
 use lib.ListN.{length, take, drop}
-use Rattle.layout.specs.Answer.{Res, ok, bind, guard}
+use Rattle.layout.specs.Answer.{Res, ok, bind, _when_else_}
 use Rattle.layout.specs.Varint.{readVarint, Num}
 use Rattle.layout.specs.Fixed.{unbig, unbits}
 
@@ -25,7 +25,7 @@ varintAt d at = bind (readVarint (drop at d)) (placed at)
 
 -- a number of n bytes, high byte first
 unfoldable pub fixedAt : ℕ → List ℕ → ℕ → Res NumAt
-fixedAt n d at = guard (ltb (length d) (at + n)) 9 (ok (numAt (unbig (take n (drop at d))) (at + n)))
+fixedAt n d at = 9 when ltb (length d) (at + n) else ok (numAt (unbig (take n (drop at d))) (at + n))
 
 -- a signed number: eight bytes, read as 64 bits in two's complement
 pub record SignedAt : Type 0 where
@@ -49,7 +49,7 @@ splice xs at w = take at xs ++ (w ++ drop (at + length w) xs)
 
 -- the place after w, put at `at` of a buffer of `room` bytes: 6 where it does not hold it
 unfoldable pub putAt : ℕ → ℕ → List ℕ → Res ℕ
-putAt room at w = guard (ltb room (at + length w)) 6 (ok (at + length w))
+putAt room at w = 6 when ltb room (at + length w) else ok (at + length w)
 
 -- the buffer after that: a refusal writes nothing
 unfoldable pub afterPut : List ℕ → ℕ → List ℕ → List ℕ

@@ -7,7 +7,7 @@ use lib.Dec.{ltb, eqb}
 use lib.IntN.{ℤ}
 use lib.ListN.{length, take}
 use lib.Signed.{mag}
-use Rattle.layout.specs.Answer.{Res, ok, refuse, bind, guard}
+use Rattle.layout.specs.Answer.{Res, ok, refuse, bind, _when_else_}
 use Rattle.layout.specs.Limits.{maxKey, maxValue}
 use Rattle.layout.specs.Varint.{varint, varintLength}
 use Rattle.layout.specs.Fixed.{big, bits}
@@ -98,10 +98,10 @@ rowSize shared suffixLen valueLen expire create =
 -- ---- one row alone
 
 unfoldable pub keyLengthTests : ℕ → Res (Unit {0})
-keyLengthTests n = guard (eqb n 0) 1 (guard (ltb maxKey n) 2 (ok tt))
+keyLengthTests n = 1 when eqb n 0 else 2 when ltb maxKey n else ok tt
 
 unfoldable pub lengthTests : ℕ → ℕ → Res (Unit {0})
-lengthTests keyLen valueLen = bind (keyLengthTests keyLen) λ _. guard (ltb maxValue valueLen) 3 (ok tt)
+lengthTests keyLen valueLen = bind (keyLengthTests keyLen) λ _. 3 when ltb maxValue valueLen else ok tt
 
 -- its size alone: 1, 2, 3
 unfoldable pub sizeAlone : ℕ → ℕ → Kind → ℕ → Bool → Bool → Res ℕ
@@ -112,10 +112,10 @@ sizeAlone shared suffixLen kind offered expire create =
 -- its bytes after a key of `prevLen` bytes, into a buffer of `room` bytes: 13, 1, 2, 3, 6
 unfoldable pub encodeRow : ℕ → ℕ → List ℕ → Fields → ℕ → Res (List ℕ)
 encodeRow prevLen shared suffix f room =
-    guard (ltb prevLen shared) 13
-    (bind (lengthTests (shared + length suffix) (length (valueOf f))) λ _.
-    guard (ltb room (length (rowBytes shared suffix f))) 6
-    (ok (rowBytes shared suffix f)))
+    13 when ltb prevLen shared else
+    bind (lengthTests (shared + length suffix) (length (valueOf f))) λ _.
+    6 when ltb room (length (rowBytes shared suffix f)) else
+    ok (rowBytes shared suffix f)
 
 -- a buffer after bytes were answered at its start, or refused: then it is as it was
 abbrev pub written : Res (List ℕ) → List ℕ → List ℕ
@@ -125,10 +125,10 @@ written (refuse n) buf = buf
 -- the full key is the first `shared` bytes of the previous key, then the suffix: 13, 1, 2, and 19 for a buffer of `room` bytes
 unfoldable pub restoreKey : Key → ℕ → List ℕ → ℕ → Res Key
 restoreKey prev shared suffix room =
-    guard (ltb (length prev) shared) 13
-    (bind (keyLengthTests (shared + length suffix)) λ _.
-    guard (ltb room (shared + length suffix)) 19
-    (ok (take shared prev ++ suffix)))
+    13 when ltb (length prev) shared else
+    bind (keyLengthTests (shared + length suffix)) λ _.
+    19 when ltb room (shared + length suffix) else
+    ok (take shared prev ++ suffix)
 
 -- ---- what is said of rows
 

@@ -4,7 +4,7 @@ use mathlib.Core.Bool.{Bool, true, false, cond, _&&_}
 use mathlib.Core.List.{List, [], _++_}
 use lib.Dec.{ltb, eqb}
 use lib.ListN.{length, take, drop, getD}
-use Rattle.layout.specs.Answer.{Res, ok, bind, guard}
+use Rattle.layout.specs.Answer.{Res, ok, bind, _when_else_}
 use Rattle.layout.specs.Limits.{maxValue}
 use Rattle.layout.specs.Place.{varintAt, fixedAt, signedAt}
 use Rattle.layout.specs.Key.{Key}
@@ -44,8 +44,8 @@ mayShare false prevLen = prevLen
 -- of the lengths alone: `most` bytes may be shared
 unfoldable pub headTests : ℕ → ℕ → ℕ → Res (Unit {0})
 headTests most shared unshared =
-    guard (ltb most shared) 13
-    (keyLengthTests (shared + unshared))
+    13 when ltb most shared else
+    keyLengthTests (shared + unshared)
 
 unfoldable pub headAt : List ℕ → ℕ → ℕ → Bool → Res Lengths
 headAt d at prevLen restart =
@@ -68,9 +68,9 @@ hasBit bit f = eqb (f / bit % 2) 1
 
 unfoldable pub flagsAt : ℕ → Res Flags
 flagsAt f =
-    guard (ltb 15 f) 11
-    (guard (hasBit tombstoneBit f && hasBit mergeBit f) 12
-    (ok (flagsIs (cond (hasBit tombstoneBit f) tombstone (cond (hasBit mergeBit f) merge value)) (hasBit expireBit f) (hasBit createBit f))))
+    11 when ltb 15 f else
+    12 when hasBit tombstoneBit f && hasBit mergeBit f else
+    ok (flagsIs (cond (hasBit tombstoneBit f) tombstone (cond (hasBit mergeBit f) merge value)) (hasBit expireBit f) (hasBit createBit f))
 
 -- ---- value length over the limit (3); bytes missing (9); flags
 
@@ -97,9 +97,9 @@ bodyIs h q f n = record { held = h; seq = q; flags = f; next = n }
 -- of the lengths alone: the flags end at `end`, in data of `dataLen` bytes
 unfoldable pub bodyTests : ℕ → ℕ → ℕ → Res (Unit {0})
 bodyTests dataLen vlen end =
-    guard (ltb maxValue vlen) 3
-    (guard (ltb dataLen end) 9
-    (ok tt))
+    3 when ltb maxValue vlen else
+    9 when ltb dataLen end else
+    ok tt
 
 unfoldable pub bodyAt : List ℕ → Lengths → Res Body
 bodyAt d l =
@@ -172,8 +172,8 @@ rowAt d at prevLen restart =
 unfoldable pub readRow : List ℕ → ℕ → ℕ → ℕ → Bool → Res RowRead
 readRow d at end prevLen restart =
     bind (rowAt d at prevLen restart) λ r.
-    guard (ltb end (r .next)) 16
-    (ok r)
+    16 when ltb end (r .next) else
+    ok r
 
 -- a single row has the whole input as its region, and isn't a restart
 unfoldable pub decodeRow : List ℕ → ℕ → Res RowRead
@@ -192,9 +192,9 @@ keyIs l = record { shared = l .shared; suffixAt = l .body; suffixLen = l .unshar
 unfoldable pub readKey : List ℕ → ℕ → ℕ → ℕ → Bool → Res KeyRead
 readKey d at end prevLen restart =
     bind (headAt d at prevLen restart) λ l.
-    guard (ltb (length d) (valueAt l)) 9
-    (guard (ltb end (valueAt l)) 16
-    (ok (keyIs l)))
+    9 when ltb (length d) (valueAt l) else
+    16 when ltb end (valueAt l) else
+    ok (keyIs l)
 
 -- ---- what stands at the places
 

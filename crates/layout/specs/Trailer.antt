@@ -4,7 +4,7 @@ use mathlib.Core.Bool.{cond}
 use mathlib.Core.List.{List}
 use lib.Dec.{ltb, leb, eqb}
 use lib.ListN.{length, take, drop}
-use Rattle.layout.specs.Answer.{Res, ok, guard}
+use Rattle.layout.specs.Answer.{Res, ok, _when_else_}
 use Rattle.layout.specs.Fixed.{unbig}
 use Rattle.layout.specs.RowRead.{RowRead, readRow}
 
@@ -26,10 +26,10 @@ trailerIs n d = record { count = n; size = d }
 -- block under 2 bytes, count 0, or trailer longer than the block: 14
 unfoldable pub trailerOf : List ℕ → Res Trailer
 trailerOf b =
-    guard (ltb (length b) 2) 14
-    (guard (eqb (countOf b) 0) 14
-    (guard (ltb (length b) (2 + 2 * countOf b)) 14
-    (ok (trailerIs (countOf b) (length b - (2 + 2 * countOf b))))))
+    14 when ltb (length b) 2 else
+    14 when eqb (countOf b) 0 else
+    14 when ltb (length b) (2 + 2 * countOf b) else
+    ok (trailerIs (countOf b) (length b - (2 + 2 * countOf b)))
 
 -- the rows' bytes
 abbrev pub dataOf : List ℕ → Trailer → List ℕ
@@ -43,14 +43,14 @@ offsetAt b t r = shortAt b (t .size + 2 * r)
 unfoldable pub risingFrom : ℕ → List ℕ → Trailer → ℕ → ℕ → Res (Unit {0})
 risingFrom zero b t r low = ok tt
 risingFrom (suc left) b t r low =
-    guard (ltb (offsetAt b t r) low) 15
-    (guard (leb (t .size) (offsetAt b t r)) 15
-    (risingFrom left b t (suc r) (suc (offsetAt b t r))))
+    15 when ltb (offsetAt b t r) low else
+    15 when leb (t .size) (offsetAt b t r) else
+    risingFrom left b t (suc r) (suc (offsetAt b t r))
 
 unfoldable pub allOffsets : List ℕ → Trailer → Res (Unit {0})
 allOffsets b t =
-    guard (ltb 0 (offsetAt b t 0)) 15
-    (risingFrom (t .count) b t 0 0)
+    15 when ltb 0 (offsetAt b t 0) else
+    risingFrom (t .count) b t 0 0
 
 -- ---- a restart region runs from its offset to the next, or to the data's end; using it tests 15 for its offset and the next
 
@@ -69,13 +69,13 @@ firstOf r offset = cond (eqb r 0) offset 0
 
 unfoldable pub regionOf : List ℕ → Trailer → ℕ → Res Region
 regionOf b t r =
-    guard (ltb 0 (firstOf r (offsetAt b t r))) 15
-    (guard (leb (t .size) (offsetAt b t r)) 15
-    (cond (ltb (r + 1) (t .count))
-    (guard (leb (offsetAt b t (r + 1)) (offsetAt b t r)) 15
-    (guard (leb (t .size) (offsetAt b t (r + 1))) 15
-    (ok (regionIs (offsetAt b t r) (offsetAt b t (r + 1)) (offsetAt b t (r + 1) - 1)))))
-    (ok (regionIs (offsetAt b t r) (t .size) (t .size)))))
+    15 when ltb 0 (firstOf r (offsetAt b t r)) else
+    15 when leb (t .size) (offsetAt b t r) else
+    cond (ltb (r + 1) (t .count))
+    (15 when leb (offsetAt b t (r + 1)) (offsetAt b t r) else
+    15 when leb (t .size) (offsetAt b t (r + 1)) else
+    ok (regionIs (offsetAt b t r) (offsetAt b t (r + 1)) (offsetAt b t (r + 1) - 1)))
+    (ok (regionIs (offsetAt b t r) (t .size) (t .size)))
 
 -- the next row of a region, after a key of `prevLen` bytes: at the region's start it is a restart
 abbrev pub rowIn : List ℕ → Region → ℕ → ℕ → Res RowRead
