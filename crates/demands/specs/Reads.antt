@@ -12,7 +12,7 @@ use Rattle.layout.specs.RowRead.{keyOf, fieldsOf}
 use Rattle.layout.specs.Trailer.{Trailer, trailerOf, dataOf, Region, regionOf, allOffsets, rowIn}
 use Rattle.layout.specs.Cursor.{Keyed, keyed}
 
--- the rows of a region from `at` on, after the key before; as many steps as there are bytes are enough
+-- the rows of a region from `at` on, after the key before; as many steps as there are bytes are enough (`region-more`)
 unfoldable pub regionRows : ℕ → List ℕ → Region → ℕ → Key → Res (List Keyed)
 regionRows zero d g at before = ok []
 regionRows (suc left) d g at before =

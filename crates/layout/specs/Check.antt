@@ -34,7 +34,7 @@ checkRow b t p =
     17 when not (mayFollow (p .before) (readRank (dataOf b t) (p .before .key) r)) else
     ok (passedRow (dataOf b t) p g r)
 
--- as many steps as there are bytes are enough: each row moves on
+-- as many steps as there are bytes are enough (`checkFrom-enough`): each row moves on
 unfoldable pub checkFrom : ℕ → List ℕ → Trailer → Passed → Res ℕ
 checkFrom zero b t p = ok (p .rows)
 checkFrom (suc left) b t p = cond (ltb (p .at) (t .size)) (bind (checkRow b t p) λ q. checkFrom left b t q) (ok (p .rows))

@@ -89,7 +89,7 @@ abbrev pub keyed : RowRead → Key → Keyed
 keyed r k = record { row = r; key = k }
 
 -- descending: of the rows of a region, read from its start, the one that ends at `stop`; rows up to there are tested as read, a row that straddles it is 18. As many steps as there are
--- bytes are enough: the first clause is never met
+-- bytes before `stop` are enough (`rowEndingAt-enough`): the first clause is never met
 unfoldable pub rowEndingAt : ℕ → List ℕ → Region → ℕ → ℕ → Key → Res Keyed
 rowEndingAt zero d g stop at before = refuse 18
 rowEndingAt (suc left) d g stop at before =

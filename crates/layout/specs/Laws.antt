@@ -27,6 +27,7 @@ pub mod Cursor
 pub mod Step
 pub mod PlainStep
 pub mod Seek
+pub mod Enough
 pub mod MatchWalk
 pub mod Restart
 pub mod Kept

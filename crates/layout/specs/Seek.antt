@@ -27,7 +27,7 @@ tick f = ok (foundIs (f .place) (suc (f .reads)))
 unfoldable pub middle : ℕ → ℕ → ℕ
 middle low high = low + (high - low) / 2
 
--- reads the middle's key; keeps the upper part if it is below the target, else the lower one, until the span is empty; as many steps as the span is long are enough
+-- reads the middle's key; keeps the upper part if it is below the target, else the lower one, until the span is empty; as many steps as the span is long are enough (`searchIn-more`)
 unfoldable pub searchIn : ℕ → (ℕ → Res Bool) → ℕ → ℕ → Res Found
 searchIn zero isBelow low high = ok (foundIs low 0)
 searchIn (suc left) isBelow low high =
@@ -54,7 +54,7 @@ searchRestarts b t target = search (restartBelow b t target) 0 (t .count)
 
 -- ---- ascending: start one restart earlier (not below 0) and walk to the first row at or above the target, else "done"
 
--- where the walk of a region stops: at that row or at the region's end, after the key of the row before in the same region, else none; as many steps as there are bytes are enough
+-- where the walk of a region stops: at that row or at the region's end, after the key of the row before in the same region, else none; as many steps as there are bytes are enough (`walkRegion-enough`)
 pub record Stop : Type 0 where
   pub at : ℕ
   pub before : Key
@@ -89,7 +89,7 @@ seekUp b t target place = walkUp (t .count - (place - 1)) b t target (place - 1)
 
 -- ---- descending: start at the last of the run of restarts equal to the target, if the one found is equal; otherwise one earlier (not below 0)
 
--- as many steps as there are restarts are enough
+-- as many steps as there are restarts are enough (`lastEqual-enough`)
 unfoldable pub lastEqual : ℕ → List ℕ → Trailer → Key → ℕ → Res ℕ
 lastEqual zero b t target i = ok i
 lastEqual (suc left) b t target i =
@@ -105,7 +105,7 @@ startDown b t target place =
     cond (same k target) (lastEqual (t .count) b t target place) (ok (place - 1)))
     (ok (place - 1))
 
--- read that whole region: where its last row at or below the target ends, or `best`; as many steps as there are bytes are enough
+-- read that whole region: where its last row at or below the target ends, or `best`; as many steps as there are bytes are enough (`lastAtOrBelow-enough`)
 unfoldable pub lastAtOrBelow : ℕ → List ℕ → Region → Key → ℕ → Key → ℕ → Res ℕ
 lastAtOrBelow zero d g target at before best = ok best
 lastAtOrBelow (suc left) d g target at before best =
