@@ -4,6 +4,7 @@ use mathlib.Core.Bool.{Bool, cond}
 use mathlib.Core.List.{List, [], _∷_, _++_}
 use lib.Dec.{eqb}
 use lib.ListN.{length, drop}
+use Rattle.layout.specs.Bytes.{Bytes}
 use Rattle.layout.specs.Fixed.{big}
 use Rattle.layout.specs.Key.{Key, common}
 use Rattle.layout.specs.Row.{Fields, Row, rowBytes}
@@ -17,11 +18,11 @@ unfoldable pub shareOf : Bool → Key → Key → ℕ
 shareOf restart before key = cond restart 0 (common before key)
 
 -- the bytes of a row with this key after the row before
-unfoldable pub laidRow : Bool → Key → Key → Fields → List ℕ
+unfoldable pub laidRow : Bool → Key → Key → Fields → Bytes
 laidRow restart before key f = rowBytes (shareOf restart before key) (drop (shareOf restart before key) key) f
 
 -- the bytes of row i and of those after it
-unfoldable pub rowsFrom : ℕ → ℕ → Key → List Row → List ℕ
+unfoldable pub rowsFrom : ℕ → ℕ → Key → List Row → Bytes
 rowsFrom interval i before [] = []
 rowsFrom interval i before (r ∷ rs) = laidRow (isRestart interval i) before (r .key) (r .fields) ++ rowsFrom interval (suc i) (r .key) rs
 
@@ -32,18 +33,18 @@ offsetsFrom interval i at before (r ∷ rs) =
     let more = offsetsFrom interval (suc i) (at + length (laidRow (isRestart interval i) before (r .key) (r .fields))) (r .key) rs in
     cond (isRestart interval i) (at ∷ more) more
 
-unfoldable pub blockRows : ℕ → List Row → List ℕ
+unfoldable pub blockRows : ℕ → List Row → Bytes
 blockRows interval rs = rowsFrom interval 0 [] rs
 
 unfoldable pub offsets : ℕ → List Row → List ℕ
 offsets interval rs = offsetsFrom interval 0 0 [] rs
 
-unfoldable pub offsetBytes : List ℕ → List ℕ
+unfoldable pub offsetBytes : List ℕ → Bytes
 offsetBytes [] = []
 offsetBytes (o ∷ os) = big 2 o ++ offsetBytes os
 
-unfoldable pub trailer : List ℕ → List ℕ
+unfoldable pub trailer : List ℕ → Bytes
 trailer os = offsetBytes os ++ big 2 (length os)
 
-unfoldable pub blockBytes : ℕ → List Row → List ℕ
+unfoldable pub blockBytes : ℕ → List Row → Bytes
 blockBytes interval rs = blockRows interval rs ++ trailer (offsets interval rs)

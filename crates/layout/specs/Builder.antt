@@ -4,6 +4,7 @@ use mathlib.Core.Bool.{Bool, cond, not, _&&_, _||_}
 use mathlib.Core.List.{List, []}
 use lib.Dec.{ltb, leb, eqb}
 use lib.ListN.{length, take, set}
+use Rattle.layout.specs.Bytes.{Bytes}
 use Rattle.layout.specs.Answer.{Res, ok, refuse, bind, _when_else_}
 use Rattle.layout.specs.Limits.{maxKey, maxBlock, maxInterval, maxOffset, maxRestarts, leastRow}
 use Rattle.layout.specs.Place.{splice}
@@ -21,7 +22,7 @@ pub record Builder : Type 0 where
   pub last : Key
 
 -- a builder as it is kept, its last key at the start of an array: the bytes past the key's length tell nothing, and are cut off here
-abbrev pub keptBuilder : ℕ → ℕ → ℕ → ℕ → ℕ → ℕ → List ℕ → Builder
+abbrev pub keptBuilder : ℕ → ℕ → ℕ → ℕ → ℕ → ℕ → Bytes → Builder
 keptBuilder size interval used restarts rows lastLen array =
     record { size = size; interval = interval; used = used; restarts = restarts; rows = rows; lastLen = lastLen; last = take lastLen array }
 
@@ -69,7 +70,7 @@ stateTests b dataLen placesLen =
 abbrev pub atRestart : Builder → Bool
 atRestart b = isRestart (b .interval) (b .rows)
 
-abbrev pub nextRow : Builder → Key → Fields → List ℕ
+abbrev pub nextRow : Builder → Key → Fields → Bytes
 nextRow b key f = laidRow (atRestart b) (b .last) key f
 
 abbrev pub presentSize : Builder → ℕ
@@ -117,7 +118,7 @@ abbrev pub stateAfter : Res Builder → Builder → Builder
 stateAfter (ok b′) b = b′
 stateAfter (refuse n) b = b
 
-abbrev pub dataAfter : Res Builder → Builder → Key → Fields → List ℕ → List ℕ
+abbrev pub dataAfter : Res Builder → Builder → Key → Fields → Bytes → Bytes
 dataAfter (ok b′) b key f bytes = splice bytes (b .used) (nextRow b key f)
 dataAfter (refuse n) b key f bytes = bytes
 
@@ -134,6 +135,6 @@ build b dataLen placesLen =
     6 when ltb dataLen (presentSize b) else
     ok (presentSize b)
 
-abbrev pub blockAfter : Res ℕ → Builder → List ℕ → List ℕ → List ℕ
+abbrev pub blockAfter : Res ℕ → Builder → Bytes → List ℕ → Bytes
 blockAfter (ok n) b bytes places = splice bytes (b .used) (trailer (take (b .restarts) places))
 blockAfter (refuse n) b bytes places = bytes

@@ -1,9 +1,10 @@
 -- "How a cursor travels": opening, a step in both directions, `is_empty`; what each gives back, and the key buffer after.
 use Prim.Native.Nat.{ℕ, zero, suc, _+_, _-_}
 use mathlib.Core.Bool.{Bool, true, false, cond, _||_}
-use mathlib.Core.List.{List, []}
+use mathlib.Core.List.{[]}
 use lib.Dec.{ltb, leb, eqb}
 use lib.ListN.{length, take}
+use Rattle.layout.specs.Bytes.{Bytes}
 use Rattle.layout.specs.Answer.{Res, ok, refuse, bind, _when_else_}
 use Rattle.layout.specs.Limits.{maxKey}
 use Rattle.layout.specs.Place.{splice}
@@ -23,7 +24,7 @@ pub record Cursor : Type 0 where
   pub mark : Bool
 
 -- a cursor as it is kept, its key at the start of an array: the bytes past the key's length tell nothing, and are cut off here
-abbrev pub keptCursor : Direction → ℕ → ℕ → ℕ → List ℕ → Bool → Cursor
+abbrev pub keptCursor : Direction → ℕ → ℕ → ℕ → Bytes → Bool → Cursor
 keptCursor d region at keyLen array mark = record { direction = d; region = region; at = at; keyLen = keyLen; key = take keyLen array; mark = mark }
 
 abbrev pub cursorIs : Direction → ℕ → ℕ → Key → Bool → Cursor
@@ -38,7 +39,7 @@ abbrev pub opened : Direction → Trailer → Cursor
 opened ascending t = cursorIs ascending 0 0 [] false
 opened descending t = cursorIs descending (t .count - 1) (t .size) [] false
 
-unfoldable pub openBlock : List ℕ → Direction → Res Cursor
+unfoldable pub openBlock : Bytes → Direction → Res Cursor
 openBlock b d =
     bind (trailerOf b) λ t.
     bind (allOffsets b t) λ _.
@@ -71,7 +72,7 @@ give room r key c = 19 when ltb room (keyLength r) else ok (stepIs c (found r ke
 abbrev pub pastRow : Cursor → Region → RowRead → Key → Cursor
 pastRow c g r key = cond (ltb (g .reach) (r .next)) (cursorIs ascending (c .region + 1) (r .next) [] false) (cursorIs ascending (c .region) (r .next) key false)
 
-unfoldable pub stepUp : Cursor → List ℕ → Trailer → ℕ → Res Step
+unfoldable pub stepUp : Cursor → Bytes → Trailer → ℕ → Res Step
 stepUp c b t room =
     bind (regionOf b t (c .region)) λ g.
     18 when ltb (c .at) (g .start) else
@@ -90,7 +91,7 @@ keyed r k = record { row = r; key = k }
 
 -- descending: of the rows of a region, read from its start, the one that ends at `stop`; rows up to there are tested as read, a row that straddles it is 18. As many steps as there are
 -- bytes before `stop` are enough (`rowEndingAt-enough`): the first clause is never met
-unfoldable pub rowEndingAt : ℕ → List ℕ → Region → ℕ → ℕ → Key → Res Keyed
+unfoldable pub rowEndingAt : ℕ → Bytes → Region → ℕ → ℕ → Key → Res Keyed
 rowEndingAt zero d g stop at before = refuse 18
 rowEndingAt (suc left) d g stop at before =
     bind (rowIn d g at (length before)) λ r.
@@ -102,13 +103,13 @@ rowEndingAt (suc left) d g stop at before =
 abbrev pub backPast : Cursor → ℕ → RowRead → Cursor
 backPast c region r = record { direction = c .direction; region = region; at = r .start; keyLen = c .keyLen; key = c .key; mark = c .mark }
 
-unfoldable pub stepBackIn : Cursor → List ℕ → Trailer → ℕ → ℕ → Region → Res Step
+unfoldable pub stepBackIn : Cursor → Bytes → Trailer → ℕ → ℕ → Region → Res Step
 stepBackIn c b t room region g =
     bind (rowEndingAt (c .at) (dataOf b t) g (c .at) (g .start) []) λ k.
     give room (k .row) (k .key) (backPast c region (k .row))
 
 -- at a region's start the region before is next
-unfoldable pub stepDown : Cursor → List ℕ → Trailer → ℕ → Res Step
+unfoldable pub stepDown : Cursor → Bytes → Trailer → ℕ → Res Step
 stepDown c b t room =
     bind (regionOf b t (c .region)) λ g.
     18 when ltb (c .at) (g .start) else
@@ -118,12 +119,12 @@ stepDown c b t room =
     (bind (regionOf b t (c .region - 1)) λ h. stepBackIn c b t room (c .region - 1) h))
     (stepBackIn c b t room (c .region) g)
 
-abbrev pub stepAlong : Direction → Cursor → List ℕ → Trailer → ℕ → Res Step
+abbrev pub stepAlong : Direction → Cursor → Bytes → Trailer → ℕ → Res Step
 stepAlong ascending c b t room = stepUp c b t room
 stepAlong descending c b t room = stepDown c b t room
 
 -- 14; 18 for region number and key; a marked cursor says "done"; then 15, 18 for the position, row tests, 19
-unfoldable pub next : Cursor → List ℕ → ℕ → Res Step
+unfoldable pub next : Cursor → Bytes → ℕ → Res Step
 next c b room =
     bind (trailerOf b) λ t.
     18 when leb (t .count) (c .region) else
@@ -136,11 +137,11 @@ abbrev pub cursorAfter : Res Step → Cursor → Cursor
 cursorAfter (ok s) c = s .cursor
 cursorAfter (refuse n) c = c
 
-abbrev pub keyGiven : Answer → List ℕ → List ℕ
+abbrev pub keyGiven : Answer → Bytes → Bytes
 keyGiven (found r key) out = splice out 0 key
 keyGiven done out = out
 
-abbrev pub keyAfter : Res Step → List ℕ → List ℕ
+abbrev pub keyAfter : Res Step → Bytes → Bytes
 keyAfter (ok s) out = keyGiven (s .answer) out
 keyAfter (refuse n) out = out
 
@@ -150,5 +151,5 @@ abbrev pub exhausted : Direction → Cursor → Trailer → Bool
 exhausted ascending c t = c .mark || leb (t .size) (c .at)
 exhausted descending c t = c .mark
 
-unfoldable pub isEmpty : Cursor → List ℕ → Res Bool
+unfoldable pub isEmpty : Cursor → Bytes → Res Bool
 isEmpty c b = bind (trailerOf b) λ t. ok (exhausted (c .direction) c t)

@@ -4,9 +4,10 @@ use mathlib.Core.Path.{_≡_}
 use mathlib.Core.Bool.{Bool, true, false, cond, not}
 use mathlib.Core.List.{List, [], _∷_}
 use lib.Dec.{ltb, eqb}
+use Rattle.layout.specs.Bytes.{Bytes}
 
 abbrev pub Key : Type 0
-Key = List ℕ
+Key = Bytes
 
 -- a is smaller than b: at the first byte where they differ, else the shorter is smaller
 unfoldable pub below : Key → Key → Bool

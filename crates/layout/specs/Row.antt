@@ -2,11 +2,12 @@
 use Prim.Native.Nat.{ℕ, _+_, _^_, _<_}
 use mathlib.Core.Path.{_≡_}
 use mathlib.Core.Bool.{Bool, true, false}
-use mathlib.Core.List.{List, [], _∷_, _++_}
+use mathlib.Core.List.{[], _∷_, _++_}
 use lib.Dec.{ltb, eqb}
 use lib.IntN.{ℤ}
 use lib.ListN.{length, take}
 use lib.Signed.{mag}
+use Rattle.layout.specs.Bytes.{Bytes}
 use Rattle.layout.specs.Answer.{Res, ok, refuse, bind, _when_else_}
 use Rattle.layout.specs.Limits.{maxKey, maxValue}
 use Rattle.layout.specs.Varint.{varint, varintLength}
@@ -24,7 +25,7 @@ pub data Time : Type 0 where
 -- what a row holds beside its key
 pub record Fields : Type 0 where
   pub kind : Kind
-  pub val : List ℕ
+  pub val : Bytes
   pub seq : ℕ
   pub expire : Time
   pub create : Time
@@ -34,7 +35,7 @@ pub record Row : Type 0 where
   pub fields : Fields
 
 -- a tombstone's value is empty: offered bytes are ignored
-abbrev pub kept : Kind → List ℕ → List ℕ
+abbrev pub kept : Kind → Bytes → Bytes
 kept value v = v
 kept tombstone v = []
 kept merge v = v
@@ -44,7 +45,7 @@ keptLength value n = n
 keptLength tombstone n = 0
 keptLength merge n = n
 
-abbrev pub valueOf : Fields → List ℕ
+abbrev pub valueOf : Fields → Bytes
 valueOf f = kept (f .kind) (f .val)
 
 -- ---- flags
@@ -80,12 +81,12 @@ flagsOf k expire create = kindBits k + ifSo expire expireBit + ifSo create creat
 
 -- ---- bytes
 
-unfoldable pub timeBytes : Time → List ℕ
+unfoldable pub timeBytes : Time → Bytes
 timeBytes Absent = []
 timeBytes (At t) = big 8 (bits t)
 
 -- shared, unshared, value length; suffix, value, seq, flags; expire time, create time
-unfoldable pub rowBytes : ℕ → List ℕ → Fields → List ℕ
+unfoldable pub rowBytes : ℕ → Bytes → Fields → Bytes
 rowBytes shared suffix f =
     varint shared ++ (varint (length suffix) ++ (varint (length (valueOf f)) ++ (suffix ++ (valueOf f ++
     (big 8 (f .seq) ++ (flagsOf (f .kind) (present (f .expire)) (present (f .create)) ∷ (timeBytes (f .expire) ++ timeBytes (f .create))))))))
@@ -110,7 +111,7 @@ sizeAlone shared suffixLen kind offered expire create =
     ok (rowSize shared suffixLen (keptLength kind offered) expire create)
 
 -- its bytes after a key of `prevLen` bytes, into a buffer of `room` bytes: 13, 1, 2, 3, 6
-unfoldable pub encodeRow : ℕ → ℕ → List ℕ → Fields → ℕ → Res (List ℕ)
+unfoldable pub encodeRow : ℕ → ℕ → Bytes → Fields → ℕ → Res Bytes
 encodeRow prevLen shared suffix f room =
     13 when ltb prevLen shared else
     bind (lengthTests (shared + length suffix) (length (valueOf f))) λ _.
@@ -118,12 +119,12 @@ encodeRow prevLen shared suffix f room =
     ok (rowBytes shared suffix f)
 
 -- a buffer after bytes were answered at its start, or refused: then it is as it was
-abbrev pub written : Res (List ℕ) → List ℕ → List ℕ
+abbrev pub written : Res Bytes → Bytes → Bytes
 written (ok w) buf = splice buf 0 w
 written (refuse n) buf = buf
 
 -- the full key is the first `shared` bytes of the previous key, then the suffix: 13, 1, 2, and 19 for a buffer of `room` bytes
-unfoldable pub restoreKey : Key → ℕ → List ℕ → ℕ → Res Key
+unfoldable pub restoreKey : Key → ℕ → Bytes → ℕ → Res Key
 restoreKey prev shared suffix room =
     13 when ltb (length prev) shared else
     bind (keyLengthTests (shared + length suffix)) λ _.
@@ -150,7 +151,7 @@ pub record Typed (f : Fields) : Type 0 where
   pub create-fits : TimeOk (f .create)
 
 -- two rows after one previous key, each by its share, its suffix and its fields, are one, and so are the bytes t₁ and t₂ that follow them
-pub record SameRow (s₁ : ℕ) (x₁ : List ℕ) (f₁ : Fields) (t₁ : List ℕ) (s₂ : ℕ) (x₂ : List ℕ) (f₂ : Fields) (t₂ : List ℕ) : Type 0 where
+pub record SameRow (s₁ : ℕ) (x₁ : Bytes) (f₁ : Fields) (t₁ : Bytes) (s₂ : ℕ) (x₂ : Bytes) (f₂ : Fields) (t₂ : Bytes) : Type 0 where
   pub shares : s₁ ≡ s₂
   pub suffixes : x₁ ≡ x₂
   pub fields : plain f₁ ≡ plain f₂

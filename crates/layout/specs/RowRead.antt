@@ -1,14 +1,15 @@
 -- "A row on the wire", as it is read: the order of tests is 01's. A read gives places; key and content stand at them.
 use Prim.Native.Nat.{ℕ, _+_, _/_, _%_}
 use mathlib.Core.Bool.{Bool, true, false, cond, _&&_}
-use mathlib.Core.List.{List, [], _++_}
+use mathlib.Core.List.{[], _++_}
 use lib.Dec.{ltb, eqb}
 use lib.ListN.{length, take, drop, getD}
+use Rattle.layout.specs.Bytes.{Bytes}
 use Rattle.layout.specs.Answer.{Res, ok, bind, _when_else_}
 use Rattle.layout.specs.Limits.{maxValue}
 use Rattle.layout.specs.Place.{varintAt, fixedAt, signedAt}
 use Rattle.layout.specs.Key.{Key}
-use Rattle.layout.specs.Row.{Kind, value, tombstone, merge, Time, Absent, At, Fields, Row, tombstoneBit, expireBit, createBit, mergeBit, keyLengthTests}
+use Rattle.layout.specs.Row.{Kind, value, tombstone, merge, Time, Absent, At, Fields, tombstoneBit, expireBit, createBit, mergeBit, keyLengthTests}
 
 -- ---- the three varints: 9, 10 as met
 
@@ -21,7 +22,7 @@ pub record Lengths : Type 0 where
 abbrev pub lengthsIs : ℕ → ℕ → ℕ → ℕ → Lengths
 lengthsIs s u v b = record { shared = s; unshared = u; vlen = v; body = b }
 
-unfoldable pub lengthsAt : List ℕ → ℕ → Res Lengths
+unfoldable pub lengthsAt : Bytes → ℕ → Res Lengths
 lengthsAt d at =
     bind (varintAt d at) λ a.
     bind (varintAt d (a .next)) λ b.
@@ -47,7 +48,7 @@ headTests most shared unshared =
     13 when ltb most shared else
     keyLengthTests (shared + unshared)
 
-unfoldable pub headAt : List ℕ → ℕ → ℕ → Bool → Res Lengths
+unfoldable pub headAt : Bytes → ℕ → ℕ → Bool → Res Lengths
 headAt d at prevLen restart =
     bind (lengthsAt d at) λ l.
     bind (headTests (mayShare restart prevLen) (l .shared) (l .unshared)) λ _.
@@ -101,7 +102,7 @@ bodyTests dataLen vlen end =
     9 when ltb dataLen end else
     ok tt
 
-unfoldable pub bodyAt : List ℕ → Lengths → Res Body
+unfoldable pub bodyAt : Bytes → Lengths → Res Body
 bodyAt d l =
     bind (bodyTests (length d) (l .vlen) (seqAt l + 9)) λ _.
     bind (fixedAt 8 d (seqAt l)) λ q.
@@ -117,7 +118,7 @@ pub record TimeAt : Type 0 where
 abbrev pub timeIs : Time → ℕ → TimeAt
 timeIs t n = record { time = t; next = n }
 
-unfoldable pub timeAt : Bool → List ℕ → ℕ → Res TimeAt
+unfoldable pub timeAt : Bool → Bytes → ℕ → Res TimeAt
 timeAt true d at = bind (signedAt d at) λ w. ok (timeIs (At (w .val)) (w .next))
 timeAt false d at = ok (timeIs Absent at)
 
@@ -129,7 +130,7 @@ pub record Times : Type 0 where
 abbrev pub timesIs : Time → Time → ℕ → Times
 timesIs e c n = record { expire = e; create = c; next = n }
 
-unfoldable pub timesAt : List ℕ → ℕ → Flags → Res Times
+unfoldable pub timesAt : Bytes → ℕ → Flags → Res Times
 timesAt d at f =
     bind (timeAt (f .expire) d at) λ e.
     bind (timeAt (f .create) d (e .next)) λ c.
@@ -162,21 +163,21 @@ rowIs at l b t =
       create = t .create;
     }
 
-unfoldable pub rowAt : List ℕ → ℕ → ℕ → Bool → Res RowRead
+unfoldable pub rowAt : Bytes → ℕ → ℕ → Bool → Res RowRead
 rowAt d at prevLen restart =
     bind (headAt d at prevLen restart) λ l.
     bind (bodyAt d l) λ b.
     bind (timesAt d (b .next) (b .flags)) λ t.
     ok (rowIs at l b t)
 
-unfoldable pub readRow : List ℕ → ℕ → ℕ → ℕ → Bool → Res RowRead
+unfoldable pub readRow : Bytes → ℕ → ℕ → ℕ → Bool → Res RowRead
 readRow d at end prevLen restart =
     bind (rowAt d at prevLen restart) λ r.
     16 when ltb end (r .next) else
     ok r
 
 -- a single row has the whole input as its region, and isn't a restart
-unfoldable pub decodeRow : List ℕ → ℕ → Res RowRead
+unfoldable pub decodeRow : Bytes → ℕ → Res RowRead
 decodeRow s prevLen = readRow s 0 (length s) prevLen false
 
 -- ---- a key-only read makes the same tests but for the value length, and stops after the suffix, whose end takes the test 16
@@ -189,7 +190,7 @@ pub record KeyRead : Type 0 where
 abbrev pub keyIs : Lengths → KeyRead
 keyIs l = record { shared = l .shared; suffixAt = l .body; suffixLen = l .unshared }
 
-unfoldable pub readKey : List ℕ → ℕ → ℕ → ℕ → Bool → Res KeyRead
+unfoldable pub readKey : Bytes → ℕ → ℕ → ℕ → Bool → Res KeyRead
 readKey d at end prevLen restart =
     bind (headAt d at prevLen restart) λ l.
     9 when ltb (length d) (valueAt l) else
@@ -202,10 +203,10 @@ abbrev pub keyLength : RowRead → ℕ
 keyLength r = r .shared + r .suffixLen
 
 -- the first `shared` bytes of the previous key, then the suffix
-abbrev pub joined : List ℕ → Key → ℕ → ℕ → ℕ → Key
+abbrev pub joined : Bytes → Key → ℕ → ℕ → ℕ → Key
 joined d prev shared at n = take shared prev ++ take n (drop at d)
 
-abbrev pub keyOf : List ℕ → Key → RowRead → Key
+abbrev pub keyOf : Bytes → Key → RowRead → Key
 keyOf d prev r = joined d prev (r .shared) (r .suffixAt) (r .suffixLen)
 
 abbrev pub kindOf : Held → Kind
@@ -213,13 +214,10 @@ kindOf (holds at n) = value
 kindOf gone = tombstone
 kindOf (merges at n) = merge
 
-abbrev pub heldBytes : List ℕ → Held → List ℕ
+abbrev pub heldBytes : Bytes → Held → Bytes
 heldBytes d (holds at n) = take n (drop at d)
 heldBytes d gone = []
 heldBytes d (merges at n) = take n (drop at d)
 
-abbrev pub fieldsOf : List ℕ → RowRead → Fields
+abbrev pub fieldsOf : Bytes → RowRead → Fields
 fieldsOf d r = record { kind = kindOf (r .held); val = heldBytes d (r .held); seq = r .seq; expire = r .expire; create = r .create }
-
-abbrev pub rowOf : List ℕ → Key → RowRead → Row
-rowOf d prev r = record { key = keyOf d prev r; fields = fieldsOf d r }

@@ -1,9 +1,10 @@
 -- "A seek starts afresh": the search over restart keys with its count, the run of equal restarts, both walks, and the cursor left behind.
 use Prim.Native.Nat.{ℕ, zero, suc, _+_, _-_, _/_}
 use mathlib.Core.Bool.{Bool, true, false, cond}
-use mathlib.Core.List.{List, []}
+use mathlib.Core.List.{[]}
 use lib.Dec.{ltb}
 use lib.ListN.{length}
+use Rattle.layout.specs.Bytes.{Bytes}
 use Rattle.layout.specs.Answer.{Res, ok, refuse, bind}
 use Rattle.layout.specs.Key.{Key, below, same}
 use Rattle.layout.specs.RowRead.{readKey, keyOf, joined}
@@ -40,16 +41,16 @@ unfoldable pub search : (ℕ → Res Bool) → ℕ → ℕ → Res Found
 search isBelow low high = searchIn (high - low) isBelow low high
 
 -- a restart's key is read alone; using it tests 15 for its offset and the next
-unfoldable pub restartKey : List ℕ → Trailer → ℕ → Res Key
+unfoldable pub restartKey : Bytes → Trailer → ℕ → Res Key
 restartKey b t i =
     bind (regionOf b t i) λ g.
     bind (readKey (dataOf b t) (g .start) (g .end) 0 true) λ k.
     ok (joined (dataOf b t) [] (k .shared) (k .suffixAt) (k .suffixLen))
 
-unfoldable pub restartBelow : List ℕ → Trailer → Key → ℕ → Res Bool
+unfoldable pub restartBelow : Bytes → Trailer → Key → ℕ → Res Bool
 restartBelow b t target i = bind (restartKey b t i) λ k. ok (below k target)
 
-unfoldable pub searchRestarts : List ℕ → Trailer → Key → Res Found
+unfoldable pub searchRestarts : Bytes → Trailer → Key → Res Found
 searchRestarts b t target = search (restartBelow b t target) 0 (t .count)
 
 -- ---- ascending: start one restart earlier (not below 0) and walk to the first row at or above the target, else "done"
@@ -62,7 +63,7 @@ pub record Stop : Type 0 where
 abbrev pub stopIs : ℕ → Key → Stop
 stopIs at before = record { at = at; before = before }
 
-unfoldable pub walkRegion : ℕ → List ℕ → Region → Key → ℕ → Key → Res Stop
+unfoldable pub walkRegion : ℕ → Bytes → Region → Key → ℕ → Key → Res Stop
 walkRegion zero d g target at before = ok (stopIs at before)
 walkRegion (suc left) d g target at before =
     cond (ltb at (g .end))
@@ -76,7 +77,7 @@ abbrev pub doneUp : Trailer → Cursor
 doneUp t = cursorIs ascending (t .count - 1) (t .size) [] true
 
 -- over `left` regions; past the last one there is no row
-unfoldable pub walkUp : ℕ → List ℕ → Trailer → Key → ℕ → Res Cursor
+unfoldable pub walkUp : ℕ → Bytes → Trailer → Key → ℕ → Res Cursor
 walkUp zero b t target region = ok (doneUp t)
 walkUp (suc left) b t target region =
     bind (regionOf b t region) λ g.
@@ -84,13 +85,13 @@ walkUp (suc left) b t target region =
     cond (ltb (s .at) (g .end)) (ok (cursorIs ascending region (s .at) (s .before) false))
     (walkUp left b t target (suc region))
 
-unfoldable pub seekUp : List ℕ → Trailer → Key → ℕ → Res Cursor
+unfoldable pub seekUp : Bytes → Trailer → Key → ℕ → Res Cursor
 seekUp b t target place = walkUp (t .count - (place - 1)) b t target (place - 1)
 
 -- ---- descending: start at the last of the run of restarts equal to the target, if the one found is equal; otherwise one earlier (not below 0)
 
 -- as many steps as there are restarts are enough (`lastEqual-enough`)
-unfoldable pub lastEqual : ℕ → List ℕ → Trailer → Key → ℕ → Res ℕ
+unfoldable pub lastEqual : ℕ → Bytes → Trailer → Key → ℕ → Res ℕ
 lastEqual zero b t target i = ok i
 lastEqual (suc left) b t target i =
     cond (ltb (i + 1) (t .count))
@@ -98,7 +99,7 @@ lastEqual (suc left) b t target i =
     cond (same k target) (lastEqual left b t target (i + 1)) (ok i))
     (ok i)
 
-unfoldable pub startDown : List ℕ → Trailer → Key → ℕ → Res ℕ
+unfoldable pub startDown : Bytes → Trailer → Key → ℕ → Res ℕ
 startDown b t target place =
     cond (ltb place (t .count))
     (bind (restartKey b t place) λ k.
@@ -106,7 +107,7 @@ startDown b t target place =
     (ok (place - 1))
 
 -- read that whole region: where its last row at or below the target ends, or `best`; as many steps as there are bytes are enough (`lastAtOrBelow-enough`)
-unfoldable pub lastAtOrBelow : ℕ → List ℕ → Region → Key → ℕ → Key → ℕ → Res ℕ
+unfoldable pub lastAtOrBelow : ℕ → Bytes → Region → Key → ℕ → Key → ℕ → Res ℕ
 lastAtOrBelow zero d g target at before best = ok best
 lastAtOrBelow (suc left) d g target at before best =
     cond (ltb at (g .end))
@@ -119,7 +120,7 @@ abbrev pub doneDown : Cursor
 doneDown = cursorIs descending 0 0 [] true
 
 -- over `left` regions; before region 0 there is no row
-unfoldable pub walkDown : ℕ → List ℕ → Trailer → Key → ℕ → Res Cursor
+unfoldable pub walkDown : ℕ → Bytes → Trailer → Key → ℕ → Res Cursor
 walkDown zero b t target region = ok doneDown
 walkDown (suc left) b t target region =
     bind (regionOf b t region) λ g.
@@ -127,7 +128,7 @@ walkDown (suc left) b t target region =
     cond (ltb (g .start) best) (ok (cursorIs descending region best [] false))
     (walkDown left b t target (region - 1))
 
-unfoldable pub seekDown : List ℕ → Trailer → Key → ℕ → Res Cursor
+unfoldable pub seekDown : Bytes → Trailer → Key → ℕ → Res Cursor
 seekDown b t target place = bind (startDown b t target place) λ region. walkDown (suc region) b t target region
 
 -- ---- a seek takes only the direction from the cursor, and reports how many restart keys the search read; it says "done" by its cursor's mark
@@ -139,11 +140,11 @@ pub record Sought : Type 0 where
 abbrev pub soughtIs : Cursor → ℕ → Sought
 soughtIs c n = record { cursor = c; reads = n }
 
-abbrev pub seekAlong : Direction → List ℕ → Trailer → Key → ℕ → Res Cursor
+abbrev pub seekAlong : Direction → Bytes → Trailer → Key → ℕ → Res Cursor
 seekAlong ascending b t target place = seekUp b t target place
 seekAlong descending b t target place = seekDown b t target place
 
-unfoldable pub seek : Direction → List ℕ → Key → Res Sought
+unfoldable pub seek : Direction → Bytes → Key → Res Sought
 seek d b target =
     bind (trailerOf b) λ t.
     bind (searchRestarts b t target) λ f.

@@ -1,18 +1,18 @@
 -- A block as it is read: its trailer (14), its offsets (15) and its restart regions.
 use Prim.Native.Nat.{ℕ, zero, suc, _+_, _-_, _*_}
 use mathlib.Core.Bool.{cond}
-use mathlib.Core.List.{List}
 use lib.Dec.{ltb, leb, eqb}
 use lib.ListN.{length, take, drop}
+use Rattle.layout.specs.Bytes.{Bytes}
 use Rattle.layout.specs.Answer.{Res, ok, _when_else_}
 use Rattle.layout.specs.Fixed.{unbig}
 use Rattle.layout.specs.RowRead.{RowRead, readRow}
 
 -- two bytes, high byte first
-unfoldable pub shortAt : List ℕ → ℕ → ℕ
+unfoldable pub shortAt : Bytes → ℕ → ℕ
 shortAt b at = unbig (take 2 (drop at b))
 
-abbrev pub countOf : List ℕ → ℕ
+abbrev pub countOf : Bytes → ℕ
 countOf b = shortAt b (length b - 2)
 
 -- how many restarts there are, and how many bytes of rows
@@ -24,7 +24,7 @@ abbrev pub trailerIs : ℕ → ℕ → Trailer
 trailerIs n d = record { count = n; size = d }
 
 -- block under 2 bytes, count 0, or trailer longer than the block: 14
-unfoldable pub trailerOf : List ℕ → Res Trailer
+unfoldable pub trailerOf : Bytes → Res Trailer
 trailerOf b =
     14 when ltb (length b) 2 else
     14 when eqb (countOf b) 0 else
@@ -32,22 +32,22 @@ trailerOf b =
     ok (trailerIs (countOf b) (length b - (2 + 2 * countOf b)))
 
 -- the rows' bytes
-abbrev pub dataOf : List ℕ → Trailer → List ℕ
+abbrev pub dataOf : Bytes → Trailer → Bytes
 dataOf b t = take (t .size) b
 
-abbrev pub offsetAt : List ℕ → Trailer → ℕ → ℕ
+abbrev pub offsetAt : Bytes → Trailer → ℕ → ℕ
 offsetAt b t r = shortAt b (t .size + 2 * r)
 
 -- ---- all of 15: the first is 0, each is above the one before, each is below the data length
 
-unfoldable pub risingFrom : ℕ → List ℕ → Trailer → ℕ → ℕ → Res (Unit {0})
+unfoldable pub risingFrom : ℕ → Bytes → Trailer → ℕ → ℕ → Res (Unit {0})
 risingFrom zero b t r low = ok tt
 risingFrom (suc left) b t r low =
     15 when ltb (offsetAt b t r) low else
     15 when leb (t .size) (offsetAt b t r) else
     risingFrom left b t (suc r) (suc (offsetAt b t r))
 
-unfoldable pub allOffsets : List ℕ → Trailer → Res (Unit {0})
+unfoldable pub allOffsets : Bytes → Trailer → Res (Unit {0})
 allOffsets b t =
     15 when ltb 0 (offsetAt b t 0) else
     risingFrom (t .count) b t 0 0
@@ -67,7 +67,7 @@ regionIs s e r = record { start = s; end = e; reach = r }
 abbrev pub firstOf : ℕ → ℕ → ℕ
 firstOf r offset = cond (eqb r 0) offset 0
 
-unfoldable pub regionOf : List ℕ → Trailer → ℕ → Res Region
+unfoldable pub regionOf : Bytes → Trailer → ℕ → Res Region
 regionOf b t r =
     15 when ltb 0 (firstOf r (offsetAt b t r)) else
     15 when leb (t .size) (offsetAt b t r) else
@@ -78,5 +78,5 @@ regionOf b t r =
     (ok (regionIs (offsetAt b t r) (t .size) (t .size)))
 
 -- the next row of a region, after a key of `prevLen` bytes: at the region's start it is a restart
-abbrev pub rowIn : List ℕ → Region → ℕ → ℕ → Res RowRead
+abbrev pub rowIn : Bytes → Region → ℕ → ℕ → Res RowRead
 rowIn d g at prevLen = readRow d at (g .end) prevLen (eqb at (g .start))
