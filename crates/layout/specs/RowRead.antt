@@ -1,4 +1,4 @@
--- "A row on the wire", as it is read: the order of tests is 01's. A read gives places; key and content stand at them.
+-- "A row on the wire", as it is read: the order of tests is the order in the rules. A read gives places; key and content stand at them.
 use Prim.Native.Nat.{ℕ, _+_, _/_, _%_}
 use mathlib.Core.Bool.{Bool, true, false, cond, _&&_}
 use mathlib.Core.List.{[], _++_}

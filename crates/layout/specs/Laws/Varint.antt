@@ -178,7 +178,7 @@ pub varint-few : (v : ℕ) → (1 ≤ length (varint v)) × (length (varint v) �
 unfolding varint
 varint-few v = varintIn-few 4 v
 
--- the bytes written are as many as 01's rule says
+-- the bytes written are as many as the rule of significant bits says
 pub length-varint : (v : ℕ) → v < 2 ^ 32 → length (varint v) ≡ varintLength v
 unfolding varintLength
 length-varint v h = ⊎-elim (λ t. rw (t .0, t .1) zero-takes-one) (λ t. rw (t .0) (varint-bits v (omega (arith, t .1)) h)) (eqb-cases v 0)
