@@ -18,8 +18,8 @@ plain-trailer-settled b r q m n = trailerFrom-one r q (m ∙ sym n)
 pub trailer-of-settled : (b : List ℕ) (r q : TrailerRead) → ReadsTrailer b r → ReadsTrailer b q → r ≡ q
 trailer-of-settled b r q m n = saysTrailer-one r q (m ∙ sym n)
 
-pub belongs-to-settled : (t : Trailer) (len : ℕ) (r q : Bool) → TestsTrailer t len r → TestsTrailer t len q → r ≡ q
-belongs-to-settled t len r q m n = m ∙ sym n
+pub has-region-settled : (t : Trailer) (len i : ℕ) (r q : Bool) → TestsTrailer t len i r → TestsTrailer t len i q → r ≡ q
+has-region-settled t len i r q m n = m ∙ sym n
 
 pub trailer-refusal-settled : (a : TrailerRead) (r q : Refusal) → TrailerRefusal a r → TrailerRefusal a q → r ≡ q
 trailer-refusal-settled a r q m n = m ∙ sym n
