@@ -8,7 +8,7 @@ ghost use lib.ListN.{length};
 ghost use Rattle.layout.specs.Trailer.{shortAt, firstOf, regionOf, allOffsets};
 ghost use Rattle.trailer.specs.Plain.{noTrailer, noRegion, regionOr};
 ghost use Rattle.trailer.specs.Says.{trailerFrom, regionFrom, saysTested};
-ghost use Rattle.trailer.specs.Promise.{PlainTrailer, ReadsTrailer, TestsTrailer, TrailerRefusal, PlainRegion, PlainRegionAt, ReadsRegion, RegionRefusal, TestsOffsets};
+ghost use Rattle.trailer.specs.Promise.{PlainTrailer, ReadsTrailer, TestsTrailer, TrailerRefusal, PlainRegionAt, ReadsRegion, RegionRefusal, TestsOffsets};
 use basics::Refusal;
 
 // How many restarts there are, and how many bytes of rows.
@@ -154,17 +154,7 @@ fn region_in(block: &[u8], t: Trailer, r: usize) -> Region
     }
 }
 
-// Region `r` as numbers: all 0 where `region_of` refuses. A good one ends past 0.
-pub fn plain_region(block: &[u8], t: Trailer, r: usize) -> Region
-    ensures { λ g. ⌜ PlainRegion (now (block .entry)) t r g ⌝ }
-{
-    if !has_region(t, block.len(), r) {
-        return no_region();
-    }
-    region_in(block, t, r)
-}
-
-// The trailer read and region `r` of it, as numbers: all 0 where either is refused.
+// The trailer read and region `r` of it, as numbers: all 0 where either is refused. A good one ends past 0.
 pub fn plain_region_at(block: &[u8], r: usize) -> Region
     ensures { λ g. ⌜ PlainRegionAt (now (block .entry)) r g ⌝ }
 {
