@@ -93,8 +93,8 @@ pub fn trailer_of(block: &[u8]) -> TrailerRead
     TrailerRead::Refused(Refusal::BadTrailer)
 }
 
-// Whether these numbers are those of a block of `len` bytes, with a region `r`. They may be any, so no sum is made of them that may
-// wrap.
+// Whether these numbers are those of a block of `len` bytes with a region `r`. They may be any, so no sum is made of them that
+// may wrap.
 pub fn has_region(t: Trailer, len: usize, r: usize) -> bool
     ensures { λ h. ⌜ TestsTrailer t len r h ⌝ }
 {

@@ -1,4 +1,4 @@
--- `has_region` keeps its promise: the definition's test of a sum, made with no sum that may wrap.
+-- `has_region` keeps its promise: the definition's tests of the region's number and of a sum, made with no sum that may wrap.
 -- A block too short for the count, or for the restarts, can't be the sum; otherwise both tests ask whether the same two numbers are equal.
 use Prim.Native.Nat.{ℕ, _+_, _-_, _*_, _/_, _≤_, _<_}
 use mathlib.Core.Path.{_≡_, refl, sym}
@@ -8,10 +8,10 @@ use native.Mathlib.Omega.{arith}
 use lib.Dec.{ltb, leb, eqb}
 use borrow.Author.Needs.{needs}
 use borrow.Author.Tests.{lt-ltb, le-ltb, lt-leb, ltb-false, leb-false, eq-eqb, ne-eqb}
+use Rattle.layout.specs.Trailer.{trailerIs}
 use Rattle.layout.specs.Laws.Answer.{ltb-cases, eqb-cases, clash}
 use Rattle.layout.specs.Laws.Plain.{or-false}
 use Rattle.trailer.specs.Handed.{hasRegion}
-use Rattle.layout.specs.Trailer.{trailerIs}
 use Rattle.trailer.proofs.has_region.Statement.{statement}
 use Rattle.trailer.proofs.has_region.Tie as tie
 
