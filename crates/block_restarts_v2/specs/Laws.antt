@@ -1,31 +1,29 @@
 -- Each way through a search by what was met on it, one law for each exit of the code. For callers: the region answered is below the count (`up-inside`,
--- `down-inside`); a trailer that was read from the block passes the tests, so the definitions of `layout` are left (`up-used`, `down-used`), and a seek is the
+-- `down-inside`); a trailer that was read from the block passes the test, so the definitions of `layout` are left (`up-used`, `down-used`), and a seek is the
 -- start and the walk from there (`seek-up-no`, `seek-up`, `seek-down-no`, `seek-down`).
 use Prim.Native.Nat.{ℕ, suc, _+_, _-_, _*_, _/_, _≤_, _<_}
 use mathlib.Core.Path.{_≡_, refl, ap, sym, _∙_}
-use mathlib.Core.Bool.{Bool, true, false, not}
+use mathlib.Core.Bool.{Bool, true, false}
 use mathlib.Core.List.{List}
 use native.Mathlib.Omega.{arith}
-use lib.Dec.{eqb}
 use lib.ListN.{length, take, drop}
 use lib.Seq.{take-nil, length-take-le}
-use borrow.Author.Tests.{eq-eqb, ne-eqb, eqb-false}
-use Rattle.layout.specs.Answer.{Res, ok, refuse, bind, guard}
+use Rattle.layout.specs.Answer.{Res, ok, refuse, bind}
 use Rattle.layout.specs.Key.{Key, same, compare, Ordering}
 use Rattle.layout.specs.RowRead.{KeyRead, readKey}
 use Rattle.layout.specs.Trailer.{Trailer, trailerOf, dataOf, Region, regionOf}
 use Rattle.layout.specs.Cursor.{Direction, ascending, descending, Cursor}
 use Rattle.layout.specs.Seek.{Found, middle, restartKey, restartBelow, searchRestarts, lastEqual, startDown, walkUp, walkDown, soughtIs, seekAlong, seek}
-use Rattle.layout.specs.Laws.Answer.{bind-then, guard-ok, ok-inj}
+use Rattle.layout.specs.Laws.Answer.{bind-then, ok-inj}
 use Rattle.layout.specs.Laws.Trailer.{trailerOf-tells}
 use Rattle.layout.specs.Laws.Seek.{restart-region, restart-no, restart-is, below-no, below-is, searchFrom, search-whole, from-no, from-up, from-down, Running, running-over, running-no, running-ends, running-more, start-past, start-no, start-earlier, start-run, up-from, down-no as fall-no, down-from, seek-search, seek-no, seek-is}
 use Rattle.layout.specs.Laws.Compare.{isLess, isEqual, compare-less-below, compare-equal-same}
 use Rattle.layout.specs.Laws.Restart.{readKey-ends, middle-is, search-inside, start-inside}
 use Rattle.basics.specs.Answers.{apart}
-use Rattle.trailer.specs.Handed.{belongs, regionAt}
-use Rattle.trailer.specs.Laws.{belongs-is, region-there}
+use Rattle.trailer.specs.Handed.{regionAt}
+use Rattle.trailer.specs.Laws.{handed-known, handed-tells}
 use Rattle.block_restarts_v2.specs.declared.Start.{Start}
-use Rattle.block_restarts_v2.specs.Handed.{startIs, handed, searchAt, startUpAt, startDownAt}
+use Rattle.block_restarts_v2.specs.Handed.{startIs, searchAt, startUpAt, startDownAt}
 use Rattle.block_restarts_v2.specs.Reading.{restartCompared, startAfter, runFrom}
 
 -- ---- a restart's key
@@ -38,7 +36,7 @@ key-lies b t at end k s e = omega (arith, readKey-ends (dataOf b t) at end 0 tru
 module _ (b : List ℕ) (t : Trailer) (i : ℕ) where
   -- the trailer is the block's, so a region is as the rules say
   pub region-in : {x : Res Region} → t .size + (2 + 2 * t .count) ≡ length b → i < t .count → x ≡ regionAt b t i → x ≡ regionOf b t i
-  region-in s h e = e ∙ region-there b t i (rw (eq-eqb (t .size + (2 + 2 * t .count)) (length b) s)) h
+  region-in s h e = e ∙ handed-known b t i _ (s, h)
 
   module _ (target : Key) where
     pub compared-region : {n : ℕ} → regionOf b t i ≡ refuse n → refuse n ≡ restartCompared b t target i
@@ -119,155 +117,116 @@ module _ (b : List ℕ) (t : Trailer) (target : Key) (reads first : ℕ) where
         pub run-more : isEqual o ≡ true → Running b t target first (i + 1)
         run-more w = key-same b t (i + 1) target e w λ k p q. running-more b t target first i s h k p q
 
--- ---- the tests of the trailer
+-- ---- from the search to the start
 
-some-count : {n : ℕ} → (n ≡ 0 → ⊥) → 1 ≤ n
-some-count {n} h = omega (arith, h)
+below-count : {n place r : ℕ} → 0 < n → place ≤ n → place - 1 ≡ r → r < n
+below-count h k e = omega arith
 
-below-count : {n place r : ℕ} → (n ≡ 0 → ⊥) → place ≤ n → place - 1 ≡ r → r < n
-below-count h k e = omega (arith, h)
+module _ (b : List ℕ) (t : Trailer) (target : Key) where
+  pub search-there : {x : Res Found} → (t .size + (2 + 2 * t .count) ≡ length b) × (0 < t .count) → x ≡ searchFrom b t target 0 (t .count) 0 → x ≡ searchAt b t target
+  search-there k e = search-whole b t target e ∙ sym (handed-known b t 0 _ k)
 
-module _ (b : List ℕ) (t : Trailer) where
-  there : {A : Type 0} {x : Res A} → t .size + (2 + 2 * t .count) ≡ length b → (t .count ≡ 0 → ⊥) → handed b t x ≡ x
-  there s n = rw (eq-eqb (t .size + (2 + 2 * t .count)) (length b) s, ne-eqb (t .count) 0 n)
+  -- ---- ascending, and descending by what the restart found was
 
-  passed : {A : Type 0} (x : Res A) (a : A) → handed b t x ≡ ok a → (t .size + (2 + 2 * t .count) ≡ length b) × (t .count ≡ 0 → ⊥) × (x ≡ ok a)
-  passed x a e =
-      let p = guard-ok (not (belongs (length b) t)) 14 _ a e in
-      let q = guard-ok (eqb (t .count) 0) 14 _ a (p .1) in
-      (belongs-is (length b) t (p .0), eqb-false (t .count) 0 (q .0), q .1)
-
-  -- a refusal is handed on, and what passed goes on
-  went-no : {A B : Type 0} (x : Res A) (f : A → Res B) {n : ℕ} → handed b t x ≡ refuse n → refuse n ≡ handed b t (bind x f)
-  went-no {A} {B} x f {n} e = go (not (belongs (length b) t)) (eqb (t .count) 0) x e
-    where
-      go : (p q : Bool) (x : Res A) → guard p 14 (guard q 14 x) ≡ refuse n → refuse n ≡ guard p 14 (guard q 14 (bind x f))
-      go true q x e = let w : 14 ≡ n = cc in ap refuse (sym w)
-      go false true x e = let w : 14 ≡ n = cc in ap refuse (sym w)
-      go false false x e = rw e
-
-  went-on : {A B : Type 0} (x : Res A) (f : A → Res B) {a : A} → handed b t x ≡ ok a → f a ≡ handed b t (bind x f)
-  went-on x f {a} e = let p = passed x a e in sym (there (p .0) (p .1) ∙ (rw (p .2)))
-
-  module _ (target : Key) where
-    pub search-none : t .count ≡ 0 → refuse 14 ≡ searchAt b t target
-    unfolding searchAt
-    search-none e = rw (eq-eqb (t .count) 0 e) (either (not (belongs (length b) t)))
-      where
-        either : (p : Bool) → _≡_ {A = Res Found} (refuse 14) (guard p 14 (refuse 14))
-        either true = refl
-        either false = refl
-
-    pub search-strange : not (belongs (length b) t) ≡ true → refuse 14 ≡ searchAt b t target
-    unfolding searchAt
-    search-strange e = rw e
-
-    pub search-there : {x : Res Found} → t .size + (2 + 2 * t .count) ≡ length b → (t .count ≡ 0 → ⊥) → x ≡ searchFrom b t target 0 (t .count) 0 → x ≡ searchAt b t target
-    unfolding searchAt
-    search-there s n e = search-whole b t target e ∙ sym (there s n)
-
-    -- ---- ascending, and descending by what the restart found was
-
-    module _ {n : ℕ} (e : searchAt b t target ≡ refuse n) where
-      pub up-no : refuse n ≡ startUpAt b t target
-      unfolding searchAt startUpAt
-      up-no = went-no (searchRestarts b t target) _ e
-
-      pub down-no : refuse n ≡ startDownAt b t target
-      unfolding searchAt startDownAt
-      down-no = went-no (searchRestarts b t target) _ e
-
-    module _ (f : Found) (e : searchAt b t target ≡ ok f) where
-      pub up-is : {r : ℕ} → r ≡ f .place - 1 → ok (startIs r (f .reads)) ≡ startUpAt b t target
-      unfolding searchAt startUpAt
-      up-is q = rw q (went-on (searchRestarts b t target) _ e)
-
-      -- what the search's tests showed
-      pub searched : t .size + (2 + 2 * t .count) ≡ length b
-      unfolding searchAt
-      searched = passed (searchRestarts b t target) f e .0
-
-      down-is : {x : Res Start} (y : Res ℕ) → x ≡ bind y (startAfter (f .reads)) → y ≡ startDown b t target (f .place) → x ≡ startDownAt b t target
-      unfolding searchAt startDownAt
-      down-is y q w = q ∙ ap (λ (z : Res ℕ). bind z (startAfter (f .reads))) w ∙ went-on (searchRestarts b t target) _ e
-
-      pub down-past : {r : ℕ} → t .count ≤ f .place → r ≡ f .place - 1 → ok (startIs r (f .reads)) ≡ startDownAt b t target
-      down-past {r} h q = down-is (ok r) refl (ap ok q ∙ start-past b t target (f .place) h)
-
-      module _ (h : f .place < t .count) where
-        pub down-refused : {n : ℕ} → restartCompared b t target (f .place) ≡ refuse n → refuse n ≡ startDownAt b t target
-        down-refused {n} q = down-is (refuse n) refl (start-no b t target (f .place) h (key-refused b t (f .place) target q))
-
-        module _ {o : Ordering} (q : restartCompared b t target (f .place) ≡ ok o) where
-          pub down-earlier : {r : ℕ} → isEqual o ≡ false → r ≡ f .place - 1 → ok (startIs r (f .reads)) ≡ startDownAt b t target
-          down-earlier {r} w u = key-same b t (f .place) target q w λ k p v. down-is (ok r) refl (ap ok u ∙ start-earlier b t target (f .place) h k p v)
-
-          pub down-run : {x : Res Start} → isEqual o ≡ true → x ≡ runFrom b t target (f .place) (f .reads) → x ≡ startDownAt b t target
-          unfolding runFrom
-          down-run w r =
-              key-same b t (f .place) target q w λ k p v.
-              down-is (lastEqual (t .count) b t target (f .place)) r (start-run b t target (f .place) h k p v refl)
-
-    -- ---- for callers
-
-    pub up-inside : (s : Start) → startUpAt b t target ≡ ok s → s .region < t .count
+  module _ {n : ℕ} (e : searchAt b t target ≡ refuse n) where
+    pub up-no : refuse n ≡ startUpAt b t target
     unfolding startUpAt
-    up-inside s e =
-        let p = passed (bind (searchRestarts b t target) λ f. ok (startIs (f .place - 1) (f .reads))) s e in
-        bind-then (searchRestarts b t target) _ s (p .2) λ f q w.
-        let r = ap (λ (x : Start). x .region) (ok-inj w) in
-        below-count (p .1) (search-inside b t target f q) r
+    up-no = rw e
 
-    pub down-inside : (s : Start) → startDownAt b t target ≡ ok s → s .region < t .count
+    pub down-no : refuse n ≡ startDownAt b t target
     unfolding startDownAt
-    down-inside s e =
-        let p = passed (bind (searchRestarts b t target) λ f. bind (startDown b t target (f .place)) λ r. ok (startIs r (f .reads))) s e in
-        bind-then (searchRestarts b t target) _ s (p .2) λ f q w.
-        bind-then (startDown b t target (f .place)) _ s w λ r u v.
-        rw (← ok-inj v) (start-inside b t target (f .place) r u (search-inside b t target f q) (some-count (p .1)))
+    down-no = rw e
 
-    module _ (read : trailerOf b ≡ ok t) where
-      some : t .count ≡ 0 → ⊥
-      some e = let r = trailerOf-tells b t read .1 in omega arith
+  module _ (f : Found) (e : searchAt b t target ≡ ok f) where
+    pub up-is : {r : ℕ} → r ≡ f .place - 1 → ok (startIs r (f .reads)) ≡ startUpAt b t target
+    unfolding startUpAt
+    up-is q = rw (e, q)
 
-      pub up-used : startUpAt b t target ≡ bind (searchRestarts b t target) λ f. ok (startIs (f .place - 1) (f .reads))
-      unfolding startUpAt
-      up-used = there (trailerOf-tells b t read .0) some
+    -- what the search's test showed
+    pub searched : t .size + (2 + 2 * t .count) ≡ length b
+    searched = handed-tells b t 0 (searchRestarts b t target) f e .0
 
-      pub down-used : startDownAt b t target ≡ bind (searchRestarts b t target) λ f. bind (startDown b t target (f .place)) λ r. ok (startIs r (f .reads))
-      unfolding startDownAt
-      down-used = there (trailerOf-tells b t read .0) some
+    down-is : {x : Res Start} (y : Res ℕ) → x ≡ bind y (startAfter (f .reads)) → y ≡ startDown b t target (f .place) → x ≡ startDownAt b t target
+    unfolding startDownAt
+    down-is y q w = q ∙ ap (λ (z : Res ℕ). bind z (startAfter (f .reads))) w ∙ (rw e)
 
-      -- where the start is refused, so is the seek; else the seek is the walk from there, with the count
-      pub seek-up-no : {n : ℕ} → startUpAt b t target ≡ refuse n → seek ascending b target ≡ refuse n
-      seek-up-no {n} e = go (searchRestarts b t target) refl (sym up-used ∙ e)
-        where
-          go : (x : Res Found) → searchRestarts b t target ≡ x → bind x (λ f. ok (startIs (f .place - 1) (f .reads))) ≡ refuse n → seek ascending b target ≡ refuse n
-          go (ok f) p q = absurd (apart q)
-          go (refuse m) p q = seek-search ascending b target t read p ∙ (let w : m ≡ n = cc in ap refuse w)
+    pub down-past : {r : ℕ} → t .count ≤ f .place → r ≡ f .place - 1 → ok (startIs r (f .reads)) ≡ startDownAt b t target
+    down-past {r} h q = down-is (ok r) refl (ap ok q ∙ start-past b t target (f .place) h)
 
-      pub seek-down-no : {n : ℕ} → startDownAt b t target ≡ refuse n → seek descending b target ≡ refuse n
-      seek-down-no {n} e = go (searchRestarts b t target) refl (sym down-used ∙ e)
-        where
-          run : (f : Found) → searchRestarts b t target ≡ ok f → (x : Res ℕ) → startDown b t target (f .place) ≡ x → bind x (λ r. ok (startIs r (f .reads))) ≡ refuse n → seek descending b target ≡ refuse n
-          run f p (ok r) u q = absurd (apart q)
-          run f p (refuse m) u q = seek-no descending b target t read f p (sym (fall-no b t target (f .place) u)) ∙ (let w : m ≡ n = cc in ap refuse w)
+    module _ (h : f .place < t .count) where
+      pub down-refused : {n : ℕ} → restartCompared b t target (f .place) ≡ refuse n → refuse n ≡ startDownAt b t target
+      down-refused {n} q = down-is (refuse n) refl (start-no b t target (f .place) h (key-refused b t (f .place) target q))
 
-          go : (x : Res Found) → searchRestarts b t target ≡ x → bind x (λ f. bind (startDown b t target (f .place)) λ r. ok (startIs r (f .reads))) ≡ refuse n → seek descending b target ≡ refuse n
-          go (ok f) p q = run f p (startDown b t target (f .place)) refl q
-          go (refuse m) p q = seek-search descending b target t read p ∙ (let w : m ≡ n = cc in ap refuse w)
+      module _ {o : Ordering} (q : restartCompared b t target (f .place) ≡ ok o) where
+        pub down-earlier : {r : ℕ} → isEqual o ≡ false → r ≡ f .place - 1 → ok (startIs r (f .reads)) ≡ startDownAt b t target
+        down-earlier {r} w u = key-same b t (f .place) target q w λ k p v. down-is (ok r) refl (ap ok u ∙ start-earlier b t target (f .place) h k p v)
 
-      along : (d : Direction) (f : Found) → searchRestarts b t target ≡ ok f → (x : Res Cursor) → x ≡ seekAlong d b t target (f .place) → seek d b target ≡ bind x λ c. ok (soughtIs c (f .reads))
-      along d f p (ok c) e = seek-is d b target t read f p c (sym e)
-      along d f p (refuse n) e = seek-no d b target t read f p (sym e)
+        pub down-run : {x : Res Start} → isEqual o ≡ true → x ≡ runFrom b t target (f .place) (f .reads) → x ≡ startDownAt b t target
+        unfolding runFrom
+        down-run w r =
+            key-same b t (f .place) target q w λ k p v.
+            down-is (lastEqual (t .count) b t target (f .place)) r (start-run b t target (f .place) h k p v refl)
 
-      pub seek-up : (s : Start) → startUpAt b t target ≡ ok s → (x : Res Cursor) → x ≡ walkUp (t .count - s .region) b t target (s .region) → seek ascending b target ≡ bind x λ c. ok (soughtIs c (s .reads))
-      seek-up s e x =
-          bind-then (searchRestarts b t target) _ s (sym up-used ∙ e) λ f p q.
-          rw (← ok-inj q) (λ w. along ascending f p x (up-from b t target (f .place) w))
+  -- ---- for callers
 
-      pub seek-down : (s : Start) → startDownAt b t target ≡ ok s → (x : Res Cursor) → x ≡ walkDown (suc (s .region)) b t target (s .region) → seek descending b target ≡ bind x λ c. ok (soughtIs c (s .reads))
-      seek-down s e x =
-          bind-then (searchRestarts b t target) _ s (sym down-used ∙ e) λ f p q.
-          bind-then (startDown b t target (f .place)) _ s q λ r u v.
-          rw (← ok-inj v) (λ w. along descending f p x (down-from b t target (f .place) r u w))
+  pub up-inside : (s : Start) → startUpAt b t target ≡ ok s → s .region < t .count
+  unfolding startUpAt
+  up-inside s e =
+      bind-then (searchAt b t target) _ s e λ f q w.
+      let p = handed-tells b t 0 (searchRestarts b t target) f q in
+      let r = ap (λ (x : Start). x .region) (ok-inj w) in
+      below-count (p .1) (search-inside b t target f (p .2)) r
+
+  pub down-inside : (s : Start) → startDownAt b t target ≡ ok s → s .region < t .count
+  unfolding startDownAt
+  down-inside s e =
+      bind-then (searchAt b t target) _ s e λ f q w.
+      let p = handed-tells b t 0 (searchRestarts b t target) f q in
+      bind-then (startDown b t target (f .place)) _ s w λ r u v.
+      rw (← ok-inj v) (start-inside b t target (f .place) r u (search-inside b t target f (p .2)) (p .1))
+
+  module _ (read : trailerOf b ≡ ok t) where
+    search-used : searchAt b t target ≡ searchRestarts b t target
+    search-used = handed-known b t 0 _ (trailerOf-tells b t read)
+
+    pub up-used : startUpAt b t target ≡ bind (searchRestarts b t target) λ f. ok (startIs (f .place - 1) (f .reads))
+    unfolding startUpAt
+    up-used = rw search-used
+
+    pub down-used : startDownAt b t target ≡ bind (searchRestarts b t target) λ f. bind (startDown b t target (f .place)) λ r. ok (startIs r (f .reads))
+    unfolding startDownAt
+    down-used = rw search-used
+
+    -- where the start is refused, so is the seek; else the seek is the walk from there, with the count
+    pub seek-up-no : {n : ℕ} → startUpAt b t target ≡ refuse n → seek ascending b target ≡ refuse n
+    seek-up-no {n} e = go (searchRestarts b t target) refl (sym up-used ∙ e)
+      where
+        go : (x : Res Found) → searchRestarts b t target ≡ x → bind x (λ f. ok (startIs (f .place - 1) (f .reads))) ≡ refuse n → seek ascending b target ≡ refuse n
+        go (ok f) p q = absurd (apart q)
+        go (refuse m) p q = seek-search ascending b target t read p ∙ (let w : m ≡ n = cc in ap refuse w)
+
+    pub seek-down-no : {n : ℕ} → startDownAt b t target ≡ refuse n → seek descending b target ≡ refuse n
+    seek-down-no {n} e = go (searchRestarts b t target) refl (sym down-used ∙ e)
+      where
+        run : (f : Found) → searchRestarts b t target ≡ ok f → (x : Res ℕ) → startDown b t target (f .place) ≡ x → bind x (λ r. ok (startIs r (f .reads))) ≡ refuse n → seek descending b target ≡ refuse n
+        run f p (ok r) u q = absurd (apart q)
+        run f p (refuse m) u q = seek-no descending b target t read f p (sym (fall-no b t target (f .place) u)) ∙ (let w : m ≡ n = cc in ap refuse w)
+
+        go : (x : Res Found) → searchRestarts b t target ≡ x → bind x (λ f. bind (startDown b t target (f .place)) λ r. ok (startIs r (f .reads))) ≡ refuse n → seek descending b target ≡ refuse n
+        go (ok f) p q = run f p (startDown b t target (f .place)) refl q
+        go (refuse m) p q = seek-search descending b target t read p ∙ (let w : m ≡ n = cc in ap refuse w)
+
+    along : (d : Direction) (f : Found) → searchRestarts b t target ≡ ok f → (x : Res Cursor) → x ≡ seekAlong d b t target (f .place) → seek d b target ≡ bind x λ c. ok (soughtIs c (f .reads))
+    along d f p (ok c) e = seek-is d b target t read f p c (sym e)
+    along d f p (refuse n) e = seek-no d b target t read f p (sym e)
+
+    pub seek-up : (s : Start) → startUpAt b t target ≡ ok s → (x : Res Cursor) → x ≡ walkUp (t .count - s .region) b t target (s .region) → seek ascending b target ≡ bind x λ c. ok (soughtIs c (s .reads))
+    seek-up s e x =
+        bind-then (searchRestarts b t target) _ s (sym up-used ∙ e) λ f p q.
+        rw (← ok-inj q) (λ w. along ascending f p x (up-from b t target (f .place) w))
+
+    pub seek-down : (s : Start) → startDownAt b t target ≡ ok s → (x : Res Cursor) → x ≡ walkDown (suc (s .region)) b t target (s .region) → seek descending b target ≡ bind x λ c. ok (soughtIs c (s .reads))
+    seek-down s e x =
+        bind-then (searchRestarts b t target) _ s (sym down-used ∙ e) λ f p q.
+        bind-then (startDown b t target (f .place)) _ s q λ r u v.
+        rw (← ok-inj v) (λ w. along descending f p x (down-from b t target (f .place) r u w))

@@ -1,24 +1,23 @@
--- A trailer and a region's number that a caller hands in: 14 unless the trailer's numbers are the block's, 18 where there is no such region. Then the rules' own tests.
+-- A trailer and a region's number that a caller hands in: 18 unless the trailer's numbers are the block's and it has that region. Then the rules' own tests.
+-- 14 is what a block's bytes answer, and never what these numbers do.
 use Prim.Native.Nat.{ℕ, _+_, _*_}
-use mathlib.Core.Bool.{Bool, not}
+use mathlib.Core.Bool.{Bool, not, _&&_}
 use mathlib.Core.List.{List}
-use lib.Dec.{leb, eqb}
+use lib.Dec.{ltb, eqb}
 use lib.ListN.{length}
 use Rattle.layout.specs.Answer.{Res, guard}
 use Rattle.layout.specs.Trailer.{Trailer, Region, regionOf, allOffsets}
 
--- rows, offsets and count are all of a block of `len` bytes
-abbrev pub belongs : ℕ → Trailer → Bool
-belongs len t = eqb (t .size + (2 + 2 * t .count)) len
+-- rows, offsets and count are all of a block of `len` bytes, and r is below the count
+abbrev pub hasRegion : ℕ → Trailer → ℕ → Bool
+hasRegion len t r = ltb r (t .count) && eqb (t .size + (2 + 2 * t .count)) len
 
-unfoldable pub regionAt : List ℕ → Trailer → ℕ → Res Region
-regionAt b t r =
-    guard (not (belongs (length b) t)) 14
-    (guard (leb (t .count) r) 18
-    (regionOf b t r))
+unfoldable pub handed : {A : Type 0} → List ℕ → Trailer → ℕ → Res A → Res A
+handed b t r x = guard (not (hasRegion (length b) t r)) 18 x
 
-unfoldable pub offsetsAt : List ℕ → Trailer → Res (Unit {0})
-offsetsAt b t =
-    guard (not (belongs (length b) t)) 14
-    (guard (eqb (t .count) 0) 14
-    (allOffsets b t))
+abbrev pub regionAt : List ℕ → Trailer → ℕ → Res Region
+regionAt b t r = handed b t r (regionOf b t r)
+
+-- a block has a region 0, as its trailer counts one at least
+abbrev pub offsetsAt : List ℕ → Trailer → Res (Unit {0})
+offsetsAt b t = handed b t 0 (allOffsets b t)

@@ -1,62 +1,54 @@
--- The two tests of a trailer that is handed in, by what was met: one law for each exit of the code. For callers: a trailer that was read from the
--- block passes them, so the definitions of `layout` are left (`region-used`, `offsets-used`).
+-- The test of a trailer that is handed in, by what was met: one law for each exit of the code. For callers: a trailer that was read from the block passes
+-- it, so the definitions of `layout` are left (`region-used`, `offsets-used`).
 use Prim.Native.Nat.{ℕ, _+_, _*_, _≤_, _<_}
 use mathlib.Core.Path.{_≡_, refl}
-use mathlib.Core.Bool.{Bool, true, false, not}
+use mathlib.Core.Bool.{Bool, true, false, not, _&&_}
 use mathlib.Core.List.{List}
-use native.Mathlib.Omega.{arith}
+use lib.Dec.{ltb, eqb}
 use lib.ListN.{length}
-use borrow.Author.Tests.{le-leb, lt-leb, eq-eqb, ne-eqb, eqb-true}
-use Rattle.layout.specs.Answer.{ok, refuse}
+use borrow.Author.Tests.{not-false, ltb-true, lt-ltb, le-ltb, eqb-true, eq-eqb}
+use Rattle.layout.specs.Answer.{Res, ok, refuse}
 use Rattle.layout.specs.Trailer.{Trailer, trailerOf, regionOf, allOffsets}
+use Rattle.layout.specs.Laws.Answer.{guard-ok}
 use Rattle.layout.specs.Laws.Trailer.{trailerOf-tells}
-use Rattle.trailer.specs.Handed.{belongs, regionAt, offsetsAt}
+use Rattle.trailer.specs.Handed.{hasRegion, handed, regionAt, offsetsAt}
 
-was : (b : Bool) → not b ≡ false → b ≡ true
-was true e = refl
-was false e = cc
+both : (p q : Bool) → (p && q) ≡ true → (p ≡ true) × (q ≡ true)
+both true q e = (refl, e)
+both false q e = (e, cc)
 
 -- what the test tells
-pub belongs-is : (len : ℕ) (t : Trailer) → not (belongs len t) ≡ false → t .size + (2 + 2 * t .count) ≡ len
-belongs-is len t e = eqb-true (t .size + (2 + 2 * t .count)) len (was (belongs len t) e)
+pub has-is : (len : ℕ) (t : Trailer) (r : ℕ) → not (hasRegion len t r) ≡ false → (t .size + (2 + 2 * t .count) ≡ len) × (r < t .count)
+has-is len t r e =
+    let w = both (ltb r (t .count)) (eqb (t .size + (2 + 2 * t .count)) len) (not-false (hasRegion len t r) e) in
+    (eqb-true (t .size + (2 + 2 * t .count)) len (w .1), ltb-true r (t .count) (w .0))
 
-module _ (b : List ℕ) (t : Trailer) where
-  module _ (r : ℕ) where
-    pub region-strange : not (belongs (length b) t) ≡ true → refuse 14 ≡ regionAt b t r
-    unfolding regionAt
-    region-strange e = rw e
+module _ {A : Type 0} (b : List ℕ) (t : Trailer) (r : ℕ) (x : Res A) where
+  pub handed-strange : not (hasRegion (length b) t r) ≡ true → refuse 18 ≡ handed b t r x
+  unfolding handed
+  handed-strange e = rw e
 
-    pub region-beyond : not (belongs (length b) t) ≡ false → t .count ≤ r → refuse 18 ≡ regionAt b t r
-    unfolding regionAt
-    region-beyond e h = rw (e, le-leb (t .count) r h)
+  pub handed-past : t .count ≤ r → refuse 18 ≡ handed b t r x
+  unfolding handed
+  handed-past h = rw (le-ltb r (t .count) h)
 
-    pub region-there : not (belongs (length b) t) ≡ false → r < t .count → regionAt b t r ≡ regionOf b t r
-    unfolding regionAt
-    region-there e h = rw (e, lt-leb (t .count) r h)
+  pub handed-known : (t .size + (2 + 2 * t .count) ≡ length b) × (r < t .count) → handed b t r x ≡ x
+  unfolding handed
+  handed-known k = rw (lt-ltb r (t .count) (k .1), eq-eqb (t .size + (2 + 2 * t .count)) (length b) (k .0))
 
-  pub offsets-strange : not (belongs (length b) t) ≡ true → refuse 14 ≡ offsetsAt b t
-  unfolding offsetsAt
-  offsets-strange e = rw e
+  -- a good answer tells that the test was passed
+  pub handed-tells : (a : A) → handed b t r x ≡ ok a → (t .size + (2 + 2 * t .count) ≡ length b) × (r < t .count) × (x ≡ ok a)
+  unfolding handed
+  handed-tells a e =
+      let p = guard-ok (not (hasRegion (length b) t r)) 18 x a e in
+      let k = has-is (length b) t r (p .0) in
+      (k .0, k .1, p .1)
 
-  pub offsets-absent : not (belongs (length b) t) ≡ false → t .count ≡ 0 → refuse 14 ≡ offsetsAt b t
-  unfolding offsetsAt
-  offsets-absent e h = rw (e, eq-eqb (t .count) 0 h)
+-- ---- for callers
 
-  pub offsets-there : not (belongs (length b) t) ≡ false → (t .count ≡ 0 → ⊥) → offsetsAt b t ≡ allOffsets b t
-  unfolding offsetsAt
-  offsets-there e h = rw (e, ne-eqb (t .count) 0 h)
+module _ (b : List ℕ) (t : Trailer) (read : trailerOf b ≡ ok t) where
+  pub region-used : (r : ℕ) → r < t .count → regionAt b t r ≡ regionOf b t r
+  region-used r h = handed-known b t r _ (trailerOf-tells b t read .0, h)
 
-  -- ---- for callers
-
-  module _ (read : trailerOf b ≡ ok t) where
-    belongs-read : not (belongs (length b) t) ≡ false
-    belongs-read = rw (eq-eqb (t .size + (2 + 2 * t .count)) (length b) (trailerOf-tells b t read .0))
-
-    pub region-used : (r : ℕ) → r < t .count → regionAt b t r ≡ regionOf b t r
-    region-used r h = region-there r belongs-read h
-
-    pub region-past : (r : ℕ) → t .count ≤ r → refuse 18 ≡ regionAt b t r
-    region-past r h = region-beyond r belongs-read h
-
-    pub offsets-used : offsetsAt b t ≡ allOffsets b t
-    offsets-used = offsets-there belongs-read (λ e. absurd (omega (arith, trailerOf-tells b t read)))
+  pub offsets-used : offsetsAt b t ≡ allOffsets b t
+  offsets-used = handed-known b t 0 _ (trailerOf-tells b t read)

@@ -2,7 +2,7 @@
 -- numbers tell; and one law for each exit of the code.
 use Prim.Native.Nat.{ℕ, _+_, _-_, _*_, _≤_, _<_}
 use mathlib.Core.Path.{_≡_, ap, sym, _∙_}
-use mathlib.Core.Bool.{Bool, true, false, cond, not, _||_}
+use mathlib.Core.Bool.{Bool, true, false, cond, _||_}
 use mathlib.Core.List.{List}
 use mathlib.Core.Logic.{⊎-elim}
 use native.Mathlib.Omega.{arith}
@@ -11,11 +11,11 @@ use lib.ListN.{length}
 use borrow.Author.Tests.{le-leb, lt-leb, leb-false, ltb-false, eqb-false}
 use Rattle.layout.specs.Answer.{Res, ok, refuse, bind}
 use Rattle.layout.specs.Trailer.{countOf, Trailer, trailerIs, trailerOf, offsetAt, Region, regionIs, firstOf, regionOf}
-use Rattle.layout.specs.Laws.Answer.{ltb-cases, eqb-cases, bool-cases, clash, bind-then, guard-then}
+use Rattle.layout.specs.Laws.Answer.{ltb-cases, eqb-cases, bool-cases, clash, bind-then}
 use Rattle.layout.specs.Laws.Plain.{or-false}
 use Rattle.layout.specs.Laws.Trailer.{trailer-short, trailer-none, trailer-long, trailer-good, trailerOf-tells, region-first, region-far, region-falls, region-next-far, region-inner, region-last, regionOf-tells}
-use Rattle.trailer.specs.Handed.{belongs, regionAt}
-use Rattle.trailer.specs.Laws.{belongs-is, region-strange, region-beyond, region-there, region-used, region-past}
+use Rattle.trailer.specs.Handed.{regionAt}
+use Rattle.trailer.specs.Laws.{handed-past, handed-tells, region-used}
 
 abbrev pub noTrailer : Trailer
 noTrailer = trailerIs 0 0
@@ -166,33 +166,14 @@ module _ (b : List ℕ) (t : Trailer) (r : ℕ) where
       absurd (omega (arith, w .rises)))
       (bool-cases badRegion)
 
-  -- numbers that are not the block's, or no such region
-  pub region-odd : (not (belongs (length b) t) || leb (t .count) r) ≡ true → noRegion ≡ regionOr (regionAt b t r)
-  region-odd e =
-      ⊎-elim (λ x. ap regionOr (region-strange b t r x))
-      (λ x. ⊎-elim (λ y. absurd (clash e (neither x (lt-leb (t .count) r (y .1))))) (λ y. ap regionOr (region-beyond b t r x (y .1))) (ltb-cases r (t .count)))
-      (bool-cases (not (belongs (length b) t)))
-
-  -- else the trailer is the block's, and the region is there
-  module _ (e : (not (belongs (length b) t) || leb (t .count) r) ≡ false) where
-    even : (not (belongs (length b) t) ≡ false) × (r < t .count)
-    even = let w = or-false {a = not (belongs (length b) t)} {b = leb (t .count) r} e in (w .0, leb-false (t .count) r (w .1))
-
-    pub region-known : (t .size + (2 + 2 * t .count) ≡ length b) × (r < t .count)
-    region-known = (belongs-is (length b) t (even .0), even .1)
-
-    pub region-even : regionOf b t r ≡ regionAt b t r
-    region-even = sym (region-there b t r (even .0) (even .1))
-
 -- ---- a region of the trailer that is read
 
 -- what a region that is good tells
 pub regionBy-tells : {A : Type 0} (b : List ℕ) (r : ℕ) (g : Region) → regionBy b r ≡ ok g → ((t : Trailer) → trailerOf b ≡ ok t → r < t .count → regionOf b t r ≡ ok g → A) → A
-unfolding regionAt
 regionBy-tells b r g e f =
     bind-then (trailerOf b) _ g e λ t q e₁.
-    guard-then (not (belongs (length b) t)) 14 _ g e₁ λ _ e₂.
-    guard-then (leb (t .count) r) 18 _ g e₂ λ w e₃. f t q (leb-false (t .count) r w) e₃
+    let k = handed-tells b t r (regionOf b t r) g e₁ in
+    f t q (k .1) (k .2)
 
 -- what a count that passed leaves
 pub by-inside : (n r len : ℕ) → (leb n r || ltb len (2 + 2 * n)) ≡ false → (r < n) × (2 + 2 * n ≤ len)
@@ -224,7 +205,7 @@ module _ (b : List ℕ) (r : ℕ) where
         ⊎-elim (λ z. absurd (clash e (neither (lt-leb (countOf b) r (z .1)) (y .0))))
         (λ z.
         let read : ok trailerBy ≡ trailerOf b = trailer-good b h (x .1) (y .1) in
-        rw (← read) (ap regionOr (region-past b trailerBy (sym read) r (z .1))))
+        rw (← read) (ap regionOr (handed-past b trailerBy r (regionOf b trailerBy r) (z .1))))
         (ltb-cases r (countOf b)))
         (ltb-cases (length b) (2 + 2 * countOf b)))
         (eqb-cases (countOf b) 0)

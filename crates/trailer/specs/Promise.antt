@@ -10,7 +10,7 @@ use Rattle.trailer.specs.declared.TrailerRead.{TrailerRead}
 use Rattle.trailer.specs.declared.Region.{Region}
 use Rattle.trailer.specs.declared.RegionRead.{RegionRead}
 use Rattle.trailer.specs.declared.Tested.{Tested}
-use Rattle.trailer.specs.Handed.{belongs, regionAt, offsetsAt}
+use Rattle.trailer.specs.Handed.{hasRegion, regionAt, offsetsAt}
 use Rattle.trailer.specs.Plain.{trailerOr, regionOr, regionBy}
 use Rattle.trailer.specs.Says.{trailerFrom, saysTrailer, regionFrom, saysRegion, saysTested, refusalOfTrailer, refusalOfRegion}
 
@@ -20,15 +20,12 @@ PlainTrailer b t = trailerFrom t ≡ trailerOr (trailerOf b)
 abbrev pub ReadsTrailer : List ℕ → TrailerRead → Type 0
 ReadsTrailer b a = saysTrailer a ≡ trailerOf b
 
--- whether the numbers are those of a block of `len` bytes
-abbrev pub TestsTrailer : Trailer → ℕ → Bool → Type 0
-TestsTrailer t len r = r ≡ belongs len (trailerFrom t)
+-- whether the numbers are those of a block of `len` bytes, with a region r
+abbrev pub TestsTrailer : Trailer → ℕ → ℕ → Bool → Type 0
+TestsTrailer t len r h = h ≡ hasRegion len (trailerFrom t) r
 
 abbrev pub TrailerRefusal : TrailerRead → Refusal → Type 0
 TrailerRefusal a r = r ≡ refusalOfTrailer a
-
-abbrev pub PlainRegion : List ℕ → Trailer → ℕ → Region → Type 0
-PlainRegion b t r g = regionFrom g ≡ regionOr (regionAt b (trailerFrom t) r)
 
 abbrev pub PlainRegionAt : List ℕ → ℕ → Region → Type 0
 PlainRegionAt b r g = regionFrom g ≡ regionOr (regionBy b r)

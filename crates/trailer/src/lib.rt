@@ -8,7 +8,7 @@ ghost use lib.ListN.{length};
 ghost use Rattle.layout.specs.Trailer.{shortAt, firstOf, regionOf, allOffsets};
 ghost use Rattle.trailer.specs.Plain.{noTrailer, noRegion, regionOr};
 ghost use Rattle.trailer.specs.Says.{trailerFrom, regionFrom, saysTested};
-ghost use Rattle.trailer.specs.Promise.{PlainTrailer, ReadsTrailer, TestsTrailer, TrailerRefusal, PlainRegion, PlainRegionAt, ReadsRegion, RegionRefusal, TestsOffsets};
+ghost use Rattle.trailer.specs.Promise.{PlainTrailer, ReadsTrailer, TestsTrailer, TrailerRefusal, PlainRegionAt, ReadsRegion, RegionRefusal, TestsOffsets};
 use basics::Refusal;
 
 // How many restarts there are, and how many bytes of rows.
@@ -93,11 +93,12 @@ pub fn trailer_of(block: &[u8]) -> TrailerRead
     TrailerRead::Refused(Refusal::BadTrailer)
 }
 
-// Whether these numbers are those of a block of `len` bytes. They may be any, so no sum is made of them that may wrap.
-pub fn belongs_to(t: Trailer, len: usize) -> bool
-    ensures { λ r. ⌜ TestsTrailer t len r ⌝ }
+// Whether these numbers are those of a block of `len` bytes with a region `r`. They may be any, so no sum is made of them that
+// may wrap.
+pub fn has_region(t: Trailer, len: usize, r: usize) -> bool
+    ensures { λ h. ⌜ TestsTrailer t len r h ⌝ }
 {
-    if len < 2 {
+    if (len < 2) | (t.count <= r) {
         return false;
     }
     let rest = len - 2;
@@ -153,17 +154,7 @@ fn region_in(block: &[u8], t: Trailer, r: usize) -> Region
     }
 }
 
-// Region `r` as numbers: all 0 where `region_of` refuses. A good one ends past 0.
-pub fn plain_region(block: &[u8], t: Trailer, r: usize) -> Region
-    ensures { λ g. ⌜ PlainRegion (now (block .entry)) t r g ⌝ }
-{
-    if !belongs_to(t, block.len()) | (t.count <= r) {
-        return no_region();
-    }
-    region_in(block, t, r)
-}
-
-// The trailer read and region `r` of it, as numbers: all 0 where either is refused.
+// The trailer read and region `r` of it, as numbers: all 0 where either is refused. A good one ends past 0.
 pub fn plain_region_at(block: &[u8], r: usize) -> Region
     ensures { λ g. ⌜ PlainRegionAt (now (block .entry)) r g ⌝ }
 {
@@ -183,14 +174,12 @@ pub fn plain_region_at(block: &[u8], r: usize) -> Region
     region_in(block, t, r)
 }
 
-// Region `r`, with its offset and the next tested: 15. No other offset is looked at. (`restart_region_end` in the Rust.)
+// Region `r`, with its offset and the next tested: 15. No other offset is looked at. Numbers that are not the block's, or no
+// region's, are 18. (`restart_region_end` in the Rust.)
 pub fn region_of(block: &[u8], t: Trailer, r: usize) -> RegionRead
     ensures { λ a. ⌜ ReadsRegion (now (block .entry)) t r a ⌝ }
 {
-    if !belongs_to(t, block.len()) {
-        return RegionRead::Refused(Refusal::BadTrailer);
-    }
-    if t.count <= r {
+    if !has_region(t, block.len(), r) {
         return RegionRead::Refused(Refusal::BadState);
     }
     let region = region_in(block, t, r);
@@ -229,15 +218,13 @@ fn offsets_rise(block: &[u8], t: Trailer) -> Tested
     Tested::Good
 }
 
-// All of 15: the first offset is 0, each is above the one before and below the data's length.
+// All of 15: the first offset is 0, each is above the one before and below the data's length. 18 for numbers that are not the
+// block's; a trailer that counts no region is no block's.
 pub fn all_offsets(block: &[u8], t: Trailer) -> Tested
     ensures { λ r. ⌜ TestsOffsets (now (block .entry)) t r ⌝ }
 {
-    if !belongs_to(t, block.len()) {
-        return Tested::Refused(Refusal::BadTrailer);
-    }
-    if t.count == 0 {
-        return Tested::Refused(Refusal::BadTrailer);
+    if !has_region(t, block.len(), 0) {
+        return Tested::Refused(Refusal::BadState);
     }
     offsets_rise(block, t)
 }
