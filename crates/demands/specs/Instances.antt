@@ -32,6 +32,7 @@ use Rattle.demands.specs.Demand1.{refused-step, refused-seek, refused-ad
 use Rattle.demands.specs.Demand2.{decode-encode, check-exact, has-rows, room-enough, walk-any-buffers, first-at-or-above, last-at-or-below, walk-steps, seek-ascending-lands, seek-descending-lands, retry-found, restarts-at-most, finished-accepted}
 use Rattle.demands.specs.Demand3.{run-finishes, blocks-differ, keys-fit, reads-forwards, reads-backwards, reads-any-buffers, row-begins-no-other, read-begins-no-other}
 use Rattle.layout.specs.Laws.Answer.{ltb-cases, clash}
+use Rattle.demands.specs.Laws.Refusals.{seek-never-18}
 
 -- ---- case 2, by a run
 
@@ -298,10 +299,14 @@ pub case-8-refused-step : (next forged block8 8 ≡ refuse 18) × (keyAfter (nex
 unfolding blockBytes blockRows offsets rowsFrom offsetsFrom trailer offsetBytes isRestart shareOf laidRow rowBytes timeBytes big varint varintIn common trailerOf shortAt unbig next
 case-8-refused-step = (refl, refused-step forged block8 (replicate 8 7) 18 refl .1)
 
--- a seek in no bytes at all is refused with 14
+-- a seek in no bytes at all is refused with 14, as no seek is with 18
 pub refused-sought : soughtAfter (seek ascending [] (98 ∷ [])) forged ≡ forged
 unfolding seek trailerOf
 refused-sought = refused-seek forged [] (98 ∷ []) 14 refl
+
+pub never-18 : 14 < 18
+unfolding seek trailerOf
+never-18 = seek-never-18 ascending [] (98 ∷ []) 14 refl
 
 -- a block of no row is refused with 7
 pub refused-built : blockAfter (build (fresh 4096 16) 8 2) (fresh 4096 16) (replicate 8 7) (replicate 2 7) ≡ replicate 8 7
