@@ -8,8 +8,8 @@ use Rattle.layout.specs.Answer.{refuse}
 use Rattle.layout.specs.Builder.{Builder, add}
 use Rattle.layout.specs.Key.{Key}
 use Rattle.layout.specs.Limits.{defaultInterval}
-use Rattle.row_size_v2.specs.Says.{fieldsFrom}
-use Rattle.row_size_v2.specs.declared.RowFields.{RowFields}
+use Rattle.row_flags.specs.Says.{fieldsFrom}
+use Rattle.row_flags.specs.declared.RowFields.{RowFields}
 use Rattle.build_in_place_v2.specs.Says.{stateFrom, saysFit-one, saysBuild-one}
 use Rattle.build_in_place_v2.specs.declared.Fit.{Fit}
 use Rattle.build_in_place_v2.specs.declared.BuildAnswer.{BuildAnswer}

@@ -14,7 +14,7 @@ use build_in_place_v2::BuildAnswer;
 use build_in_place_v2::Fit;
 use build_in_place_v2::Grown;
 use build_in_place_v2::State;
-use row_size_v2::RowFields;
+use row_flags::RowFields;
 
 // The numbers of `State`, and the most recent key. Bytes past its length tell nothing.
 pub struct BlockBuilderV2 {

@@ -11,8 +11,8 @@ use Rattle.layout.specs.Key.{Key}
 use Rattle.layout.specs.Limits.{maxKey}
 use Rattle.layout.specs.Place.{splice}
 use Rattle.layout.specs.Row.{Fields}
-use Rattle.row_size_v2.specs.Says.{fieldsFrom}
-use Rattle.row_size_v2.specs.declared.RowFields.{RowFields}
+use Rattle.row_flags.specs.Says.{fieldsFrom}
+use Rattle.row_flags.specs.declared.RowFields.{RowFields}
 use Rattle.row_words.specs.Words.{badWords, builderFrom, builderWords, fieldsIn, builderCount}
 use Rattle.block_words.specs.Exports.{Gain, AddsAs, AddsFlat}
 

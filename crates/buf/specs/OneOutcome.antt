@@ -2,18 +2,21 @@
 use Prim.Native.Nat.{ℕ}
 use mathlib.Core.Path.{_≡_, sym, _∙_}
 use mathlib.Core.List.{List}
-use Rattle.buf.specs.declared.ShortRead.{ShortRead}
+use Rattle.basics.specs.declared.Refusal.{Refusal}
 use Rattle.buf.specs.declared.WordRead.{WordRead}
 use Rattle.buf.specs.declared.SignedRead.{SignedRead}
-use Rattle.buf.specs.Promise.{ReadsShort, ReadsWord, ReadsSigned}
-use Rattle.buf.specs.Says.{saysShort-one, saysWord-one, saysSigned-one}
+use Rattle.buf.specs.Promise.{ReadsWord, WordRefusal, ReadsSigned, SignedRefusal}
+use Rattle.buf.specs.Says.{saysWord-one, saysSigned-one}
 
 module _ (s : List ℕ) (at : ℕ) where
-  pub get-u16-settled : (r q : ShortRead) → ReadsShort s at r → ReadsShort s at q → r ≡ q
-  get-u16-settled r q a b = saysShort-one r q (a ∙ sym b)
-
   pub get-u64-settled : (r q : WordRead) → ReadsWord s at r → ReadsWord s at q → r ≡ q
   get-u64-settled r q a b = saysWord-one r q (a ∙ sym b)
 
   pub get-i64-settled : (r q : SignedRead) → ReadsSigned s at r → ReadsSigned s at q → r ≡ q
   get-i64-settled r q a b = saysSigned-one r q (a ∙ sym b)
+
+pub word-refusal-settled : (a : WordRead) (r q : Refusal) → WordRefusal a r → WordRefusal a q → r ≡ q
+word-refusal-settled a r q m n = m ∙ sym n
+
+pub signed-refusal-settled : (a : SignedRead) (r q : Refusal) → SignedRefusal a r → SignedRefusal a q → r ≡ q
+signed-refusal-settled a r q m n = m ∙ sym n

@@ -3,16 +3,19 @@ use Prim.Native.Nat.{ℕ}
 use mathlib.Core.Path.{_≡_}
 use mathlib.Core.List.{List}
 use Rattle.layout.specs.Place.{fixedAt, signedAt}
-use Rattle.buf.specs.declared.ShortRead.{ShortRead}
+use Rattle.basics.specs.declared.Refusal.{Refusal}
 use Rattle.buf.specs.declared.WordRead.{WordRead}
 use Rattle.buf.specs.declared.SignedRead.{SignedRead}
-use Rattle.buf.specs.Says.{saysShort, saysWord, saysSigned}
-
-abbrev pub ReadsShort : List ℕ → ℕ → ShortRead → Type 0
-ReadsShort s at r = saysShort r ≡ fixedAt 2 s at
+use Rattle.buf.specs.Says.{saysWord, saysSigned, refusalOfWord, refusalOfSigned}
 
 abbrev pub ReadsWord : List ℕ → ℕ → WordRead → Type 0
 ReadsWord s at r = saysWord r ≡ fixedAt 8 s at
 
+abbrev pub WordRefusal : WordRead → Refusal → Type 0
+WordRefusal a r = r ≡ refusalOfWord a
+
 abbrev pub ReadsSigned : List ℕ → ℕ → SignedRead → Type 0
 ReadsSigned s at r = saysSigned r ≡ signedAt s at
+
+abbrev pub SignedRefusal : SignedRead → Refusal → Type 0
+SignedRefusal a r = r ≡ refusalOfSigned a

@@ -5,16 +5,12 @@ use Rattle.layout.specs.Place.{NumAt, numAt, SignedAt, signed}
 use Rattle.layout.specs.Laws.Answer.{ok-inj}
 use Rattle.basics.specs.Answers.{apart, refused-one}
 use Rattle.basics.specs.Number.{number}
-use Rattle.buf.specs.declared.ShortRead.{ShortRead}
-use Rattle.buf.specs.declared.ShortRead.the-variants.{Short, Refused as ShortRefused}
+use Rattle.basics.specs.declared.Refusal.{Refusal}
+use Rattle.basics.specs.declared.Refusal.the-variants.{InputEnds}
 use Rattle.buf.specs.declared.WordRead.{WordRead}
 use Rattle.buf.specs.declared.WordRead.the-variants.{Word, Refused as WordRefused}
 use Rattle.buf.specs.declared.SignedRead.{SignedRead}
 use Rattle.buf.specs.declared.SignedRead.the-variants.{Number as SignedNumber, Refused as SignedRefused}
-
-abbrev pub saysShort : ShortRead → Res NumAt
-saysShort (Short v n) = ok (numAt v n)
-saysShort (ShortRefused r) = refuse (number r)
 
 abbrev pub saysWord : WordRead → Res NumAt
 saysWord (Word v n) = ok (numAt v n)
@@ -24,13 +20,17 @@ abbrev pub saysSigned : SignedRead → Res SignedAt
 saysSigned (SignedNumber z n) = ok (signed z n)
 saysSigned (SignedRefused r) = refuse (number r)
 
--- ---- one to one
+-- ---- what is taken out of an answer; the other case is never asked
 
-pub saysShort-one : (a b : ShortRead) → saysShort a ≡ saysShort b → a ≡ b
-saysShort-one (Short v n) (Short w m) e = ap (λ (x : NumAt). Short (x .val) (x .next)) (ok-inj e)
-saysShort-one (Short v n) (ShortRefused r) e = absurd (apart e)
-saysShort-one (ShortRefused r) (Short v n) e = absurd (apart (sym e))
-saysShort-one (ShortRefused r) (ShortRefused q) e = ap ShortRefused (refused-one e)
+abbrev pub refusalOfWord : WordRead → Refusal
+refusalOfWord (Word v n) = InputEnds
+refusalOfWord (WordRefused r) = r
+
+abbrev pub refusalOfSigned : SignedRead → Refusal
+refusalOfSigned (SignedNumber v n) = InputEnds
+refusalOfSigned (SignedRefused r) = r
+
+-- ---- one to one
 
 pub saysWord-one : (a b : WordRead) → saysWord a ≡ saysWord b → a ≡ b
 saysWord-one (Word v n) (Word w m) e = ap (λ (x : NumAt). Word (x .val) (x .next)) (ok-inj e)

@@ -1,17 +1,12 @@
 // Numbers read at a place of a lent slice, high byte first: the reading half of the `bytes` crate that slatedb uses.
-// Follows slatedb 0.16.0, src/format/row_codec_v2.rs and src/format/block.rs, which read so (Apache License 2.0), and is changed: a buffer is a lent slice
-// with a place in it, each reader answers the place after what it read, and an input that ends is a refusal.
+// Follows slatedb 0.16.0, src/format/row_codec_v2.rs, which reads so (Apache License 2.0), and is changed: a buffer is a lent slice with a place in it,
+// each reader answers the place after what it read, and an input that ends is a refusal.
 ghost use mathlib.Core.Path.{_≡_};
 ghost use Prim.Native.Nat.{_≤_, _<_, _+_};
 ghost use lib.ListN.{length};
 ghost use Rattle.layout.specs.Laws.Place.{fourAt};
-ghost use Rattle.buf.specs.Promise.{ReadsShort, ReadsWord, ReadsSigned};
+ghost use Rattle.buf.specs.Promise.{ReadsWord, WordRefusal, ReadsSigned, SignedRefusal};
 use basics::Refusal;
-
-pub enum ShortRead {
-    Short { value: u16, next: usize },
-    Refused(Refusal),
-}
 
 pub enum WordRead {
     Word { value: u64, next: usize },
@@ -24,12 +19,6 @@ pub enum SignedRead {
 }
 
 // A byte as a wider number, with its bound said once for all sums of bytes.
-fn wide16(x: u8) -> u16
-    ensures { λ r. ⌜ (r ≡ x) × (r < 256) ⌝ }
-{
-    x as u16
-}
-
 fn wide64(x: u8) -> u64
     ensures { λ r. ⌜ (r ≡ x) × (r < 256) ⌝ }
 {
@@ -47,21 +36,6 @@ fn four(s: &[u8], at: usize) -> u64
     let c = wide64(s[half]);
     let d = wide64(s[half + 1]);
     ((a * 256 + b) * 256 + c) * 256 + d
-}
-
-// Reads the two bytes at `at`, high byte first.
-pub fn get_u16(s: &[u8], at: usize) -> ShortRead
-    ensures { λ r. ⌜ ReadsShort (now (s .entry)) at r ⌝ }
-{
-    if numbers::rest_from(s.len(), at) < 2 {
-        return ShortRead::Refused(Refusal::InputEnds);
-    }
-    let high = wide16(s[at]);
-    let low = wide16(s[at + 1]);
-    ShortRead::Short {
-        value: high * 256 + low,
-        next: at + 2,
-    }
 }
 
 // Reads the eight bytes at `at`, high byte first.
@@ -84,11 +58,29 @@ pub fn get_i64(s: &[u8], at: usize) -> SignedRead
     ensures { λ r. ⌜ ReadsSigned (now (s .entry)) at r ⌝ }
 {
     let word = get_u64(s, at);
-    match word {
-        WordRead::Word { value, next } => {
-            let value = numbers::from_bits(value);
-            SignedRead::Number { value, next }
-        }
-        WordRead::Refused(refusal) => SignedRead::Refused(refusal),
+    let WordRead::Word { value, next } = word else {
+        return SignedRead::Refused(word_refusal(word));
+    };
+    let value = numbers::from_bits(value);
+    SignedRead::Number { value, next }
+}
+
+// A read that is refused ends the call with its refusal, which a `let .. else` can't bind: these take it out of the answer.
+// Their other case is not met there.
+pub fn word_refusal(a: WordRead) -> Refusal
+    ensures { λ r. ⌜ WordRefusal a r ⌝ }
+{
+    match a {
+        WordRead::Refused(refusal) => refusal,
+        WordRead::Word { value: _, next: _ } => Refusal::InputEnds,
+    }
+}
+
+pub fn signed_refusal(a: SignedRead) -> Refusal
+    ensures { λ r. ⌜ SignedRefusal a r ⌝ }
+{
+    match a {
+        SignedRead::Refused(refusal) => refusal,
+        SignedRead::Number { value: _, next: _ } => Refusal::InputEnds,
     }
 }

@@ -25,9 +25,9 @@ use Rattle.basics.specs.Says.{saysKind, saysTime}
 use Rattle.buf_mut.specs.declared.Put.{Put}
 use Rattle.buf_mut.specs.Promise.{Puts}
 use Rattle.buf_mut.proofs.Laws.{copied}
-use Rattle.row_size_v2.specs.Promise.{Flagged}
-use Rattle.row_size_v2.specs.Says.{fieldsFrom}
-use Rattle.row_size_v2.specs.declared.RowFields.{RowFields}
+use Rattle.row_flags.specs.Promise.{Flagged}
+use Rattle.row_flags.specs.Says.{fieldsFrom}
+use Rattle.row_flags.specs.declared.RowFields.{RowFields}
 use Rattle.row_size_v2.proofs.Writes.{room-first, room-next}
 use Rattle.build_in_place_v2.specs.Plan.{Fitting, plainBody, plainBytes, PlainFits}
 

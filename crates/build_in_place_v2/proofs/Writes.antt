@@ -36,10 +36,10 @@ use Rattle.buf_mut.specs.declared.Put.{Put}
 use Rattle.buf_mut.specs.declared.Put.the-variants.{At, Refused as PutRefused}
 use Rattle.buf_mut.proofs.Laws.{puts-at, puts-refused, copied}
 use Rattle.row_encode_v2.specs.Promise.{Encodes}
-use Rattle.row_size_v2.specs.Says.{fieldsFrom}
+use Rattle.row_flags.specs.Says.{fieldsFrom}
 use Rattle.row_encode_v2.specs.declared.Encoded.{Encoded}
 use Rattle.row_encode_v2.specs.declared.Encoded.the-variants.{Bytes as EncodedBytes, Refused as EncodedRefused}
-use Rattle.row_size_v2.specs.declared.RowFields.{RowFields}
+use Rattle.row_flags.specs.declared.RowFields.{RowFields}
 use Rattle.build_in_place_v2.specs.declared.State.{State}
 use Rattle.build_in_place_v2.specs.declared.BuildAnswer.the-variants.{Block, Refused as BuildRefused}
 use Rattle.build_in_place_v2.specs.declared.Grown.{Grown}

@@ -3,7 +3,7 @@ use Prim.Native.Nat.{ℕ}
 use mathlib.Core.Path.{_≡_, sym, _∙_}
 use mathlib.Core.List.{List, []}
 use Rattle.layout.specs.Key.{Key}
-use Rattle.row_size_v2.specs.declared.RowFields.{RowFields}
+use Rattle.row_flags.specs.declared.RowFields.{RowFields}
 use Rattle.build_in_place_v2.specs.declared.State.{State}
 use Rattle.build_in_place_v2.specs.declared.Fit.{Fit}
 use Rattle.build_in_place_v2.specs.declared.Grown.{Grown}

@@ -15,9 +15,9 @@ use Rattle.layout.specs.Varint.{varint}
 use Rattle.basics.specs.Number.{number}
 use Rattle.basics.specs.declared.Refusal.{Refusal}
 use Rattle.basics.specs.declared.Refusal.the-variants.{EmptyKey}
+use Rattle.row_flags.specs.Says.{fieldsFrom}
+use Rattle.row_flags.specs.declared.RowFields.{RowFields}
 use Rattle.row_size_v2.specs.Promise.{Sizes}
-use Rattle.row_size_v2.specs.Says.{fieldsFrom}
-use Rattle.row_size_v2.specs.declared.RowFields.{RowFields}
 use Rattle.row_size_v2.specs.declared.Sized.{Sized}
 use Rattle.build_in_place_v2.specs.declared.State.{State}
 use Rattle.build_in_place_v2.specs.declared.Found.{Found}

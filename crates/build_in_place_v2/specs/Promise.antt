@@ -11,8 +11,8 @@ use Rattle.layout.specs.Key.{Key}
 use Rattle.layout.specs.Limits.{maxKey}
 use Rattle.layout.specs.Place.{splice}
 use Rattle.layout.specs.Row.{Fields}
-use Rattle.row_size_v2.specs.Says.{fieldsFrom}
-use Rattle.row_size_v2.specs.declared.RowFields.{RowFields}
+use Rattle.row_flags.specs.Says.{fieldsFrom}
+use Rattle.row_flags.specs.declared.RowFields.{RowFields}
 use Rattle.build_in_place_v2.specs.declared.State.{State}
 use Rattle.build_in_place_v2.specs.declared.Fit.{Fit}
 use Rattle.build_in_place_v2.specs.declared.Grown.{Grown}

@@ -15,14 +15,14 @@ ghost use Rattle.layout.specs.Limits.{maxKey, maxBlock, maxInterval, maxOffset,
 ghost use Rattle.layout.specs.Row.{ifSo, rowBytes};
 ghost use Rattle.layout.specs.Varint.{varint};
 ghost use Rattle.layout.specs.Laws.Splice.{Wrote};
-ghost use Rattle.row_size_v2.specs.Says.{fieldsFrom};
+ghost use Rattle.row_flags.specs.Says.{fieldsFrom};
 ghost use Rattle.build_in_place_v2.specs.Says.{viewFrom};
 ghost use Rattle.build_in_place_v2.specs.Plan.{Judges, SizesRow, fitted, accepted, Plans, plannedRefusal, foundIs, Finds, Tested, Fitting, plainBytes, PlainFits, Grew};
 ghost use Rattle.build_in_place_v2.specs.Promise.{FitsInPlace, AddsInPlace, Finishes};
 use basics::Refusal;
 use buf_mut::Put;
 use row_encode_v2::Encoded;
-use row_size_v2::RowFields;
+use row_flags::RowFields;
 use row_size_v2::Sized;
 
 const SIZEOF_U16: usize = 2;
@@ -406,7 +406,7 @@ fn write_row(
     requires { ⌜ Fitting (now «data») used «last_len» shared (now key) (fieldsFrom row (now value)) ⌝ }
     ensures { λ r. ⌜ Wrote (now («data» .entry)) used (rowBytes shared (drop shared (now (key .entry))) (fieldsFrom row (now (value .entry)))) (now («data» .exit)) r ⌝ }
 {
-    if row_size_v2::flags(row) == 0 {
+    if row_flags::flags(row) == 0 {
         return write_plain(data, used, shared, key, value, row.seq);
     }
     let e = row_encode_v2::encode(

@@ -8,7 +8,7 @@ use buf_mut::Put;
 use build_in_place_v2::BuildAnswer;
 use row_decode_v2::RowRead;
 use row_encode_v2::Encoded;
-use row_size_v2::RowFields;
+use row_flags::RowFields;
 use utils::VarintRead;
 
 fn fields(seq: u64) -> RowFields {

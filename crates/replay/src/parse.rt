@@ -5,7 +5,7 @@ use crate::words;
 use basics::Kind;
 use basics::Time;
 use buf::SignedRead;
-use row_size_v2::RowFields;
+use row_flags::RowFields;
 
 // The digit that `b` spells, else 16.
 fn digit(b: u8) -> u8 {

@@ -6,7 +6,7 @@ use buf_mut::Put;
 use row_decode_v2::KeyRead;
 use row_decode_v2::RowRead;
 use row_encode_v2::Encoded;
-use row_size_v2::RowFields;
+use row_flags::RowFields;
 use row_size_v2::Sized;
 use utils::VarintRead;
 

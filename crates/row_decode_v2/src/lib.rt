@@ -1,21 +1,25 @@
 // The read of a V2 row, whole or its key only, with every test in its order.
-// Follows slatedb 0.16.0, src/format/row_codec_v2.rs, with the flags of src/format/row.rs (Apache License 2.0), and is changed: rows are read from lent
-// slices, an answer names places in them and copies nothing, and what the input can break is a refusal.
+// Follows slatedb 0.16.0, src/format/row_codec_v2.rs (Apache License 2.0), and is changed: rows are read from lent slices, an answer names places in them
+// and copies nothing, and what the input can break is a refusal.
 ghost use mathlib.Core.Path.{_≡_};
 ghost use Prim.Native.Nat.{_≤_};
 ghost use lib.ListN.{length};
 ghost use Rattle.layout.specs.Limits.{maxKey};
-ghost use Rattle.layout.specs.RowRead.{lengthsAt, mayShare, headAt, flagsAt, bodyAt, timeAt, timesAt, rowIs};
+ghost use Rattle.layout.specs.RowRead.{lengthsAt, mayShare, headAt, bodyAt, rowIs};
 ghost use Rattle.basics.specs.Says.{saysHeld};
+ghost use Rattle.row_flags.specs.Says.{timesFrom};
 ghost use Rattle.row_decode_v2.specs.Says.{rowFrom};
 ghost use Rattle.row_decode_v2.specs.Promise.{Decodes, DecodesAt, DecodesKey, RowRefusal};
-ghost use Rattle.row_decode_v2.specs.Reading.{saysLengths, lengthsFrom, saysHead, flagsFrom, saysFlags, flagsGood, heldFrom, bodyFrom, saysBody, saysTimeAt, timesFrom, saysTimes, refusalOfVarint, refusalOfWord, refusalOfSigned, refusalOfLengths, refusalOfHead, refusalOfFlags, refusalOfBody, refusalOfTime, refusalOfTimes};
+ghost use Rattle.row_decode_v2.specs.Reading.{saysLengths, lengthsFrom, saysHead, heldFrom, bodyFrom, saysBody, refusalOfVarint, refusalOfLengths, refusalOfHead, refusalOfBody};
 use basics::Kind;
 use basics::Refusal;
 use basics::Time;
 use basics::ValueDeletable;
-use buf::SignedRead;
 use buf::WordRead;
+use row_flags::FlagsRead;
+use row_flags::RowFlags;
+use row_flags::Times;
+use row_flags::TimesRead;
 use utils::VarintRead;
 
 // Where a row, its key's suffix and its value stand, and its other fields.
@@ -73,9 +77,9 @@ pub fn decode_at(
         return RowRead::Refused(body_refusal(rest));
     };
     let flags = body.flags;
-    let last = times_at(s, body.next, flags);
+    let last = row_flags::times_at(s, body.next, flags);
     let TimesRead::Read(times) = last else {
-        return RowRead::Refused(times_refusal(last));
+        return RowRead::Refused(row_flags::times_refusal(last));
     };
     if region_end < times.next {
         return RowRead::Refused(Refusal::RowPastRegion);
@@ -110,49 +114,6 @@ pub fn decode_key_only(
         suffix_at: head.suffix_at,
         suffix_len: head.unshared,
     })
-}
-
-struct RowFlags {
-    kind: Kind,
-    expire: bool,
-    create: bool,
-}
-
-enum FlagsRead {
-    Read(RowFlags),
-    Refused(Refusal),
-}
-
-fn good_flags(kind: Kind, expire: bool, create: bool) -> FlagsRead
-    ensures { λ r. ⌜ saysFlags r ≡ flagsGood kind expire create ⌝ }
-{
-    FlagsRead::Read(RowFlags {
-        kind,
-        expire,
-        create,
-    })
-}
-
-// Tombstone 1, expire 2, create 4, merge 8.
-fn decode_flags(flags: u8) -> FlagsRead
-    ensures { λ r. ⌜ saysFlags r ≡ flagsAt flags ⌝ }
-{
-    match flags {
-        0 => good_flags(Kind::Value, false, false),
-        1 => good_flags(Kind::Tombstone, false, false),
-        2 => good_flags(Kind::Value, true, false),
-        3 => good_flags(Kind::Tombstone, true, false),
-        4 => good_flags(Kind::Value, false, true),
-        5 => good_flags(Kind::Tombstone, false, true),
-        6 => good_flags(Kind::Value, true, true),
-        7 => good_flags(Kind::Tombstone, true, true),
-        8 => good_flags(Kind::Merge, false, false),
-        10 => good_flags(Kind::Merge, true, false),
-        12 => good_flags(Kind::Merge, false, true),
-        14 => good_flags(Kind::Merge, true, true),
-        9 | 11 | 13 | 15 => FlagsRead::Refused(Refusal::TombstoneWithMerge),
-        16..=255 => FlagsRead::Refused(Refusal::UnknownFlags),
-    }
 }
 
 // The three lengths as they are written, and where the suffix starts. No sum of two 32-bit numbers wraps a usize.
@@ -300,11 +261,11 @@ fn body_at(s: &[u8], head: Head) -> BodyRead
         next: flags_at,
     } = word
     else {
-        return BodyRead::Refused(word_refusal(word));
+        return BodyRead::Refused(buf::word_refusal(word));
     };
-    let decoded = decode_flags(s[flags_at]);
+    let decoded = row_flags::decode_flags(s[flags_at]);
     let FlagsRead::Read(flags) = decoded else {
-        return BodyRead::Refused(flags_refusal(decoded));
+        return BodyRead::Refused(row_flags::flags_refusal(decoded));
     };
     let kind = flags.kind;
     let held = held_as(kind, value_at, value_len);
@@ -312,64 +273,6 @@ fn body_at(s: &[u8], head: Head) -> BodyRead
         held,
         seq,
         flags,
-        next,
-    })
-}
-
-enum TimeRead {
-    Read { time: Time, next: usize },
-    Refused(Refusal),
-}
-
-fn time_at(flagged: bool, s: &[u8], at: usize) -> TimeRead
-    ensures { λ r. ⌜ saysTimeAt r ≡ timeAt flagged (now (s .entry)) at ⌝ }
-{
-    if flagged {
-        let number = buf::get_i64(s, at);
-        let SignedRead::Number { value, next } = number else {
-            return TimeRead::Refused(signed_refusal(number));
-        };
-        return TimeRead::Read {
-            time: Time::At(value),
-            next,
-        };
-    }
-    TimeRead::Read {
-        time: Time::Absent,
-        next: at,
-    }
-}
-
-struct Times {
-    expire: Time,
-    create: Time,
-    next: usize,
-}
-
-enum TimesRead {
-    Read(Times),
-    Refused(Refusal),
-}
-
-// The expire time stands first.
-fn times_at(s: &[u8], at: usize, flags: RowFlags) -> TimesRead
-    ensures { λ r. ⌜ saysTimes r ≡ timesAt (now (s .entry)) at (flagsFrom flags) ⌝ }
-{
-    let one = time_at(flags.expire, s, at);
-    let TimeRead::Read {
-        time: expire,
-        next: create_at,
-    } = one
-    else {
-        return TimesRead::Refused(time_refusal(one));
-    };
-    let two = time_at(flags.create, s, create_at);
-    let TimeRead::Read { time: create, next } = two else {
-        return TimesRead::Refused(time_refusal(two));
-    };
-    TimesRead::Read(Times {
-        expire,
-        create,
         next,
     })
 }
@@ -413,24 +316,6 @@ fn varint_refusal(a: VarintRead) -> Refusal
     }
 }
 
-fn word_refusal(a: WordRead) -> Refusal
-    ensures { λ r. ⌜ r ≡ refusalOfWord a ⌝ }
-{
-    match a {
-        WordRead::Refused(refusal) => refusal,
-        WordRead::Word { value: _, next: _ } => Refusal::InputEnds,
-    }
-}
-
-fn signed_refusal(a: SignedRead) -> Refusal
-    ensures { λ r. ⌜ r ≡ refusalOfSigned a ⌝ }
-{
-    match a {
-        SignedRead::Refused(refusal) => refusal,
-        SignedRead::Number { value: _, next: _ } => Refusal::InputEnds,
-    }
-}
-
 fn lengths_refusal(a: LengthsRead) -> Refusal
     ensures { λ r. ⌜ r ≡ refusalOfLengths a ⌝ }
 {
@@ -454,38 +339,11 @@ fn head_refusal(a: HeadRead) -> Refusal
     }
 }
 
-fn flags_refusal(a: FlagsRead) -> Refusal
-    ensures { λ r. ⌜ r ≡ refusalOfFlags a ⌝ }
-{
-    match a {
-        FlagsRead::Refused(refusal) => refusal,
-        FlagsRead::Read(_) => Refusal::InputEnds,
-    }
-}
-
 fn body_refusal(a: BodyRead) -> Refusal
     ensures { λ r. ⌜ r ≡ refusalOfBody a ⌝ }
 {
     match a {
         BodyRead::Refused(refusal) => refusal,
         BodyRead::Read(_) => Refusal::InputEnds,
-    }
-}
-
-fn time_refusal(a: TimeRead) -> Refusal
-    ensures { λ r. ⌜ r ≡ refusalOfTime a ⌝ }
-{
-    match a {
-        TimeRead::Refused(refusal) => refusal,
-        TimeRead::Read { time: _, next: _ } => Refusal::InputEnds,
-    }
-}
-
-fn times_refusal(a: TimesRead) -> Refusal
-    ensures { λ r. ⌜ r ≡ refusalOfTimes a ⌝ }
-{
-    match a {
-        TimesRead::Refused(refusal) => refusal,
-        TimesRead::Read(_) => Refusal::InputEnds,
     }
 }

@@ -14,8 +14,8 @@ use Rattle.basics.specs.Says.{saysKind}
 use Rattle.buf_mut.specs.declared.Put.{Put}
 use Rattle.buf_mut.specs.Says.{placeAfter}
 use Rattle.buf_mut.specs.Promise.{Puts}
-use Rattle.row_size_v2.specs.Says.{fieldsFrom}
-use Rattle.row_size_v2.specs.declared.RowFields.{RowFields}
+use Rattle.row_flags.specs.Says.{fieldsFrom}
+use Rattle.row_flags.specs.declared.RowFields.{RowFields}
 use Rattle.row_size_v2.proofs.Writes.{room-first, room-next, put-one, put-two}
 use Rattle.row_encode_v2.specs.Parts.{lengthBytes, bodyBytes, markBytes}
 

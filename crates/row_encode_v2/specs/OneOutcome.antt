@@ -2,7 +2,7 @@
 use Prim.Native.Nat.{ℕ}
 use mathlib.Core.Path.{_≡_, sym, _∙_}
 use mathlib.Core.List.{List}
-use Rattle.row_size_v2.specs.declared.RowFields.{RowFields}
+use Rattle.row_flags.specs.declared.RowFields.{RowFields}
 use Rattle.row_encode_v2.specs.declared.Encoded.{Encoded}
 use Rattle.row_encode_v2.specs.Promise.{Encodes}
 use Rattle.row_encode_v2.specs.Says.{saysEncoded-one}

@@ -5,7 +5,7 @@ use Rattle.layout.specs.Fixed.{big}
 use Rattle.layout.specs.Row.{present, flagsOf, timeBytes}
 use Rattle.layout.specs.Varint.{varint}
 use Rattle.basics.specs.Says.{saysKind, saysTime}
-use Rattle.row_size_v2.specs.declared.RowFields.{RowFields}
+use Rattle.row_flags.specs.declared.RowFields.{RowFields}
 
 abbrev pub lengthBytes : ℕ → ℕ → ℕ → List ℕ
 lengthBytes shared suffixLen valueLen = varint shared ++ (varint suffixLen ++ varint valueLen)

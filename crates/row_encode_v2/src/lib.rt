@@ -3,15 +3,14 @@
 // room can break is a refusal.
 ghost use Prim.Native.Nat.{_≤_, _<_, _+_, _^_};
 ghost use lib.ListN.{length};
-ghost use Rattle.layout.specs.Row.{keptLength, timeBytes, rowBytes};
+ghost use Rattle.layout.specs.Row.{keptLength, rowBytes};
 ghost use Rattle.layout.specs.Laws.Splice.{Wrote};
-ghost use Rattle.basics.specs.Says.{saysKind, saysTime};
-ghost use Rattle.row_size_v2.specs.Says.{fieldsFrom};
+ghost use Rattle.basics.specs.Says.{saysKind};
+ghost use Rattle.row_flags.specs.Says.{fieldsFrom};
 ghost use Rattle.row_encode_v2.specs.Parts.{lengthBytes, bodyBytes, markBytes};
 ghost use Rattle.row_encode_v2.specs.Promise.{Encodes};
 use basics::Refusal;
-use basics::Time;
-use row_size_v2::RowFields;
+use row_flags::RowFields;
 use row_size_v2::Sized;
 
 // Each of these writes at `at` and answers the place after it.
@@ -40,25 +39,15 @@ fn write_body(output: &mut [u8], at: usize, key_suffix: &[u8], value: &[u8], seq
     buf_mut::place_after(buf_mut::put_u64(output, b, seq))
 }
 
-fn write_time(output: &mut [u8], at: usize, time: Time) -> usize
-    requires { ⌜ at + length (timeBytes (saysTime time)) ≤ length (now output) ⌝ }
-    ensures { λ r. ⌜ Wrote (now (output .entry)) at (timeBytes (saysTime time)) (now (output .exit)) r ⌝ }
-{
-    match time {
-        Time::Absent => at,
-        Time::At(t) => buf_mut::place_after(buf_mut::put_i64(output, at, t)),
-    }
-}
-
 fn write_marks(output: &mut [u8], at: usize, row: RowFields) -> usize
     requires { ⌜ at + length (markBytes row) ≤ length (now output) ⌝ }
     ensures { λ r. ⌜ Wrote (now (output .entry)) at (markBytes row) (now (output .exit)) r ⌝ }
 {
     let expire = row.expire;
     let create = row.create;
-    output[at] = row_size_v2::flags(row);
-    let a = write_time(output, at + 1, expire);
-    write_time(output, a, create)
+    output[at] = row_flags::flags(row);
+    let a = buf_mut::place_after(row_flags::write_time(output, at + 1, expire));
+    buf_mut::place_after(row_flags::write_time(output, a, create))
 }
 
 // The row at the start of `output`, once its lengths and its room are tested.
@@ -75,7 +64,7 @@ fn write_row(
 {
     let kind = row.kind;
     let seq = row.seq;
-    let kept = row_size_v2::kept_len(kind, value.len());
+    let kept = row_flags::kept_len(kind, value.len());
     let a = write_lengths(output, 0, shared, key_suffix.len(), kept);
     let b = write_body(output, a, key_suffix, &value[..kept], seq);
     write_marks(output, b, row)

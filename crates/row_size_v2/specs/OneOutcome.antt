@@ -5,17 +5,10 @@ use mathlib.Core.List.{List}
 use Rattle.basics.specs.declared.Kind.{Kind}
 use Rattle.basics.specs.declared.Refusal.{Refusal}
 use Rattle.basics.specs.declared.Time.{Time}
-use Rattle.row_size_v2.specs.declared.RowFields.{RowFields}
 use Rattle.row_size_v2.specs.declared.Sized.{Sized}
 use Rattle.row_size_v2.specs.declared.Restored.{Restored}
-use Rattle.row_size_v2.specs.Promise.{Flagged, Keeps, Sizes, SizeRefusal, Restores}
+use Rattle.row_size_v2.specs.Promise.{Sizes, SizeRefusal, Restores}
 use Rattle.row_size_v2.specs.Says.{saysSized-one, saysRestored-one}
-
-pub flags-settled : (row : RowFields) (m n : ℕ) → Flagged row m → Flagged row n → m ≡ n
-flags-settled row m n p q = p ∙ sym q
-
-pub kept-len-settled : (kind : Kind) (n r q : ℕ) → Keeps kind n r → Keeps kind n q → r ≡ q
-kept-len-settled kind n r q a b = a .0 ∙ sym (b .0)
 
 pub encoded-size-settled : (shared suffixLen : ℕ) (kind : Kind) (valueLen : ℕ) (expire create : Time) (r q : Sized)
     → Sizes shared suffixLen kind valueLen expire create r → Sizes shared suffixLen kind valueLen expire create q → r ≡ q

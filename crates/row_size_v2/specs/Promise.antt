@@ -1,25 +1,17 @@
 -- What each public function promises: equations to the definitions of `layout`, that settle each number answered and each byte lent.
-use Prim.Native.Nat.{ℕ, _≤_}
+use Prim.Native.Nat.{ℕ}
 use mathlib.Core.Path.{_≡_}
 use mathlib.Core.List.{List}
 use lib.ListN.{length}
 use Rattle.layout.specs.Answer.{Res, ok, bind}
-use Rattle.layout.specs.Row.{keptLength, present, flagsOf, sizeAlone, written, restoreKey}
+use Rattle.layout.specs.Row.{present, sizeAlone, written, restoreKey}
 use Rattle.basics.specs.Says.{saysKind, saysTime}
 use Rattle.basics.specs.declared.Kind.{Kind}
 use Rattle.basics.specs.declared.Refusal.{Refusal}
 use Rattle.basics.specs.declared.Time.{Time}
-use Rattle.row_size_v2.specs.declared.RowFields.{RowFields}
 use Rattle.row_size_v2.specs.declared.Sized.{Sized}
 use Rattle.row_size_v2.specs.declared.Restored.{Restored}
 use Rattle.row_size_v2.specs.Says.{saysSized, sizedRefusal, saysRestored}
-
-abbrev pub Flagged : RowFields → ℕ → Type 0
-Flagged row r = r ≡ flagsOf (saysKind (row .kind)) (present (saysTime (row .expire))) (present (saysTime (row .create)))
-
--- the bound follows from the equation
-abbrev pub Keeps : Kind → ℕ → ℕ → Type 0
-Keeps kind n r = (r ≡ keptLength (saysKind kind) n) × (r ≤ n)
 
 abbrev pub Sizes : ℕ → ℕ → Kind → ℕ → Time → Time → Sized → Type 0
 Sizes shared suffixLen kind valueLen expire create r =

@@ -1,24 +1,16 @@
 -- What each case of an answer says: a count of bytes, or the number of the refusal. No two cases say the same.
 use Prim.Native.Nat.{ℕ}
 use mathlib.Core.Path.{_≡_, ap, sym}
-use mathlib.Core.List.{List}
 use Rattle.layout.specs.Answer.{Res, ok, refuse}
-use Rattle.layout.specs.Row.{Fields}
 use Rattle.layout.specs.Laws.Answer.{ok-inj}
 use Rattle.basics.specs.Answers.{apart, refused-one}
 use Rattle.basics.specs.Number.{number}
-use Rattle.basics.specs.Says.{saysKind, saysTime}
 use Rattle.basics.specs.declared.Refusal.{Refusal}
 use Rattle.basics.specs.declared.Refusal.the-variants.{EmptyKey}
-use Rattle.row_size_v2.specs.declared.RowFields.{RowFields}
 use Rattle.row_size_v2.specs.declared.Sized.{Sized}
 use Rattle.row_size_v2.specs.declared.Sized.the-variants.{Bytes as SizedBytes, Refused as SizedRefused}
 use Rattle.row_size_v2.specs.declared.Restored.{Restored}
 use Rattle.row_size_v2.specs.declared.Restored.the-variants.{Bytes as RestoredBytes, Refused as RestoredRefused}
-
--- the fields of a row that is offered with this value
-abbrev pub fieldsFrom : RowFields → List ℕ → Fields
-fieldsFrom row v = record { kind = saysKind (row .kind); val = v; seq = row .seq; expire = saysTime (row .expire); create = saysTime (row .create) }
 
 abbrev pub saysSized : Sized → Res ℕ
 saysSized (SizedBytes n) = ok n

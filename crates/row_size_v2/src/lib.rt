@@ -1,63 +1,15 @@
-// A V2 row's flags, its full key and its size, with every test in its order.
-// Follows slatedb 0.16.0, src/format/row_codec_v2.rs, with the flags of src/format/row.rs (Apache License 2.0), and is changed: a key is restored to a lent
-// slice, and what the lengths or the room can break is a refusal.
+// A V2 row's full key and its size, with every test in its order.
+// Follows slatedb 0.16.0, src/format/row_codec_v2.rs (Apache License 2.0), and is changed: a key is restored to a lent slice, and what the lengths or the room
+// can break is a refusal.
 ghost use mathlib.Core.Path.{_≡_};
 ghost use Prim.Native.Nat.{_≤_, _<_, _+_, _^_};
-ghost use Rattle.layout.specs.Row.{kindBits, ifSo, present};
 ghost use Rattle.layout.specs.Varint.{varintLength};
-ghost use Rattle.basics.specs.Says.{saysKind, saysTime};
 ghost use Rattle.row_size_v2.specs.Says.{saysSized};
 ghost use Rattle.row_size_v2.specs.Parts.{keyLength};
-ghost use Rattle.row_size_v2.specs.Promise.{Flagged, Keeps, Sizes, SizeRefusal, Restores};
+ghost use Rattle.row_size_v2.specs.Promise.{Sizes, SizeRefusal, Restores};
 use basics::Kind;
 use basics::Refusal;
 use basics::Time;
-
-// What a row holds beside its key and its value's bytes, as it is offered.
-pub struct RowFields {
-    pub kind: Kind,
-    pub seq: u64,
-    pub expire: Time,
-    pub create: Time,
-}
-
-// ---- flags
-
-const TOMBSTONE: u8 = 1;
-
-const HAS_EXPIRE_TS: u8 = 2;
-
-const HAS_CREATE_TS: u8 = 4;
-
-const MERGE_OPERAND: u8 = 8;
-
-fn kind_flag(kind: Kind) -> u8
-    ensures { λ r. ⌜ (r ≡ kindBits (saysKind kind)) × (r ≤ 8) ⌝ }
-{
-    match kind {
-        Kind::Value => 0,
-        Kind::Merge => MERGE_OPERAND,
-        Kind::Tombstone => TOMBSTONE,
-    }
-}
-
-fn time_flag(time: Time, flag: u8) -> u8
-    ensures { λ r. ⌜ (r ≡ ifSo (present (saysTime time)) flag) × (r ≤ flag) ⌝ }
-{
-    match time {
-        Time::Absent => 0,
-        Time::At(_) => flag,
-    }
-}
-
-pub fn flags(row: RowFields) -> u8
-    ensures { λ r. ⌜ Flagged row r ⌝ }
-{
-    let kind = row.kind;
-    let expire = row.expire;
-    let create = row.create;
-    kind_flag(kind) + time_flag(expire, HAS_EXPIRE_TS) + time_flag(create, HAS_CREATE_TS)
-}
 
 // ---- a full key
 
@@ -126,17 +78,6 @@ pub fn restore_full_key(
 
 // ---- size
 
-// How many of the bytes that are offered as the value are written: of a tombstone's none.
-pub fn kept_len(kind: Kind, value_len: usize) -> usize
-    ensures { λ r. ⌜ Keeps kind «value_len» r ⌝ }
-{
-    match kind {
-        Kind::Value => value_len,
-        Kind::Merge => value_len,
-        Kind::Tombstone => 0,
-    }
-}
-
 // How many bytes a length takes that has passed its test, and so fits 32 bits. Most are below 128.
 fn length_len(n: usize) -> usize
     requires { ⌜ n < 2 ^ 32 ⌝ }
@@ -146,15 +87,6 @@ fn length_len(n: usize) -> usize
         return 1;
     }
     utils::varint_len(n as u32)
-}
-
-fn time_len(time: Time) -> usize
-    ensures { λ r. ⌜ (r ≡ ifSo (present (saysTime time)) 8) × (r ≤ 8) ⌝ }
-{
-    match time {
-        Time::Absent => 0,
-        Time::At(_) => 8,
-    }
 }
 
 // The size of a row, from lengths alone: 1, 2, 3.
@@ -172,12 +104,12 @@ pub fn encoded_size(
     if let Sized::Refused(refusal) = key {
         return Sized::Refused(refusal);
     }
-    let kept = kept_len(kind, value_len);
+    let kept = row_flags::kept_len(kind, value_len);
     if basics::MAX_VALUE < kept {
         return Sized::Refused(Refusal::ValueTooLong);
     }
     let lengths = length_len(shared) + length_len(suffix_len) + length_len(kept);
-    let times = time_len(expire) + time_len(create);
+    let times = row_flags::time_len(expire) + row_flags::time_len(create);
     // 9: the sequence number and the flags
     Sized::Bytes(lengths + suffix_len + kept + 9 + times)
 }

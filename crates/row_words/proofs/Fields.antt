@@ -18,7 +18,7 @@ use Rattle.basics.specs.declared.ValueDeletable.{ValueDeletable}
 use Rattle.basics.specs.declared.ValueDeletable.the-variants.{Value, Tombstone, Merge}
 use Rattle.row_decode_v2.specs.Says.{rowFrom}
 use Rattle.row_decode_v2.specs.declared.Row.{Row}
-use Rattle.row_size_v2.specs.declared.RowFields.{RowFields}
+use Rattle.row_flags.specs.declared.RowFields.{RowFields}
 use Rattle.row_words.specs.Words.{badWords, truthIn, wordAt, kindIn, timeIn, fieldsIn, heldWords, timeWords, rowWords, fieldsCount, rowCount}
 use Rattle.row_words.specs.Says.{saysFields, heldFrom, timeWordsOf}
 use Rattle.row_words.specs.declared.FieldsRead.the-variants.{Is as IsFields}

@@ -13,8 +13,8 @@ use Rattle.basics.specs.declared.Time.{Time}
 use Rattle.basics.specs.declared.Time.the-variants.{Absent, At}
 use Rattle.basics.specs.declared.ValueDeletable.{ValueDeletable}
 use Rattle.basics.specs.declared.ValueDeletable.the-variants.{Value, Tombstone, Merge}
-use Rattle.row_size_v2.specs.Says.{fieldsFrom}
-use Rattle.row_size_v2.specs.declared.RowFields.{RowFields}
+use Rattle.row_flags.specs.Says.{fieldsFrom}
+use Rattle.row_flags.specs.declared.RowFields.{RowFields}
 use Rattle.row_words.specs.declared.TruthRead.{TruthRead}
 use Rattle.row_words.specs.declared.TruthRead.the-variants.{Is as IsTruth, Bad as BadTruth}
 use Rattle.row_words.specs.declared.KindRead.{KindRead}

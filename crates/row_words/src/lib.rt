@@ -8,7 +8,7 @@ use basics::Kind;
 use basics::Time;
 use basics::ValueDeletable;
 use row_decode_v2::Row;
-use row_size_v2::RowFields;
+use row_flags::RowFields;
 
 const FIELDS_WORDS: usize = 6;
 

@@ -16,13 +16,13 @@ use Rattle.basics.specs.Number.{number}
 use Rattle.basics.specs.declared.Refusal.{Refusal}
 use Rattle.row_encode_v2.specs.Promise.{Encodes}
 use Rattle.row_decode_v2.specs.Promise.{Decodes}
-use Rattle.row_size_v2.specs.Says.{fieldsFrom}
+use Rattle.row_flags.specs.Says.{fieldsFrom}
 use Rattle.row_encode_v2.specs.Says.{saysEncoded}
 use Rattle.row_decode_v2.specs.Says.{rowFrom, saysRow}
 use Rattle.row_encode_v2.specs.declared.Encoded.{Encoded}
 use Rattle.row_encode_v2.specs.declared.Encoded.the-variants.{Bytes, Refused as EncodedRefused}
 use Rattle.row_decode_v2.specs.declared.Row.{Row}
-use Rattle.row_size_v2.specs.declared.RowFields.{RowFields}
+use Rattle.row_flags.specs.declared.RowFields.{RowFields}
 use Rattle.row_decode_v2.specs.declared.RowRead.{RowRead}
 use Rattle.row_decode_v2.specs.declared.RowRead.the-variants.{Read as ReadRow, Refused as RowRefused}
 use Rattle.build_in_place_v2.proofs.Writes.{entered-is}

@@ -12,10 +12,10 @@ use Rattle.layout.specs.Laws.Answer.{whether-refused}
 use Rattle.basics.specs.Answers.{apart, yes}
 use Rattle.basics.specs.Number.{number}
 use Rattle.basics.specs.declared.Refusal.{Refusal}
-use Rattle.row_size_v2.specs.Says.{fieldsFrom}
+use Rattle.row_flags.specs.Says.{fieldsFrom}
 use Rattle.row_decode_v2.specs.Says.{rowFrom}
 use Rattle.row_decode_v2.specs.declared.Row.{Row}
-use Rattle.row_size_v2.specs.declared.RowFields.{RowFields}
+use Rattle.row_flags.specs.declared.RowFields.{RowFields}
 use Rattle.block_v2.specs.Promise.{Adds, builderAfter}
 use Rattle.block_v2.specs.Says.{builderFrom as builderOver, viewOf as viewOfBuilder, saysAdd}
 use Rattle.block_v2.specs.declared.AddAnswer.the-variants.{Good as GoodAdd, Refused as AddRefused}

@@ -1,7 +1,7 @@
 -- `get_i64` keeps its promise: the signed number of eight bytes, or 9 where the input ends.
 -- It follows the definition: a refusal of `get_u64` is handed on, and a number that was read goes through `from_bits`.
 use Prim.Native.Nat.{ℕ}
-use mathlib.Core.Path.{_≡_, sym, ap, _∙_}
+use mathlib.Core.Path.{_≡_, refl, _∙_}
 use mathlib.Core.List.{List}
 use lib.IntN.{ℤ}
 use mir.Syntax.{w64}
@@ -10,8 +10,9 @@ use Rattle.layout.specs.Answer.{ok}
 use Rattle.layout.specs.Fixed.{unbits}
 use Rattle.layout.specs.Laws.Answer.{handed}
 use Rattle.layout.specs.Place.{numAt, fixedAt}
-use Rattle.buf.specs.Says.{saysWord}
 use Rattle.layout.specs.Place.{signed, asSigned, signedAt}
+use Rattle.basics.specs.Answers.{yes, no}
+use Rattle.buf.specs.Says.{saysWord, refusalOfWord}
 use borrow.Author.Needs.{needs}
 use Rattle.buf.proofs.get_i64.Statement.{statement}
 use Rattle.buf.proofs.get_i64.Tie as tie
@@ -25,21 +26,24 @@ get-u64-requires c κs = search needs
 enum-known-word : tie.Need-enum-known-word
 enum-known-word c = search needs
 
-from-bits-requires : tie.Need-from-bits-requires
-from-bits-requires c κs = search needs
+enum-told : tie.Need-enum-told
+enum-told c = search needs
 
-enum-known-word-2 : tie.Need-enum-known-word-2
-enum-known-word-2 c = search needs
+word-refusal-requires : tie.Need-word-refusal-requires
+word-refusal-requires c κs = search needs
 
 returns : tie.Need-returns
 returns c =
-    let m = c .before in
-    let word = sym (m .before .before .before .get-u64 .ensures) ∙ ap saysWord (m .before .word .given .1) in
-    signed-read _ _ _ _ _ word (toZ-ofZ {w = w64} (record { sfits = c .from-bits .ok }) ∙ c .from-bits .ensures)
+    handed asSigned (no saysWord refusalOfWord (c .before .before .before .get-u64 .ensures) (c .before .enum-told .given .1) refl (c .word-refusal .ensures))
+
+from-bits-requires : tie.Need-from-bits-requires
+from-bits-requires c κs = search needs
 
 returns-2 : tie.Need-returns-2
 returns-2 c =
-    handed asSigned (sym (c .before .before .before .get-u64 .ensures) ∙ ap saysWord (c .before .word2 .given .1))
+    let m = c .before in
+    let word = yes saysWord (m .before .before .before .get-u64 .ensures) (m .before .word .given .1) in
+    signed-read _ _ _ _ _ word (toZ-ofZ {w = w64} (record { sfits = c .from-bits .ok }) ∙ c .from-bits .ensures)
 
 pub get-i64-spec : {M : Type 1} → statement M
 get-i64-spec =
@@ -47,7 +51,8 @@ get-i64-spec =
     (tie.spec
     get-u64-requires
     enum-known-word
-    from-bits-requires
-    enum-known-word-2
+    enum-told
+    word-refusal-requires
     returns
+    from-bits-requires
     returns-2)

@@ -7,7 +7,7 @@ use lib.ListN.{length}
 use borrow.Author.Needs.{needs}
 use Rattle.layout.specs.Answer.{ok}
 use Rattle.basics.specs.Answers.{yes}
-use Rattle.row_size_v2.specs.Says.{fieldsFrom}
+use Rattle.row_flags.specs.Says.{fieldsFrom}
 use Rattle.build_in_place_v2.specs.Says.{viewFrom}
 use Rattle.build_in_place_v2.specs.Plan.{planIs, fitted, saysPlanned}
 use Rattle.build_in_place_v2.proofs.Tests.{accept-no, accept-far, accept-short, accept-places, accept-good}

@@ -1,7 +1,7 @@
 -- `grow` keeps its promise: the row passed all tests, so it has room in the data, its offset a place, and its key fits the last key's bytes, over which its suffix is put where the
 -- bytes that it shares end. The three writes are what the definition says that they are.
 use native.Mathlib.Omega.{arith}
-use Rattle.row_size_v2.specs.Says.{fieldsFrom}
+use Rattle.row_flags.specs.Says.{fieldsFrom}
 use Rattle.build_in_place_v2.proofs.Writes.{tested-fits, tested-near, tested-place, tested-rows, grew}
 use borrow.Author.Needs.{needs}
 use Rattle.build_in_place_v2.proofs.grow.Statement.{statement}

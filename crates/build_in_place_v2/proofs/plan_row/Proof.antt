@@ -10,7 +10,8 @@ use Rattle.layout.specs.Answer.{ok}
 use Rattle.layout.specs.Builder.{Builder, stateTests}
 use Rattle.layout.specs.Laws.Builder.{state-tells}
 use Rattle.basics.specs.Answers.{no}
-use Rattle.row_size_v2.specs.Says.{fieldsFrom, saysSized, sizedRefusal}
+use Rattle.row_flags.specs.Says.{fieldsFrom}
+use Rattle.row_size_v2.specs.Says.{saysSized, sizedRefusal}
 use Rattle.build_in_place_v2.specs.Says.{viewFrom}
 use Rattle.build_in_place_v2.proofs.Tests.{state-refused, state-taken, Measured, share-fits, plan-state, plan-unsized, plan-past, plan-fits, plan-over, size-small}
 use Rattle.build_in_place_v2.proofs.plan_row.Statement.{statement}

@@ -3,7 +3,7 @@
 use mathlib.Core.Path.{refl}
 use borrow.Author.Needs.{needs}
 use Rattle.basics.specs.Answers.{yes}
-use Rattle.row_size_v2.specs.Says.{fieldsFrom}
+use Rattle.row_flags.specs.Says.{fieldsFrom}
 use Rattle.build_in_place_v2.specs.Plan.{saysPlanned}
 use Rattle.build_in_place_v2.proofs.Writes.{fit-strange, fit-said, fit-refused}
 use Rattle.build_in_place_v2.proofs.would_fit_in_place.Statement.{statement}

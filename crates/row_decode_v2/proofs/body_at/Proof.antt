@@ -10,8 +10,9 @@ use Rattle.layout.specs.RowRead.{Held, bodyIs, seqAt}
 use Rattle.layout.specs.Laws.Place.{fixedAt-ends}
 use Rattle.layout.specs.Laws.RowExits.{body-long, body-short, body-word, body-flags, body-good}
 use Rattle.basics.specs.Answers.{yes, no}
-use Rattle.buf.specs.Says.{saysWord}
-use Rattle.row_decode_v2.specs.Reading.{saysFlags, flagsFrom, lengthsFrom, refusalOfWord, refusalOfFlags}
+use Rattle.buf.specs.Says.{saysWord, refusalOfWord}
+use Rattle.row_flags.specs.Says.{flagsFrom, saysFlags, refusalOfFlags}
+use Rattle.row_decode_v2.specs.Reading.{lengthsFrom}
 use borrow.Author.Needs.{needs}
 use Rattle.row_decode_v2.proofs.body_at.Statement.{statement}
 use Rattle.row_decode_v2.proofs.body_at.Tie as tie

@@ -8,7 +8,8 @@ use Rattle.layout.specs.Laws.RowExits.{encode-share}
 use Rattle.layout.specs.Laws.RowWrite.{size-tells, size-bytes, encode-unsized, encode-over, encode-sized}
 use Rattle.basics.specs.Answers.{yes, no}
 use Rattle.basics.specs.Says.{saysKind}
-use Rattle.row_size_v2.specs.Says.{fieldsFrom, saysSized, sizedRefusal}
+use Rattle.row_flags.specs.Says.{fieldsFrom}
+use Rattle.row_size_v2.specs.Says.{saysSized, sizedRefusal}
 use Rattle.row_size_v2.proofs.Writes.{lays-not, lays-wrote}
 use Rattle.row_encode_v2.proofs.encode.Statement.{statement}
 use Rattle.row_encode_v2.proofs.encode.Tie as tie

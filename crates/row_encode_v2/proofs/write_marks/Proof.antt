@@ -6,12 +6,16 @@ use mathlib.Core.List.{List, [], _∷_, _++_}
 use native.Mathlib.Omega.{arith}
 use lib.ListN.{length, set}
 use borrow.Author.Needs.{needs}
-use Rattle.layout.specs.Row.{present, flagsOf, timeBytes}
+use Rattle.layout.specs.Row.{timeBytes}
 use Rattle.layout.specs.Laws.Splice.{Wrote, wrote-set, wrote-then, wrote-as, wrote-length}
-use Rattle.basics.specs.Says.{saysKind, saysTime}
-use Rattle.row_size_v2.specs.declared.RowFields.{RowFields}
+use Rattle.basics.specs.Says.{saysTime}
+use Rattle.buf_mut.specs.declared.Put.{Put}
+use Rattle.buf_mut.specs.Promise.{Puts}
+use Rattle.buf_mut.specs.Says.{placeAfter}
+use Rattle.row_flags.specs.declared.RowFields.{RowFields}
+use Rattle.row_flags.specs.Promise.{Flagged}
+use Rattle.row_size_v2.proofs.Writes.{room-next, put-two}
 use Rattle.row_encode_v2.specs.Parts.{markBytes}
-use Rattle.row_size_v2.proofs.Writes.{room-first, room-next}
 use Rattle.row_encode_v2.proofs.write_marks.Statement.{statement}
 use Rattle.row_encode_v2.proofs.write_marks.Tie as tie
 
@@ -25,19 +29,10 @@ module _ (xs : List ℕ) (at x : ℕ) (row : RowFields) (h : at + length (markBy
   flag-wrote : Wrote xs at (x ∷ []) (set xs at x) (at + 1)
   flag-wrote = wrote-set xs at x (omega arith)
 
-  times-room : at + 1 + length (expire ++ create) ≤ length (set xs at x)
-  times-room = room-next (expire ++ create) flag-wrote h
-
-  expire-room : at + 1 + length expire ≤ length (set xs at x)
-  expire-room = room-first (at + 1) expire create times-room
-
-  module _ {ys : List ℕ} {a : ℕ} where
-    create-room : Wrote (set xs at x) (at + 1) expire ys a → a + length create ≤ length ys
-    create-room p = room-next create p times-room
-
-    marks-wrote : {zs : List ℕ} {n : ℕ} → x ≡ flagsOf (saysKind (row .kind)) (present (saysTime (row .expire))) (present (saysTime (row .create)))
-        → Wrote (set xs at x) (at + 1) expire ys a → Wrote ys a create zs n → Wrote xs at (markBytes row) zs n
-    marks-wrote e p q = wrote-as (ap (λ (b : ℕ). b ∷ (expire ++ create)) e) (wrote-then flag-wrote (wrote-then p q))
+  marks-wrote : {ys zs : List ℕ} {a n : ℕ} {p q : Put} → Flagged row x → Puts expire (set xs at x) (at + 1) p ys → a ≡ placeAfter p → Puts create ys a q zs → n ≡ placeAfter q
+      → Wrote xs at (markBytes row) zs n
+  marks-wrote e p d q f =
+      wrote-as (ap (λ (b : ℕ). b ∷ (expire ++ create)) e) (wrote-then flag-wrote (put-two (room-next (expire ++ create) flag-wrote h) p d q f))
 
 flags-requires : tie.Need-flags-requires
 flags-requires c κs = search needs
@@ -49,28 +44,26 @@ add-write-time : tie.Need-add-write-time
 add-write-time c = search needs
 
 write-time-requires : tie.Need-write-time-requires
-write-time-requires c κs =
-    let f = c .before in
-    let s = f .before .before in
-    let a = s .args in
-    expire-room (a .output .now) (a .at) (f .flags .result) (a .row) (s .pre)
+write-time-requires c κs = search needs
+
+place-after-requires : tie.Need-place-after-requires
+place-after-requires c κs = search needs
 
 write-time-requires-2 : tie.Need-write-time-requires-2
-write-time-requires-2 c κs =
-    let e = c .before .before .before in
-    let f = e .before .before in
-    let s = f .before .before in
-    let a = s .args in
-    create-room (a .output .now) (a .at) (f .flags .result) (a .row) (s .pre) (e .write-time .ensures)
+write-time-requires-2 c κs = search needs
+
+place-after-requires-2 : tie.Need-place-after-requires-2
+place-after-requires-2 c κs = search needs
 
 returns : tie.Need-returns
 returns c =
-    let t = c .before .before in
-    let e = t .before .before .before .before in
+    let t = c .before .before .before in
+    let b = t .before .before in
+    let e = b .before .before .before in
     let f = e .before .before in
     let s = f .before .before in
     let a = s .args in
-    marks-wrote (a .output .now) (a .at) (f .flags .result) (a .row) (s .pre) (f .flags .ensures) (e .write-time .ensures) (t .write-time2 .ensures)
+    marks-wrote (a .output .now) (a .at) (f .flags .result) (a .row) (s .pre) (f .flags .ensures) (e .write-time .ensures) (b .place-after .ensures) (t .write-time2 .ensures) (c .place-after2 .ensures)
 
 same-length : tie.Need-same-length
 same-length c = wrote-length (returns c)
@@ -83,6 +76,8 @@ write-marks-spec =
     slice-write-output
     add-write-time
     write-time-requires
+    place-after-requires
     write-time-requires-2
+    place-after-requires-2
     same-length
     returns)

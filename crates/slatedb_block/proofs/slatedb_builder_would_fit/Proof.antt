@@ -4,7 +4,7 @@ use mathlib.Core.Path.{_≡_}
 use lib.ListN.{length}
 use Rattle.layout.specs.Answer.{ok}
 use Rattle.basics.specs.Answers.{yes}
-use Rattle.row_size_v2.specs.Says.{fieldsFrom}
+use Rattle.row_flags.specs.Says.{fieldsFrom}
 use Rattle.row_words.specs.Words.{fieldsIn, builderCount}
 use Rattle.row_words.specs.Says.{saysFields}
 use Rattle.build_in_place_v2.specs.Promise.{FitsInPlace}

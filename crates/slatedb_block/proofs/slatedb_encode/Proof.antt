@@ -3,7 +3,7 @@
 use mathlib.Core.Path.{_≡_}
 use Rattle.layout.specs.Answer.{ok}
 use Rattle.basics.specs.Answers.{yes}
-use Rattle.row_size_v2.specs.Says.{fieldsFrom}
+use Rattle.row_flags.specs.Says.{fieldsFrom}
 use Rattle.row_words.specs.Words.{fieldsIn}
 use Rattle.row_words.specs.Says.{saysFields}
 use Rattle.slatedb_block.proofs.Rows.{encodes-bad, encodes-good, encodes-refused}
