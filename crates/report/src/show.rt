@@ -36,7 +36,7 @@ pub fn report(block: &[u8]) {
         merges: 0,
         value_bytes: 0,
     };
-    let r = tally::tally_block(zero, block);
+    let r = tally::tallied_block(zero, block);
     let answer = r.answer;
     match answer {
         TallyAnswer::Good => counts(r.tally),

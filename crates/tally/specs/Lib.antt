@@ -1,5 +1,6 @@
 pub mod Tally
 pub mod Says
+pub mod Parts
 pub mod Promise
 pub mod OneOutcome
 pub mod Laws

@@ -5,13 +5,14 @@ use mathlib.Core.List.{List}
 use Rattle.basics.specs.Says.{saysHeld}
 use Rattle.basics.specs.declared.ValueDeletable.{ValueDeletable}
 use Rattle.tally.specs.declared.Tally.{Tally}
-use Rattle.tally.specs.declared.TalliedBlock.{TalliedBlock}
+use Rattle.tally.specs.declared.TallyAnswer.{TallyAnswer}
 use Rattle.tally.specs.Tally.{counted, tallyBlock}
-use Rattle.tally.specs.Says.{afterBlock, saysTallied}
+use Rattle.tally.specs.Says.{told, afterBlock, saysAnswer}
 
 -- of the tally that comes and the tally returned, or of one lent tally at entry and at exit
 abbrev pub CountsRow : Tally → ValueDeletable → Tally → Type 0
 CountsRow t held r = r ≡ counted t (saysHeld held)
 
-abbrev pub CountsBlock : Tally → List ℕ → TalliedBlock → Type 0
-CountsBlock t b r = saysTallied r ≡ afterBlock t (tallyBlock t b)
+-- likewise, with the answer
+abbrev pub CountsBlock : Tally → List ℕ → Tally → TallyAnswer → Type 0
+CountsBlock t b s answer = told s (saysAnswer answer) ≡ afterBlock t (tallyBlock t b)

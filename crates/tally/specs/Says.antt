@@ -1,12 +1,11 @@
 -- What is answered of a block: the tally after it, and the verdict. No two answers say the same.
-use mathlib.Core.Path.{_≡_, refl, ap, ap₂, sym}
+use mathlib.Core.Path.{_≡_, refl, ap, sym}
 use Rattle.layout.specs.Answer.{Res, ok, refuse}
 use Rattle.basics.specs.Answers.{apart, refused-one}
 use Rattle.basics.specs.Number.{number}
 use Rattle.tally.specs.declared.Tally.{Tally}
 use Rattle.tally.specs.declared.TallyAnswer.{TallyAnswer}
 use Rattle.tally.specs.declared.TallyAnswer.the-variants.{Good, Refused}
-use Rattle.tally.specs.declared.TalliedBlock.{TalliedBlock}
 
 pub record Told : Type 0 where
   pub tally : Tally
@@ -24,9 +23,6 @@ abbrev pub saysAnswer : TallyAnswer → Res (Unit {0})
 saysAnswer Good = ok tt
 saysAnswer (Refused r) = refuse (number r)
 
-abbrev pub saysTallied : TalliedBlock → Told
-saysTallied r = told (r .tally) (saysAnswer (r .answer))
-
 -- ---- one to one
 
 saysAnswer-one : (a b : TallyAnswer) → saysAnswer a ≡ saysAnswer b → a ≡ b
@@ -35,7 +31,5 @@ saysAnswer-one Good (Refused r) e = absurd (apart e)
 saysAnswer-one (Refused r) Good e = absurd (apart (sym e))
 saysAnswer-one (Refused r) (Refused q) e = ap Refused (refused-one e)
 
-pub saysTallied-one : (a b : TalliedBlock) → saysTallied a ≡ saysTallied b → a ≡ b
-saysTallied-one a b e =
-    ap₂ (λ (t : Tally) (x : TallyAnswer). record { tally = t; answer = x }) (ap (λ (x : Told). x .tally) e)
-    (saysAnswer-one (a .answer) (b .answer) (ap (λ (x : Told). x .verdict) e))
+pub told-one : {t s : Tally} {a b : TallyAnswer} → told t (saysAnswer a) ≡ told s (saysAnswer b) → (t ≡ s) × (a ≡ b)
+told-one {a = a} {b = b} e = (ap (λ (x : Told). x .tally) e, saysAnswer-one a b (ap (λ (x : Told). x .verdict) e))

@@ -1,12 +1,7 @@
 // The tally of a block for the night desk: how many rows, tombstones and merges it has, and how many bytes of values they carry. Nothing of slatedb's: added.
 ghost use mathlib.Core.Path.{_≡_};
-ghost use lib.ListN.{replicate};
-ghost use Rattle.layout.specs.Answer.{ok};
-ghost use Rattle.layout.specs.Check.{check};
-ghost use Rattle.layout.specs.Cursor.{ascending, openBlock};
-ghost use Rattle.layout.specs.Limits.{maxKey};
-ghost use Rattle.step_in_place_v2.specs.Says.{viewIn};
-ghost use Rattle.tally.specs.Tally.{added, tallyBlock};
+ghost use Rattle.tally.specs.Parts.{OpensRows, PassesRow};
+ghost use Rattle.tally.specs.Tally.{added};
 ghost use Rattle.tally.specs.Promise.{CountsRow, CountsBlock};
 use basics::IterationOrder;
 use basics::Refusal;
@@ -32,6 +27,19 @@ pub enum TallyAnswer {
 pub struct TalliedBlock {
     pub tally: Tally,
     pub answer: TallyAnswer,
+}
+
+// A block that is opened for counting: the place before its first row, how many rows there are to count, which are none in a refused block, and the answer.
+struct Opening {
+    start: Place,
+    rows: usize,
+    answer: TallyAnswer,
+}
+
+// What a step passes: the place past the row, and what the row holds.
+struct Passed {
+    place: Place,
+    held: ValueDeletable,
 }
 
 // ---- one row
@@ -67,72 +75,82 @@ pub fn tallied(t: Tally, held: ValueDeletable) -> Tally
     r
 }
 
-// One tally that the desk lends, updated in place by each row.
+// The lent tally, updated in place by one row.
 pub fn tally_row(t: &mut Tally, held: ValueDeletable)
     ensures { λ _. ⌜ CountsRow (now (t .entry)) held (now (t .exit)) ⌝ }
 {
     *t = tallied(*t, held);
 }
 
-// The desk lends its tally to the row and has it back.
-fn lend(t: Tally, held: ValueDeletable) -> Tally
-    ensures { λ r. ⌜ CountsRow t held r ⌝ }
-{
-    let mut lent = t;
-    tally_row(&mut lent, held);
-    lent
-}
-
 // ---- a block
 
-// The tally with each of the block's n rows counted, stepped over in place. The check has accepted the block, so each step finds its row.
-fn fold(t: Tally, block: &[u8], start: Place, n: usize) -> Tally
-    requires { ⌜ check (now block) ≡ ok n ⌝ }
-    requires { ⌜ openBlock (now block) ascending ≡ ok (viewIn start (replicate maxKey 0)) ⌝ }
-    ensures { λ r. ⌜ tallyBlock t (now (block .entry)) ≡ ok r ⌝ }
-{
-    let mut tally = t;
-    let mut p = start;
-    let mut carried = [0; basics::MAX_KEY];
-    let mut key = [0; basics::MAX_KEY];
-    let mut i = 0;
-    while i < n {
-        let moved = step_in_place_v2::next_in_place(&mut carried, p, block, &mut key);
-        match moved {
-            Moved::Found { place, row } => {
-                let held = row.held;
-                tally = lend(tally, held);
-                p = place;
-                i += 1;
-            }
-            Moved::Done(_) => {
-                return tally;
-            }
-            Moved::Refused(_) => {
-                return tally;
-            }
-        }
-    }
-    tally
-}
-
-// The tally with each row of the block counted; a block that the check refuses leaves it as it was.
-pub fn tally_block(t: Tally, block: &[u8]) -> TalliedBlock
-    ensures { λ r. ⌜ CountsBlock t (now (block .entry)) r ⌝ }
+fn open(block: &[u8]) -> Opening
+    ensures { λ r. ⌜ OpensRows (now (block .entry)) r ⌝ }
 {
     let checked = block_check_v2::check(block);
+    let opened = BlockIteratorV2::new(block, IterationOrder::Ascending);
+    let start = block_iterator_v2::place_of(opened.iterator);
     match checked {
-        Checked::Rows(n) => {
-            let opened = BlockIteratorV2::new(block, IterationOrder::Ascending);
-            let tally = fold(t, block, block_iterator_v2::place_of(opened.iterator), n);
-            TalliedBlock {
-                tally,
-                answer: TallyAnswer::Good,
-            }
-        }
-        Checked::Refused(refusal) => TalliedBlock {
-            tally: t,
+        Checked::Rows(n) => Opening {
+            start,
+            rows: n,
+            answer: TallyAnswer::Good,
+        },
+        Checked::Refused(refusal) => Opening {
+            start,
+            rows: 0,
             answer: TallyAnswer::Refused(refusal),
         },
     }
+}
+
+// One step in place. The check has accepted the block where there are rows to count, so there each step finds its row.
+fn step(
+    carried: &mut [u8; basics::MAX_KEY],
+    p: Place,
+    block: &[u8],
+    key: &mut [u8; basics::MAX_KEY],
+) -> Passed
+    ensures { λ r. ⌜ PassesRow p (now (carried .entry)) (now (block .entry)) (now (key .entry)) r (now (carried .exit)) (now (key .exit)) ⌝ }
+{
+    let none = Passed {
+        place: p,
+        held: ValueDeletable::Tombstone,
+    };
+    let moved = step_in_place_v2::next_in_place(carried, p, block, key);
+    match moved {
+        Moved::Found { place, row } => {
+            let held = row.held;
+            Passed { place, held }
+        }
+        Moved::Done(_) => none,
+        Moved::Refused(_) => none,
+    }
+}
+
+// One tally that the desk lends for the whole block, and each row updates in place. A block that the check refuses leaves it as it was.
+pub fn tally_block(t: &mut Tally, block: &[u8]) -> TallyAnswer
+    ensures { λ r. ⌜ CountsBlock (now (t .entry)) (now (block .entry)) (now (t .exit)) r ⌝ }
+{
+    let opened = open(block);
+    let mut p = opened.start;
+    let mut left = opened.rows;
+    let mut carried = [0; basics::MAX_KEY];
+    let mut key = [0; basics::MAX_KEY];
+    while 0 < left {
+        let passed = step(&mut carried, p, block, &mut key);
+        tally_row(t, passed.held);
+        p = passed.place;
+        left -= 1;
+    }
+    opened.answer
+}
+
+// The same for a desk that holds its tally by value: it is lent for the block, and had back.
+pub fn tallied_block(t: Tally, block: &[u8]) -> TalliedBlock
+    ensures { λ r. ⌜ CountsBlock t (now (block .entry)) (r .tally) (r .answer) ⌝ }
+{
+    let mut tally = t;
+    let answer = tally_block(&mut tally, block);
+    TalliedBlock { tally, answer }
 }
