@@ -1,7 +1,7 @@
 -- One row counted, the loop over a block's rows, and the whole. The loop: the rows still to come, counted from here on, make the whole.
 -- An accepted block's walk gives every row (`walk-steps`), so while there are rows to come each step finds the next one, and no step of the loop finds none.
 use Prim.Native.Nat.{ℕ, _+_, _<_, _≤_}
-use mathlib.Core.Path.{_≡_, refl, ap, ap₂, sym, _∙_}
+use mathlib.Core.Path.{_≡_, refl, ap, sym, _∙_}
 use mathlib.Core.List.{List, [], _∷_}
 use native.Mathlib.Omega.{arith}
 use lib.ListN.{length, replicate}
@@ -36,7 +36,7 @@ use Rattle.step_in_place_v2.specs.declared.Moved.{Moved}
 use Rattle.step_in_place_v2.specs.declared.Moved.the-variants.{Found, Done, Refused}
 use Rattle.step_in_place_v2.specs.declared.Place.{Place}
 use Rattle.block_iterator_v2.specs.Promise.{Opens}
-use Rattle.block_iterator_v2.specs.Says.{placeOf, viewOf}
+use Rattle.block_iterator_v2.specs.Says.{viewOf}
 use Rattle.block_iterator_v2.specs.declared.Opened.{Opened}
 use Rattle.tally.specs.declared.Tally.{Tally}
 use Rattle.tally.specs.Tally.{tallyIs, added, counted, countedRows, tallyBlock}
@@ -137,12 +137,12 @@ module _ (b : List ℕ) (a : Checked) (checks : Checks b a) where
   accepted e = yes saysChecked checks e
 
   -- the cursor that an accepted block opens with, and its zeros
-  pub opens-so : {n : ℕ} (o : Opened) {p : Place} → a ≡ RowsChecked n → Opens b Ascending o → p ≡ placeOf (o .iterator) → openBlock b ascending ≡ ok (viewIn p (replicate maxKey 0))
-  opens-so {n} o e opens q =
+  pub opens-so : {n : ℕ} (o : Opened) → a ≡ RowsChecked n → Opens b Ascending o → openBlock b ascending ≡ ok (viewIn (o .iterator .place) (replicate maxKey 0))
+  opens-so {n} o e opens =
       let h = has-rows b n (accepted e) in
       let w = rows-walk b n (h .0) (h .1) (h .2) in
       let view : viewOf (o .iterator) ≡ cursorOr ascending (openBlock b ascending) = opens .view in
-      w .opens-up ∙ ap ok (sym (ap (cursorOr ascending) (w .opens-up)) ∙ sym view ∙ sym (ap₂ viewIn q (sym (opens .bytes))))
+      w .opens-up ∙ ap ok (sym (ap (cursorOr ascending) (w .opens-up)) ∙ sym view ∙ ap (viewIn (o .iterator .place)) (opens .bytes))
 
   pub block-refused : (t : Tally) {x : Refusal} → a ≡ CheckRefused x → told t (refuse (number x)) ≡ afterBlock t (tallyBlock t b)
   unfolding tallyBlock

@@ -124,7 +124,7 @@ pub fn tally_block(t: Tally, block: &[u8]) -> TalliedBlock
     match checked {
         Checked::Rows(n) => {
             let opened = BlockIteratorV2::new(block, IterationOrder::Ascending);
-            let tally = fold(t, block, block_iterator_v2::place_of(opened.iterator), n);
+            let tally = fold(t, block, opened.iterator.place, n);
             TalliedBlock {
                 tally,
                 answer: TallyAnswer::Good,

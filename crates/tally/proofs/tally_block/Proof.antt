@@ -14,14 +14,11 @@ enum-known-checked c = search needs
 new-requires : tie.Need-new-requires
 new-requires c κs = search needs
 
-place-of-requires : tie.Need-place-of-requires
-place-of-requires c κs = search needs
-
 fold-requires : tie.Need-fold-requires
 fold-requires c κs =
-    let known = c .before .before .before in
+    let known = c .before .before in
     let checks = known .before .before .check .ensures in
-    (accepted _ _ checks (known .checked .given .1), opens-so _ _ checks _ (known .checked .given .1) (c .before .new .ensures) (c .place-of .ensures))
+    (accepted _ _ checks (known .checked .given .1), opens-so _ _ checks _ (known .checked .given .1) (c .new .ensures))
 
 enum-known-checked-2 : tie.Need-enum-known-checked-2
 enum-known-checked-2 c = search needs
@@ -39,7 +36,6 @@ tally-block-spec =
     check-requires
     enum-known-checked
     new-requires
-    place-of-requires
     fold-requires
     enum-known-checked-2
     returns
