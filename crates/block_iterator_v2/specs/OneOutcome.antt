@@ -16,8 +16,7 @@ use Rattle.block_iterator_v2.specs.declared.Next.{Next}
 use Rattle.block_iterator_v2.specs.declared.Sought.{Sought}
 use Rattle.block_iterator_v2.specs.declared.EmptyRead.{EmptyRead}
 use Rattle.block_iterator_v2.specs.Says.{viewOf, viewOf-one, saysOpen-one, saysNext-one, saysSeek-one, saysEmpty-one}
-use Rattle.step_in_place_v2.specs.declared.Place.{Place}
-use Rattle.block_iterator_v2.specs.Promise.{Opens, Whole, StepsNext, SeeksTarget, TellsEmpty, PlacesCursor}
+use Rattle.block_iterator_v2.specs.Promise.{Opens, Whole, StepsNext, SeeksTarget, TellsEmpty}
 
 pub new-settled : (b : List ℕ) (order : IterationOrder) (r q : Opened) → Opens b order r → Opens b order q → r ≡ q
 new-settled b order r q m n =
@@ -40,15 +39,12 @@ next-settled self b out r q ys zs m n = (
 )
 
 pub seek-settled : (self : BlockIteratorV2) (b target : List ℕ) (r q : Sought) → SeeksTarget self b target r → SeeksTarget self b target q
-    → (r .answer ≡ q .answer) × (viewOf (r .iterator) ≡ viewOf (q .iterator)) × Whole (seek (saysOrder (self .order)) b target) (r .iterator) (q .iterator)
+    → (r .answer ≡ q .answer) × (viewOf (r .iterator) ≡ viewOf (q .iterator)) × Whole (seek (saysOrder (self .place .order)) b target) (r .iterator) (q .iterator)
 seek-settled self b target r q m n = (
   saysSeek-one (r .answer) (q .answer) (m .answer ∙ sym (n .answer)),
   m .view ∙ sym (n .view),
-  wholes (seek (saysOrder (self .order)) b target) (r .iterator) (q .iterator) self (m .whole) (n .whole),
+  wholes (seek (saysOrder (self .place .order)) b target) (r .iterator) (q .iterator) self (m .whole) (n .whole),
 )
 
 pub is-empty-settled : (self : BlockIteratorV2) (b : List ℕ) (r q : EmptyRead) → TellsEmpty self b r → TellsEmpty self b q → r ≡ q
 is-empty-settled self b r q m n = saysEmpty-one r q (m ∙ sym n)
-
-pub place-of-settled : (c : BlockIteratorV2) (r q : Place) → PlacesCursor c r → PlacesCursor c q → r ≡ q
-place-of-settled c r q m n = m ∙ sym n

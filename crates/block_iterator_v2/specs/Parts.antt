@@ -1,6 +1,6 @@
 -- What the private functions answer.
 use Prim.Native.Nat.{ℕ}
-use mathlib.Core.Bool.{Bool}
+use mathlib.Core.Bool.{false}
 use lib.ListN.{replicate}
 use Rattle.layout.specs.Limits.{maxKey}
 use Rattle.basics.specs.declared.IterationOrder.{IterationOrder}
@@ -15,8 +15,8 @@ use Rattle.block_iterator_v2.specs.declared.SeekAnswer.{SeekAnswer}
 use Rattle.block_iterator_v2.specs.declared.SeekAnswer.the-variants.{Landed, Done as SeekDone, Refused as SeekRefused}
 
 -- a cursor with no key
-abbrev pub placed : IterationOrder → ℕ → ℕ → Bool → BlockIteratorV2
-placed order region at mark = record { order = order; region = region; at = at; key = replicate maxKey 0; «key_len» = 0; done = mark }
+abbrev pub placed : IterationOrder → ℕ → ℕ → BlockIteratorV2
+placed order region at = record { place = record { order = order; region = region; at = at; «key_len» = 0; done = false }; key = replicate maxKey 0 }
 
 -- what the step over the key's bytes answers
 abbrev pub answerOf : Moved → NextAnswer

@@ -11,14 +11,13 @@ use Rattle.layout.specs.Seek.{Sought as SoughtL, seek, soughtAfter}
 use Rattle.basics.specs.Says.{saysOrder}
 use Rattle.basics.specs.declared.IterationOrder.{IterationOrder}
 use Rattle.step_in_place_v2.specs.Says.{told}
-use Rattle.step_in_place_v2.specs.declared.Place.{Place}
 use Rattle.seek_in_place_v2.specs.Says.{reported}
 use Rattle.block_iterator_v2.specs.declared.BlockIteratorV2.{BlockIteratorV2}
 use Rattle.block_iterator_v2.specs.declared.Opened.{Opened}
 use Rattle.block_iterator_v2.specs.declared.Next.{Next}
 use Rattle.block_iterator_v2.specs.declared.Sought.{Sought}
 use Rattle.block_iterator_v2.specs.declared.EmptyRead.{EmptyRead}
-use Rattle.block_iterator_v2.specs.Says.{placeOf, viewOf, saysOpen, saysNext, saysSeek, saysEmpty}
+use Rattle.block_iterator_v2.specs.Says.{viewOf, saysOpen, saysNext, saysSeek, saysEmpty}
 
 -- a cursor, and beside a refusal one in region 0 at 0; its key's bytes are zeros
 pub record Opens (b : List ℕ) (order : IterationOrder) (r : Opened) : Type 0 where
@@ -48,11 +47,7 @@ pub record Seeks (want : Res SoughtL) (self : BlockIteratorV2) (r : Sought) : Ty
   pub whole : Whole want (r .iterator) self
 
 abbrev pub SeeksTarget : BlockIteratorV2 → List ℕ → List ℕ → Sought → Type 0
-SeeksTarget self b target r = Seeks (seek (saysOrder (self .order)) b target) self r
+SeeksTarget self b target r = Seeks (seek (saysOrder (self .place .order)) b target) self r
 
 abbrev pub TellsEmpty : BlockIteratorV2 → List ℕ → EmptyRead → Type 0
 TellsEmpty self b r = saysEmpty r ≡ isEmpty (viewOf self) b
-
--- all of a cursor but the bytes of its key
-abbrev pub PlacesCursor : BlockIteratorV2 → Place → Type 0
-PlacesCursor c r = r ≡ placeOf c

@@ -22,12 +22,8 @@ use Rattle.block_iterator_v2.specs.declared.SeekAnswer.the-variants.{Lan
 use Rattle.block_iterator_v2.specs.declared.EmptyRead.{EmptyRead}
 use Rattle.block_iterator_v2.specs.declared.EmptyRead.the-variants.{Is, Refused as EmptyRefused}
 
--- all of a cursor but the bytes of its key
-abbrev pub placeOf : BlockIteratorV2 → Place
-placeOf c = record { order = c .order; region = c .region; at = c .at; «key_len» = c .«key_len»; done = c .done }
-
 abbrev pub viewOf : BlockIteratorV2 → Cursor
-viewOf c = viewIn (placeOf c) (c .key)
+viewOf c = viewIn (c .place) (c .key)
 
 abbrev pub saysOpen : OpenAnswer → Res (Unit {0})
 saysOpen Good = ok tt
@@ -52,8 +48,7 @@ saysEmpty (EmptyRefused r) = refuse (number r)
 -- two cursors that are known as one, with the same bytes past the key
 pub viewOf-one : (a b : BlockIteratorV2) → viewOf a ≡ viewOf b → a .key ≡ b .key → a ≡ b
 viewOf-one a b e k =
-    ap₂ (λ (p : Place) (x : List ℕ). record { order = p .order; region = p .region; at = p .at; key = x; «key_len» = p .«key_len»; done = p .done })
-    (viewIn-one (placeOf a) (placeOf b) (a .key) (b .key) e) k
+    ap₂ (λ (p : Place) (x : List ℕ). record { place = p; key = x }) (viewIn-one (a .place) (b .place) (a .key) (b .key) e) k
 
 pub saysOpen-one : (a b : OpenAnswer) → saysOpen a ≡ saysOpen b → a ≡ b
 saysOpen-one Good Good e = refl

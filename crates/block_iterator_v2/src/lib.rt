@@ -13,7 +13,7 @@ ghost use Rattle.step_in_place_v2.specs.Says.{viewIn, placeAfter};
 ghost use Rattle.seek_in_place_v2.specs.Promise.{Finds};
 ghost use Rattle.seek_in_place_v2.specs.Says.{placeFound};
 ghost use Rattle.block_iterator_v2.specs.Parts.{placed, answerOf, answerFound};
-ghost use Rattle.block_iterator_v2.specs.Promise.{PlacesCursor, Opens, StepsNext, SeeksTarget, TellsEmpty};
+ghost use Rattle.block_iterator_v2.specs.Promise.{Opens, StepsNext, SeeksTarget, TellsEmpty};
 use basics::IterationOrder;
 use basics::Refusal;
 use row_decode_v2::Row;
@@ -23,14 +23,10 @@ use step_in_place_v2::Place;
 use trailer::Tested;
 use trailer::TrailerRead;
 
-// A cursor: its order, the region that it stands in and its position there, the first `key_len` bytes of `key` as the key before, and the mark "done".
+// A cursor: its place, and beside it the bytes of the key before, of which the first `place.key_len` tell. A fresh one has `[0; basics::MAX_KEY]` and length 0.
 pub struct BlockIteratorV2 {
-    pub order: IterationOrder,
-    pub region: usize,
-    pub at: usize,
+    pub place: Place,
     pub key: [u8; basics::MAX_KEY],
-    pub key_len: usize,
-    pub done: bool,
 }
 
 pub enum OpenAnswer {
@@ -135,32 +131,21 @@ fn answer_sought(found: Found) -> SeekAnswer
     }
 }
 
-// A cursor's numbers, without its key's bytes.
-pub fn place_of(c: BlockIteratorV2) -> Place
-    ensures { λ r. ⌜ PlacesCursor c r ⌝ }
-{
-    let order = c.order;
-    Place {
-        order,
-        region: c.region,
-        at: c.at,
-        key_len: c.key_len,
-        done: c.done,
-    }
-}
-
 impl BlockIteratorV2 {
     // A cursor with no key.
-    fn placed(order: IterationOrder, region: usize, at: usize, done: bool) -> BlockIteratorV2
-        ensures { λ r. ⌜ r ≡ placed order region at done ⌝ }
+    fn placed(order: IterationOrder, region: usize, at: usize) -> BlockIteratorV2
+        ensures { λ r. ⌜ r ≡ placed order region at ⌝ }
     {
-        BlockIteratorV2 {
+        let place = Place {
             order,
             region,
             at,
-            key: [0; basics::MAX_KEY],
             key_len: 0,
-            done,
+            done: false,
+        };
+        BlockIteratorV2 {
+            place,
+            key: [0; basics::MAX_KEY],
         }
     }
 
@@ -168,7 +153,7 @@ impl BlockIteratorV2 {
     pub fn new(block: &[u8], order: IterationOrder) -> Opened
         ensures { λ r. ⌜ Opens (now (block .entry)) order r ⌝ }
     {
-        let start = BlockIteratorV2::placed(order, 0, 0, false);
+        let start = BlockIteratorV2::placed(order, 0, 0);
         let read = trailer::trailer_of(block);
         let TrailerRead::Good(t) = read else {
             return Opened {
@@ -189,7 +174,7 @@ impl BlockIteratorV2 {
                 answer: OpenAnswer::Good,
             },
             IterationOrder::Descending => {
-                let end = BlockIteratorV2::placed(order, t.count - 1, t.size, false);
+                let end = BlockIteratorV2::placed(order, t.count - 1, t.size);
                 Opened {
                     iterator: end,
                     answer: OpenAnswer::Good,
@@ -207,60 +192,40 @@ impl BlockIteratorV2 {
         let TrailerRead::Good(t) = read else {
             return EmptyRead::Refused(trailer::trailer_refusal(read));
         };
-        if self.done {
+        let p = self.place;
+        if p.done {
             return EmptyRead::Is(true);
         }
-        let at = self.at;
-        let order = self.order;
+        let at = p.at;
+        let order = p.order;
         match order {
             IterationOrder::Ascending => EmptyRead::Is(t.size <= at),
             IterationOrder::Descending => EmptyRead::Is(false),
         }
     }
 
-    // One step, made on the cursor's numbers and its key where it lies; then the numbers are put back. The order is not a step's to change.
+    // One step, made on the cursor's place and its key where it lies; then the place is put back.
     pub fn next(mut self, block: &[u8], out: &mut [u8]) -> Next
         ensures { λ r. ⌜ StepsNext self (now (block .entry)) (now (out .entry)) r (now (out .exit)) ⌝ }
     {
-        // By hand, not by `place_of`, which would take the key's array along.
-        let order = self.order;
-        let came = Place {
-            order,
-            region: self.region,
-            at: self.at,
-            key_len: self.key_len,
-            done: self.done,
-        };
+        let came = self.place;
         let moved = next_in_array(&mut self.key, came, block, out);
         let place = place_after(moved, came);
-        self.region = place.region;
-        self.at = place.at;
-        self.key_len = place.key_len;
-        self.done = place.done;
+        self.place = place;
         Next {
             iterator: self,
             answer: answer_of(moved),
         }
     }
 
-    // A seek, made on the cursor's key where it lies; then the numbers are put back. It starts afresh: only the order is taken from the cursor.
+    // A seek, made on the cursor's key where it lies; then the place is put back. It starts afresh: only the order is taken from the cursor.
     pub fn seek(mut self, block: &[u8], target: &[u8]) -> Sought
         ensures { λ r. ⌜ SeeksTarget self (now (block .entry)) (now (target .entry)) r ⌝ }
     {
-        let order = self.order;
-        let came = Place {
-            order,
-            region: self.region,
-            at: self.at,
-            key_len: self.key_len,
-            done: self.done,
-        };
+        let came = self.place;
         let found = seek_in_array(&mut self.key, came, block, target);
         let left = place_sought(found, came);
-        self.region = left.region;
-        self.at = left.at;
-        self.key_len = left.key_len;
-        self.done = left.done;
+        self.place = left;
         Sought {
             iterator: self,
             answer: answer_sought(found),

@@ -27,7 +27,7 @@ use Rattle.block_v2.specs.declared.BlockBuilderV2.{BlockBuilderV2}
 use Rattle.block_v2.specs.declared.New.{New}
 use Rattle.block_v2.specs.declared.Made.the-variants.{Good as GoodMade}
 use Rattle.block_v2.specs.declared.AddAnswer.the-variants.{Good as GoodAdd, Refused as AddRefused}
-use Rattle.block_v2.specs.Says.{stateOf, viewOf, builderFrom, noKey, badSettings}
+use Rattle.block_v2.specs.Says.{viewOf, builderFrom, noKey, badSettings}
 use Rattle.block_v2.specs.Promise.{Makes, AddsAs, Builds}
 
 -- ---- a new builder
@@ -42,18 +42,18 @@ module _ (size interval : ℕ) where
 
 -- ---- the other methods, over the builder's numbers and the bytes of its last key
 
-module _ (self : BlockBuilderV2) {s : State} (is : s ≡ stateOf self) where
+module _ (self : BlockBuilderV2) where
   pub fits : (dataLen placesLen : ℕ) (key : Key) (f : Fields) {x : Res (Unit {0})} → length (self .«last_key») ≡ maxKey
-      → x ≡ (bind (entered s (self .«last_key»)) λ v. wouldFit v dataLen placesLen key f) → x ≡ wouldFit (viewOf self) dataLen placesLen key f
-  fits dataLen placesLen key f long q = rw (is, entered-is (stateOf self) (self .«last_key») long) at q
+      → x ≡ (bind (entered (self .state) (self .«last_key»)) λ v. wouldFit v dataLen placesLen key f) → x ≡ wouldFit (viewOf self) dataLen placesLen key f
+  fits dataLen placesLen key f long q = rw (entered-is (self .state) (self .«last_key») long) at q
 
   module _ (bytes places : List ℕ) (key : Key) (f : Fields) (long : length (self .«last_key») ≡ maxKey) {r : Grown} {last′ bytes′ places′ : List ℕ}
-      (g : AddsInPlaceAs (bind (entered s (self .«last_key»)) λ v. add v (length bytes) (length places) key f) s (self .«last_key») bytes places key f r last′ bytes′ places′) where
-    added : AddsInPlaceAs (add (viewOf self) (length bytes) (length places) key f) (stateOf self) (self .«last_key») bytes places key f r last′ bytes′ places′
-    added = rw (is, entered-is (stateOf self) (self .«last_key») long) at g
+      (g : AddsInPlaceAs (bind (entered (self .state) (self .«last_key»)) λ v. add v (length bytes) (length places) key f) (self .state) (self .«last_key») bytes places key f r last′ bytes′ places′) where
+    added : AddsInPlaceAs (add (viewOf self) (length bytes) (length places) key f) (self .state) (self .«last_key») bytes places key f r last′ bytes′ places′
+    added = rw (entered-is (self .state) (self .«last_key») long) at g
 
     pub adds-not : {x : Refusal} → r ≡ GrownRefused x
-        → AddsAs (add (viewOf self) (length bytes) (length places) key f) self bytes places key f (record { builder = builderFrom (stateOf self) last′; answer = AddRefused x }) bytes′ places′
+        → AddsAs (add (viewOf self) (length bytes) (length places) key f) self bytes places key f (record { builder = builderFrom (self .state) last′; answer = AddRefused x }) bytes′ places′
     adds-not q =
         let h = rw q at added in
         let e = passed-not (add (viewOf self) (length bytes) (length places) key f) stateFrom (sym (h .answer)) in
@@ -61,21 +61,7 @@ module _ (self : BlockBuilderV2) {s : State} (is : s ≡ stateOf self) where
         rw (e, k .last-after) (record { answer = refl; view = refl; whole = refl; bytes-after = k .bytes-after; places-after = k .places-after })
 
     pub adds-good : {t : State} → r ≡ GrownRow t
-        → AddsAs (add (viewOf self) (length bytes) (length places) key f) self bytes places key f
-        (record {
-          builder =
-              record {
-                «block_size» = self .«block_size»;
-                «restart_interval» = self .«restart_interval»;
-                used = t .used;
-                restarts = t .restarts;
-                counter = t .counter;
-                «last_key» = last′;
-                «last_key_len» = t .«last_key_len»;
-              };
-          answer = GoodAdd;
-        })
-        bytes′ places′
+        → AddsAs (add (viewOf self) (length bytes) (length places) key f) self bytes places key f (record { builder = builderFrom t last′; answer = GoodAdd }) bytes′ places′
     adds-good {t} q =
         let h = rw q at added in
         let p = passed (add (viewOf self) (length bytes) (length places) key f) stateFrom (sym (h .answer)) in
@@ -87,7 +73,7 @@ module _ (self : BlockBuilderV2) {s : State} (is : s ≡ stateOf self) where
         rw (e, n, k .last-after)
         (record { answer = refl; view = rw over refl; whole = refl; bytes-after = k .bytes-after; places-after = k .places-after })
 
-  pub builds : (bytes places : List ℕ) {r : BuildAnswer} {bytes′ : List ℕ} → Finishes s bytes places r bytes′ → Builds self bytes places (record { builder = self; answer = r }) bytes′
+  pub builds : (bytes places : List ℕ) {r : BuildAnswer} {bytes′ : List ℕ} → Finishes (self .state) bytes places r bytes′ → Builds self bytes places (record { builder = self; answer = r }) bytes′
   builds bytes places f =
-      let e = rw is at (f (self .«last_key»)) in
+      let e = f (self .«last_key») in
       record { answer = e .answer; whole = refl; bytes-after = e .bytes-after }

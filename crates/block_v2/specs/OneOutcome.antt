@@ -13,14 +13,13 @@ use Rattle.row_flags.specs.declared.RowFields.{RowFields}
 use Rattle.build_in_place_v2.specs.Says.{stateFrom, saysFit-one, saysBuild-one}
 use Rattle.build_in_place_v2.specs.declared.Fit.{Fit}
 use Rattle.build_in_place_v2.specs.declared.BuildAnswer.{BuildAnswer}
-use Rattle.build_in_place_v2.specs.declared.State.{State}
 use Rattle.block_v2.specs.declared.BlockBuilderV2.{BlockBuilderV2}
 use Rattle.block_v2.specs.declared.Made.{Made}
 use Rattle.block_v2.specs.declared.New.{New}
 use Rattle.block_v2.specs.declared.AddAnswer.{AddAnswer}
 use Rattle.block_v2.specs.declared.Added.{Added}
 use Rattle.block_v2.specs.declared.Built.{Built}
-use Rattle.block_v2.specs.Promise.{Makes, Fits, Adds, Empties, Builds, TakesState}
+use Rattle.block_v2.specs.Promise.{Makes, Fits, Adds, Empties, Builds}
 use Rattle.block_v2.specs.Says.{viewOf, builderFrom, saysMade-one, saysAdd-one}
 
 -- a builder is its view and the bytes of its last key
@@ -69,6 +68,3 @@ build-settled self bytes places r q ys zs a b = (
       (saysBuild-one (r .answer) (q .answer) (a .answer ∙ sym (b .answer))),
   a .bytes-after ∙ sym (b .bytes-after),
 )
-
-pub state-of-settled : (b : BlockBuilderV2) (r q : State) → TakesState b r → TakesState b q → r ≡ q
-state-of-settled b r q m n = m ∙ sym n

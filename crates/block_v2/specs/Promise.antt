@@ -13,12 +13,11 @@ use Rattle.row_flags.specs.Says.{fieldsFrom}
 use Rattle.row_flags.specs.declared.RowFields.{RowFields}
 use Rattle.build_in_place_v2.specs.Says.{stateFrom, saysFit, saysBuild}
 use Rattle.build_in_place_v2.specs.declared.Fit.{Fit}
-use Rattle.build_in_place_v2.specs.declared.State.{State}
 use Rattle.block_v2.specs.declared.BlockBuilderV2.{BlockBuilderV2}
 use Rattle.block_v2.specs.declared.New.{New}
 use Rattle.block_v2.specs.declared.Added.{Added}
 use Rattle.block_v2.specs.declared.Built.{Built}
-use Rattle.block_v2.specs.Says.{stateOf, viewOf, builderFrom, noKey, saysMade, saysAdd}
+use Rattle.block_v2.specs.Says.{viewOf, builderFrom, noKey, saysMade, saysAdd}
 
 -- the builder that is wanted, or beside a refusal the zero one, with no byte set in its last key
 pub record MakesAs (want : Res Builder) (r : New) : Type 0 where
@@ -58,7 +57,3 @@ pub record BuildsAs (want : Res ℕ) (self : BlockBuilderV2) (bytes places : Lis
 
 abbrev pub Builds : BlockBuilderV2 → List ℕ → List ℕ → Built → List ℕ → Type 0
 Builds self bytes places r bytes′ = BuildsAs (build (viewOf self) (length bytes) (length places)) self bytes places r bytes′
-
--- all of a builder but the bytes of its last key
-abbrev pub TakesState : BlockBuilderV2 → State → Type 0
-TakesState b r = r ≡ stateOf b

@@ -20,32 +20,12 @@ use Rattle.block_v2.specs.declared.AddAnswer.the-variants.{Good as GoodA
 
 -- ---- the builder
 
-abbrev pub stateOf : BlockBuilderV2 → State
-stateOf b =
-    record {
-      «block_size» = b .«block_size»;
-      «restart_interval» = b .«restart_interval»;
-      used = b .used;
-      restarts = b .restarts;
-      counter = b .counter;
-      «last_key_len» = b .«last_key_len»;
-    }
-
 abbrev pub viewOf : BlockBuilderV2 → Builder
-viewOf b = viewFrom (stateOf b) (b .«last_key»)
+viewOf b = viewFrom (b .state) (b .«last_key»)
 
 -- the builder of these numbers, over these bytes of the last key and whatever follows them
 abbrev pub builderFrom : State → List ℕ → BlockBuilderV2
-builderFrom s last =
-    record {
-      «block_size» = s .«block_size»;
-      «restart_interval» = s .«restart_interval»;
-      used = s .used;
-      restarts = s .restarts;
-      counter = s .counter;
-      «last_key» = last;
-      «last_key_len» = s .«last_key_len»;
-    }
+builderFrom s last = record { state = s; «last_key» = last }
 
 abbrev pub noKey : List ℕ
 noKey = replicate maxKey 0

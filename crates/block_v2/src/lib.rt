@@ -8,7 +8,7 @@ ghost use Rattle.layout.specs.Limits.{defaultInterval};
 ghost use Rattle.build_in_place_v2.specs.Promise.{AddsInPlace};
 ghost use Rattle.build_in_place_v2.specs.Says.{stateFrom};
 ghost use Rattle.block_v2.specs.Says.{builderFrom, noKey, badSettings};
-ghost use Rattle.block_v2.specs.Promise.{TakesState, Makes, Fits, Adds, Empties, Builds};
+ghost use Rattle.block_v2.specs.Promise.{Makes, Fits, Adds, Empties, Builds};
 use basics::Refusal;
 use build_in_place_v2::BuildAnswer;
 use build_in_place_v2::Fit;
@@ -16,15 +16,10 @@ use build_in_place_v2::Grown;
 use build_in_place_v2::State;
 use row_flags::RowFields;
 
-// The numbers of `State`, and the most recent key. Bytes past its length tell nothing.
+// A builder's numbers, and beside them the bytes of the most recent key, of which the first `state.last_key_len` tell.
 pub struct BlockBuilderV2 {
-    pub block_size: usize,
-    pub restart_interval: usize,
-    pub used: usize,
-    pub restarts: usize,
-    pub counter: usize,
+    pub state: State,
     pub last_key: [u8; basics::MAX_KEY],
-    pub last_key_len: usize,
 }
 
 pub enum Made {
@@ -53,31 +48,20 @@ pub struct Built {
     pub answer: BuildAnswer,
 }
 
-// A builder's numbers, without its last key's bytes.
-pub fn state_of(b: BlockBuilderV2) -> State
-    ensures { λ r. ⌜ TakesState b r ⌝ }
-{
-    State {
-        block_size: b.block_size,
-        restart_interval: b.restart_interval,
-        used: b.used,
-        restarts: b.restarts,
-        counter: b.counter,
-        last_key_len: b.last_key_len,
-    }
-}
-
 fn empty_builder(block_size: usize, restart_interval: usize) -> BlockBuilderV2
     ensures { λ r. ⌜ r ≡ builderFrom (stateFrom (fresh «block_size» «restart_interval»)) noKey ⌝ }
 {
-    BlockBuilderV2 {
+    let state = State {
         block_size,
         restart_interval,
         used: 0,
         restarts: 0,
         counter: 0,
-        last_key: [0; basics::MAX_KEY],
         last_key_len: 0,
+    };
+    BlockBuilderV2 {
+        state,
+        last_key: [0; basics::MAX_KEY],
     }
 }
 
@@ -143,15 +127,7 @@ impl BlockBuilderV2 {
     ) -> Fit
         ensures { λ r. ⌜ Fits self «data_len» «places_len» (now (key .entry)) (now (value .entry)) row r ⌝ }
     {
-        // By hand, not by `state_of`, which would take the last key's array along.
-        let s = State {
-            block_size: self.block_size,
-            restart_interval: self.restart_interval,
-            used: self.used,
-            restarts: self.restarts,
-            counter: self.counter,
-            last_key_len: self.last_key_len,
-        };
+        let s = self.state;
         build_in_place_v2::would_fit_in_place(
             &self.last_key,
             s,
@@ -174,14 +150,11 @@ impl BlockBuilderV2 {
     ) -> Added
         ensures { λ r. ⌜ Adds self (now («data» .entry)) (now (restarts .entry)) (now (key .entry)) (now (value .entry)) row r (now («data» .exit)) (now (restarts .exit)) ⌝ }
     {
-        let s = state_of(self);
+        let s = self.state;
         let grown = add_in_array(&mut self.last_key, s, data, restarts, key, value, row);
         match grown {
-            Grown::Row(t) => {
-                self.used = t.used;
-                self.restarts = t.restarts;
-                self.counter = t.counter;
-                self.last_key_len = t.last_key_len;
+            Grown::Row(state) => {
+                self.state = state;
                 Added {
                     builder: self,
                     answer: AddAnswer::Good,
@@ -199,14 +172,15 @@ impl BlockBuilderV2 {
     pub fn is_empty(self) -> bool
         ensures { λ r. ⌜ Empties self r ⌝ }
     {
-        self.counter == 0
+        self.state.counter == 0
     }
 
     // Builds the final block at the start of the data buffer, and answers its length: 18, 7, 6. The builder is given back as it came.
     pub fn build(self, data: &mut [u8], restarts: &[u16]) -> Built
         ensures { λ r. ⌜ Builds self (now («data» .entry)) (now (restarts .entry)) r (now («data» .exit)) ⌝ }
     {
-        let answer = build_in_place_v2::build_in_place(state_of(self), data, restarts);
+        let s = self.state;
+        let answer = build_in_place_v2::build_in_place(s, data, restarts);
         Built {
             builder: self,
             answer,

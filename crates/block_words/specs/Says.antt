@@ -1,6 +1,6 @@
 -- What each case of an answer says: the words as the cases and structs of the crates below. No two cases say the same.
 use Prim.Native.Nat.{ℕ}
-use mathlib.Core.List.{List}
+use mathlib.Core.List.{List, []}
 use mathlib.Core.Path.{_≡_, refl, ap, sym}
 use lib.ListN.{replicate}
 use Rattle.layout.specs.Answer.{Res, ok, refuse}
@@ -10,7 +10,8 @@ use Rattle.layout.specs.Laws.Answer.{ok-inj}
 use Rattle.block_iterator_v2.specs.declared.BlockIteratorV2.{BlockIteratorV2}
 use Rattle.block_v2.specs.declared.BlockBuilderV2.{BlockBuilderV2}
 use Rattle.build_in_place_v2.specs.declared.State.{State}
-use Rattle.block_v2.specs.Says.{builderFrom}
+use Rattle.build_in_place_v2.specs.Says.{stateFrom}
+use Rattle.block_v2.specs.Says.{builderFrom as builderOver}
 use Rattle.basics.specs.Answers.{apart}
 use Rattle.basics.specs.Says.{saysOrder, saysOrder-one}
 use Rattle.step_in_place_v2.specs.declared.Place.{Place}
@@ -21,7 +22,7 @@ use Rattle.block_words.specs.declared.CursorRead.{CursorRead}
 use Rattle.block_words.specs.declared.CursorRead.the-variants.{Is as IsCursor, Bad as BadCursor}
 use Rattle.block_words.specs.declared.StateRead.{StateRead}
 use Rattle.block_words.specs.declared.StateRead.the-variants.{Is as IsState, Bad as BadState}
-use Rattle.row_words.specs.Words.{badWords, wordAt}
+use Rattle.row_words.specs.Words.{badWords, builderFrom}
 
 abbrev pub saysOrdered : OrderRead → Res Direction
 saysOrdered (IsOrder o) = ok (saysOrder o)
@@ -32,22 +33,14 @@ saysCursor key (IsCursor p) = ok (viewIn p key)
 saysCursor key BadCursor = refuse badWords
 
 abbrev pub iteratorOver : Place → List ℕ → BlockIteratorV2
-iteratorOver p key = record { order = p .order; region = p .region; at = p .at; key = key; «key_len» = p .«key_len»; done = p .done }
+iteratorOver p key = record { place = p; key = key }
 
 -- its key's bytes tell nothing
 abbrev pub iteratorFrom : Place → BlockIteratorV2
 iteratorFrom p = iteratorOver p (replicate maxKey 0)
 
 abbrev pub stateIn : List ℕ → State
-stateIn ws =
-    record {
-      «block_size» = wordAt ws 0;
-      «restart_interval» = wordAt ws 1;
-      used = wordAt ws 2;
-      restarts = wordAt ws 3;
-      counter = wordAt ws 4;
-      «last_key_len» = wordAt ws 5;
-    }
+stateIn ws = stateFrom (builderFrom ws [])
 
 abbrev pub saysState : StateRead → Res State
 saysState (IsState s) = ok s
@@ -55,7 +48,7 @@ saysState BadState = refuse badWords
 
 -- its last key's bytes tell nothing
 abbrev pub builderAlone : State → BlockBuilderV2
-builderAlone s = builderFrom s (replicate maxKey 0)
+builderAlone s = builderOver s (replicate maxKey 0)
 
 -- ---- one to one
 

@@ -120,7 +120,8 @@ pub fn put_iterator(cursor: &mut [u64], key: &mut [u8], c: BlockIteratorV2) -> b
     if key.len() != basics::MAX_KEY {
         return false;
     }
-    put_cursor(cursor, block_iterator_v2::place_of(c));
+    let place = c.place;
+    put_cursor(cursor, place);
     buf_mut::copy_in(key, 0, &c.key);
     true
 }
@@ -165,12 +166,7 @@ pub fn builder_over(s: State, last_key: &[u8]) -> BlockBuilderV2
     let mut key = [0; basics::MAX_KEY];
     buf_mut::copy_in(&mut key, 0, last_key);
     BlockBuilderV2 {
-        block_size: s.block_size,
-        restart_interval: s.restart_interval,
-        used: s.used,
-        restarts: s.restarts,
-        counter: s.counter,
+        state: s,
         last_key: key,
-        last_key_len: s.last_key_len,
     }
 }

@@ -138,7 +138,7 @@ fn second_restart(value: &[u8]) {
     let fresh = BlockBuilderV2::new_with_restart_interval(131072, 1).builder;
     let one = add(fresh, &mut data, &mut restarts, b"a", value, 1);
     show::text(b"the next row at ");
-    show::number(one.used as u64);
+    show::number(one.state.used as u64);
     show::text(b"\n");
     add(one, &mut data, &mut restarts, b"b", b"", 2);
 }

@@ -106,7 +106,7 @@ pub extern "C" fn slatedb_builder_new(
     let answer = new.answer;
     match answer {
         Made::Good => {
-            block_words::put_state(builder, block_v2::state_of(new.builder));
+            block_words::put_state(builder, new.builder.state);
             block_words::GOOD
         }
         Made::Refused(refusal) => basics::number(refusal),
@@ -199,13 +199,8 @@ fn builder_of(s: State) -> BlockBuilderV2
     ensures { λ r. ⌜ r ≡ builderAlone s ⌝ }
 {
     BlockBuilderV2 {
-        block_size: s.block_size,
-        restart_interval: s.restart_interval,
-        used: s.used,
-        restarts: s.restarts,
-        counter: s.counter,
+        state: s,
         last_key: [0; basics::MAX_KEY],
-        last_key_len: s.last_key_len,
     }
 }
 
@@ -282,7 +277,7 @@ pub extern "C" fn slatedb_open(block: &[u8], order: u64, cursor: &mut [u64]) -> 
     let answer = opened.answer;
     match answer {
         OpenAnswer::Good => {
-            block_words::put_cursor(cursor, block_iterator_v2::place_of(opened.iterator));
+            block_words::put_cursor(cursor, opened.iterator.place);
             block_words::GOOD
         }
         OpenAnswer::Refused(refusal) => basics::number(refusal),
@@ -293,14 +288,9 @@ pub extern "C" fn slatedb_open(block: &[u8], order: u64, cursor: &mut [u64]) -> 
 fn iterator_of(p: Place) -> BlockIteratorV2
     ensures { λ r. ⌜ r ≡ iteratorFrom p ⌝ }
 {
-    let order = p.order;
     BlockIteratorV2 {
-        order,
-        region: p.region,
-        at: p.at,
+        place: p,
         key: [0; basics::MAX_KEY],
-        key_len: p.key_len,
-        done: p.done,
     }
 }
 

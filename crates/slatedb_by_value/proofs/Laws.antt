@@ -68,14 +68,14 @@ module _ (b ws key out row : List ℕ) (p : Place) (h : length row ≡ rowCount)
         → StepsFlat b ws key out row 0 ws′ key′ out′ row′
     next-found {x} {ws′} {key′} e w q z =
         steps-asked b ws key out row p h k is
-        (stepped (viewOf (r .iterator)) ws key out row ws′ key′ out′ w (ap (take (r .iterator .«key_len»)) q) (viewIn p key) (next (viewIn p key) b (length out)) (rowFrom x)
+        (stepped (viewOf (r .iterator)) ws key out row ws′ key′ out′ w (ap (take (r .iterator .place .«key_len»)) q) (viewIn p key) (next (viewIn p key) b (length out)) (rowFrom x)
         (yes saysNext (s .answer) e) (s .view) (s .lent) z)
 
     pub next-done : {ws′ key′ : List ℕ} → r .answer ≡ NextDone → ws′ ≡ cursorWords (viewOf (r .iterator)) → key′ ≡ r .iterator .key
         → StepsFlat b ws key out row doneCode ws′ key′ out′ row
     next-done {ws′} {key′} e w q =
         steps-asked b ws key out row p h k is
-        (ended (viewOf (r .iterator)) ws key out row ws′ key′ out′ w (ap (take (r .iterator .«key_len»)) q) (viewIn p key) (next (viewIn p key) b (length out))
+        (ended (viewOf (r .iterator)) ws key out row ws′ key′ out′ w (ap (take (r .iterator .place .«key_len»)) q) (viewIn p key) (next (viewIn p key) b (length out))
         (yes saysNext (s .answer) e) (s .view) (s .lent))
 
     pub next-refused : {x : Refusal} {code : ℕ} → r .answer ≡ NextRefused x → code ≡ number x → StepsFlat b ws key out row code ws key out′ row

@@ -23,7 +23,7 @@ fn put_added(builder: &mut [u64], last_key: &mut [u8], b: BlockBuilderV2)
     requires { ⌜ (length (now builder) ≡ builderCount) × (length (now «last_key») ≡ maxKey) ⌝ }
     ensures { λ _. ⌜ PutsBuilder b (now (builder .exit)) (now («last_key» .exit)) ⌝ }
 {
-    block_words::put_state(builder, block_v2::state_of(b));
+    block_words::put_state(builder, b.state);
     buf_mut::copy_in(last_key, 0, &b.last_key);
 }
 
@@ -69,16 +69,11 @@ fn iterator_over(p: Place, key: &[u8]) -> BlockIteratorV2
     requires { ⌜ length (now key) ≡ maxKey ⌝ }
     ensures { λ r. ⌜ r ≡ iteratorOver p (now (key .entry)) ⌝ }
 {
-    let order = p.order;
     let mut carried = [0; basics::MAX_KEY];
     buf_mut::copy_in(&mut carried, 0, key);
     BlockIteratorV2 {
-        order,
-        region: p.region,
-        at: p.at,
+        place: p,
         key: carried,
-        key_len: p.key_len,
-        done: p.done,
     }
 }
 

@@ -21,8 +21,7 @@ use Rattle.basics.specs.declared.Refusal.{Refusal}
 use Rattle.basics.specs.declared.IterationOrder.{IterationOrder}
 use Rattle.block_iterator_v2.specs.Promise.{Opens}
 use Rattle.step_in_place_v2.specs.Says.{viewIn}
-use Rattle.step_in_place_v2.specs.declared.Place.{Place}
-use Rattle.block_iterator_v2.specs.Says.{placeOf, viewOf, saysOpen}
+use Rattle.block_iterator_v2.specs.Says.{viewOf, saysOpen}
 use Rattle.block_iterator_v2.specs.declared.Opened.{Opened}
 use Rattle.block_iterator_v2.specs.declared.OpenAnswer.the-variants.{Good as GoodOpen, Refused as OpenRefused}
 use Rattle.row_words.specs.Words.{badWords, doneCode, orderIn}
@@ -110,10 +109,10 @@ module _ (b : List ℕ) (order limit : ℕ) (sums : List ℕ) where
     walks-told e w t = rw (eq-eqb (length sums) 2 h, is, opened-so e, ← w) t
 
     -- the same from its place and as many zeros
-    pub walks-told-in-place : {p : Place} {want : Res Walk} {code : ℕ} {sums′ : List ℕ} → r .answer ≡ GoodOpen → p ≡ placeOf (r .iterator)
-        → want ≡ bind (walk limit (viewIn p (replicate maxKey 0)) b) wrapped → Tells want sums code sums′ → WalksFlat b order limit sums code sums′
-    walks-told-in-place {p} e q w t =
-        let same : viewIn p (replicate maxKey 0) ≡ viewOf (r .iterator) = ap₂ viewIn q (sym (opens .bytes)) in
+    pub walks-told-in-place : {want : Res Walk} {code : ℕ} {sums′ : List ℕ} → r .answer ≡ GoodOpen
+        → want ≡ bind (walk limit (viewIn (r .iterator .place) (replicate maxKey 0)) b) wrapped → Tells want sums code sums′ → WalksFlat b order limit sums code sums′
+    walks-told-in-place e w t =
+        let same : viewIn (r .iterator .place) (replicate maxKey 0) ≡ viewOf (r .iterator) = ap (viewIn (r .iterator .place)) (sym (opens .bytes)) in
         walks-told e (w ∙ ap (λ (c : Cursor). bind (walk limit c b) wrapped) same) t
 
     pub walks-not-opened : {x : Refusal} {code : ℕ} → r .answer ≡ OpenRefused x → code ≡ number x → WalksFlat b order limit sums code sums

@@ -319,7 +319,7 @@ pub extern "C" fn slatedb_walk_in_place(
     let answer = opened.answer;
     match answer {
         OpenAnswer::Good => {
-            let walked = in_place(block, block_iterator_v2::place_of(opened.iterator), limit);
+            let walked = in_place(block, opened.iterator.place, limit);
             tell(walked, sums)
         }
         OpenAnswer::Refused(refusal) => basics::number(refusal),

@@ -34,7 +34,7 @@ use Rattle.step_in_place_v2.specs.declared.Moved.{Moved}
 use Rattle.step_in_place_v2.specs.declared.Moved.the-variants.{Found, Done, Refused}
 use Rattle.step_in_place_v2.specs.declared.Place.{Place}
 use Rattle.block_iterator_v2.specs.Promise.{Opens}
-use Rattle.block_iterator_v2.specs.Says.{placeOf, viewOf}
+use Rattle.block_iterator_v2.specs.Says.{viewOf}
 use Rattle.block_iterator_v2.specs.declared.Opened.{Opened}
 use Rattle.tally.specs.declared.Tally.{Tally}
 use Rattle.tally.specs.Tally.{tallyIs, added, counted, countedRows, tallyBlock}
@@ -69,14 +69,14 @@ module _ (b : List ℕ) (n : ℕ) (tr : Trailer) (rows : List Keyed) (q : Rows b
 
 module _ (b : List ℕ) (a : Checked) (checks : Checks b a) where
   -- the cursor that an accepted block opens with, and its zeros
-  opens-so : {n : ℕ} (o : Opened) {p : Place} → check b ≡ ok n → Opens b Ascending o → p ≡ placeOf (o .iterator) → openBlock b ascending ≡ ok (viewIn p (replicate maxKey 0))
+  opens-so : {n : ℕ} (o : Opened) {p : Place} → check b ≡ ok n → Opens b Ascending o → p ≡ o .iterator .place → openBlock b ascending ≡ ok (viewIn p (replicate maxKey 0))
   opens-so {n} o e opens q =
       let h = has-rows b n e in
       let w = rows-walk b n (h .0) (h .1) (h .2) in
       let view : viewOf (o .iterator) ≡ cursorOr ascending (openBlock b ascending) = opens .view in
       w .opens-up ∙ ap ok (sym (ap (cursorOr ascending) (w .opens-up)) ∙ sym view ∙ sym (ap₂ viewIn q (sym (opens .bytes))))
 
-  module _ (o : Opened) {p : Place} (opens : Opens b Ascending o) (q : p ≡ placeOf (o .iterator)) where
+  module _ (o : Opened) {p : Place} (opens : Opens b Ascending o) (q : p ≡ o .iterator .place) where
     pub opened-good : {n : ℕ} → a ≡ RowsChecked n → OpensRows b (record { start = p; rows = n; answer = Good })
     opened-good e =
         let h = yes saysChecked checks e in

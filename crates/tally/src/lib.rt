@@ -89,7 +89,7 @@ fn open(block: &[u8]) -> Opening
 {
     let checked = block_check_v2::check(block);
     let opened = BlockIteratorV2::new(block, IterationOrder::Ascending);
-    let start = block_iterator_v2::place_of(opened.iterator);
+    let start = opened.iterator.place;
     match checked {
         Checked::Rows(n) => Opening {
             start,

@@ -15,9 +15,6 @@ returns c = iterator-no-words _ _ _ (c .if1 .taken)
 returns-2 : tie.Need-returns-2
 returns-2 c = iterator-no-key _ _ _ (c .before .if1 .left) (c .if2 .taken)
 
-place-of-requires : tie.Need-place-of-requires
-place-of-requires c κs = search needs
-
 put-cursor-requires : tie.Need-put-cursor-requires
 put-cursor-requires c κs = search needs
 
@@ -36,7 +33,7 @@ returns-3 c =
     let enough = after-put-cursor .before .before .before in
     let start = enough .before .before .before .before in
     let whole : length (start .args .t3 .key) ≡ maxKey = search needs in
-    iterator-put (start .args .t3) _ _ (enough .before .if1 .left) (enough .if2 .left) (rw (after-put-cursor .before .place-of .ensures) at (stored (enough .before .if1 .left) (after-put-cursor .put-cursor .ensures))) (copied-whole (start .args .t3 .key) (enough .if2 .left) whole (c .before .before .copy-in .ensures))
+    iterator-put (start .args .t3) _ _ (enough .before .if1 .left) (enough .if2 .left) (stored (enough .before .if1 .left) (after-put-cursor .put-cursor .ensures)) (copied-whole (start .args .t3 .key) (enough .if2 .left) whole (c .before .before .copy-in .ensures))
 
 pub put-iterator-spec : {M : Type 1} → statement M
 put-iterator-spec =
@@ -44,7 +41,6 @@ put-iterator-spec =
     (tie.spec
     returns
     returns-2
-    place-of-requires
     put-cursor-requires
     copy-in-requires
     same-length

@@ -15,9 +15,6 @@ make-requires c κs = search needs
 enum-told : tie.Need-enum-told
 enum-told c = search needs
 
-state-of-requires : tie.Need-state-of-requires
-state-of-requires c κs = search needs
-
 put-state-requires : tie.Need-put-state-requires
 put-state-requires c κs = search needs
 
@@ -32,9 +29,9 @@ same-length c = search needs
 
 returns-2 : tie.Need-returns-2
 returns-2 c =
-    let after-enum-told = c .before .before .before .before .before in
+    let after-enum-told = c .before .before .before .before in
     let start = after-enum-told .before .before .before .before .before in
-    makes-good (start .args .builder .now) _ _ _ (after-enum-told .before .before .before .if1 .left) (after-enum-told .before .before .make .ensures) (after-enum-told .enum-told .given .1) (rw (c .before .before .before .state-of .ensures) at (stored (after-enum-told .before .before .before .if1 .left) (c .before .before .put-state .ensures)))
+    makes-good (start .args .builder .now) _ _ _ (after-enum-told .before .before .before .if1 .left) (after-enum-told .before .before .make .ensures) (after-enum-told .enum-told .given .1) (stored (after-enum-told .before .before .before .if1 .left) (c .before .before .put-state .ensures))
 
 returns-3 : tie.Need-returns-3
 returns-3 c =
@@ -48,7 +45,6 @@ slatedb-builder-new-spec =
     returns
     make-requires
     enum-told
-    state-of-requires
     put-state-requires
     enum-known-answer
     number-requires

@@ -31,9 +31,6 @@ new-requires c κs = search needs
 enum-told-2 : tie.Need-enum-told-2
 enum-told-2 c = search needs
 
-place-of-requires : tie.Need-place-of-requires
-place-of-requires c κs = search needs
-
 put-cursor-requires : tie.Need-put-cursor-requires
 put-cursor-requires c κs = search needs
 
@@ -48,10 +45,10 @@ same-length c = search needs
 
 returns-3 : tie.Need-returns-3
 returns-3 c =
-    let after-enum-told2 = c .before .before .before .before .before in
+    let after-enum-told2 = c .before .before .before .before in
     let after-order-in = after-enum-told2 .before .before .before .before .before .before in
     let start = after-order-in .before .before .before .before in
-    opens-good (start .args .block .now) (start .args .order) (start .args .cursor .now) _ _ (after-order-in .before .if1 .left) (yes saysOrdered (after-order-in .order-in .ensures) (after-enum-told2 .before .before .before .before .ordered .given .1)) (after-enum-told2 .before .before .new .ensures) (after-enum-told2 .enum-told2 .given .1) (rw (c .before .before .before .place-of .ensures) at (stored (after-order-in .before .if1 .left) (c .before .before .put-cursor .ensures)))
+    opens-good (start .args .block .now) (start .args .order) (start .args .cursor .now) _ _ (after-order-in .before .if1 .left) (yes saysOrdered (after-order-in .order-in .ensures) (after-enum-told2 .before .before .before .before .ordered .given .1)) (after-enum-told2 .before .before .new .ensures) (after-enum-told2 .enum-told2 .given .1) (stored (after-order-in .before .if1 .left) (c .before .before .put-cursor .ensures))
 
 returns-4 : tie.Need-returns-4
 returns-4 c =
@@ -70,7 +67,6 @@ slatedb-open-spec =
     returns-2
     new-requires
     enum-told-2
-    place-of-requires
     put-cursor-requires
     enum-known-answer
     number-requires

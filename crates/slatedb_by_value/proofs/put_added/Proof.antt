@@ -9,9 +9,6 @@ use borrow.Author.Needs.{needs}
 use Rattle.slatedb_by_value.proofs.put_added.Statement.{statement}
 use Rattle.slatedb_by_value.proofs.put_added.Tie as tie
 
-state-of-requires : tie.Need-state-of-requires
-state-of-requires c κs = search needs
-
 put-state-requires : tie.Need-put-state-requires
 put-state-requires c κs = search needs
 
@@ -29,7 +26,7 @@ returns c =
     let s = c .before .before .before .before .before .before .before .before .before .before .before .before .before .before in
     let whole : length (s .args .t3 .«last_key») ≡ maxKey = search needs in
     record {
-      words = rw (c .before .before .before .before .before .before .before .before .before .before .state-of .ensures) at (stored (s .pre .0) (c .before .before .before .before .before .before .before .before .before .put-state .ensures));
+      words = stored (s .pre .0) (c .before .before .before .before .before .before .before .before .before .put-state .ensures);
       bytes = copied-whole (s .args .t3 .«last_key») (s .pre .1) whole (c .before .before .copy-in .ensures);
     }
 
@@ -37,7 +34,6 @@ pub put-added-spec : {M : Type 1} → statement M
 put-added-spec =
     tie.close
     (tie.spec
-    state-of-requires
     put-state-requires
     copy-in-requires
     same-length

@@ -32,9 +32,6 @@ new-requires c κs = search needs
 enum-told-2 : tie.Need-enum-told-2
 enum-told-2 c = search needs
 
-place-of-requires : tie.Need-place-of-requires
-place-of-requires c κs = search needs
-
 in-place-requires : tie.Need-in-place-requires
 in-place-requires c κs = search needs
 
@@ -52,10 +49,10 @@ same-length c = search needs
 
 returns-3 : tie.Need-returns-3
 returns-3 c =
-    let opened = c .before .before .before .before .before .before .before .before in
+    let opened = c .before .before .before .before .before .before .before in
     let known = opened .before .before in
     let start = known .before .before .before .before .before .before in
-    walks-told-in-place (start .args .block .now) (start .args .order) (start .args .limit) (start .args .sums .now) _ _ (known .before .before .before .if1 .left) (yes saysOrdered (known .before .before .order-in .ensures) (known .ordered .given .1)) (opened .new .ensures) (c .before .before .before .before .before .before .enum-told2 .given .1) (c .before .before .before .before .before .place-of .ensures) (c .before .before .before .before .in-place .ensures) (c .before .before .tell .ensures)
+    walks-told-in-place (start .args .block .now) (start .args .order) (start .args .limit) (start .args .sums .now) _ _ (known .before .before .before .if1 .left) (yes saysOrdered (known .before .before .order-in .ensures) (known .ordered .given .1)) (opened .new .ensures) (c .before .before .before .before .before .enum-told2 .given .1) (c .before .before .before .before .in-place .ensures) (c .before .before .tell .ensures)
 
 returns-4 : tie.Need-returns-4
 returns-4 c =
@@ -75,7 +72,6 @@ slatedb-walk-in-place-spec =
     returns-2
     new-requires
     enum-told-2
-    place-of-requires
     in-place-requires
     tell-requires
     enum-known-answer

@@ -1,4 +1,5 @@
 -- `open` answers the check's verdict, how many rows there are to count, and the place before the first, which is the cursor that `new` promised.
+use mathlib.Core.Path.{refl}
 use borrow.Author.Needs.{needs}
 use Rattle.tally.proofs.Laws.{opened-good, opened-refused}
 use Rattle.tally.proofs.open.Statement.{statement}
@@ -10,9 +11,6 @@ check-requires c κs = search needs
 new-requires : tie.Need-new-requires
 new-requires c κs = search needs
 
-place-of-requires : tie.Need-place-of-requires
-place-of-requires c κs = search needs
-
 enum-known-checked : tie.Need-enum-known-checked
 enum-known-checked c = search needs
 
@@ -22,12 +20,12 @@ enum-known-checked-2 c = search needs
 returns : tie.Need-returns
 returns c =
     let p = c .before .before .before in
-    opened-good _ _ (p .before .before .check .ensures) _ (p .before .new .ensures) (p .place-of .ensures) (c .before .checked .given .1)
+    opened-good _ _ (p .before .before .check .ensures) _ (p .before .new .ensures) refl (c .before .checked .given .1)
 
 returns-2 : tie.Need-returns-2
 returns-2 c =
     let p = c .before .before .before in
-    opened-refused _ _ (p .before .before .check .ensures) _ (p .before .new .ensures) (p .place-of .ensures) (c .before .checked2 .given .1)
+    opened-refused _ _ (p .before .before .check .ensures) _ (p .before .new .ensures) refl (c .before .checked2 .given .1)
 
 pub open-spec : {M : Type 1} → statement M
 open-spec =
@@ -35,7 +33,6 @@ open-spec =
     (tie.spec
     check-requires
     new-requires
-    place-of-requires
     enum-known-checked
     enum-known-checked-2
     returns

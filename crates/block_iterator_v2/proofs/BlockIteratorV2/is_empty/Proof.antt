@@ -31,7 +31,7 @@ returns : tie.Need-returns
 returns c = sym (empty-trailer _ _ (no saysTrailer refusalOfTrailer (c .before .before .before .trailer-of .ensures) (c .before .enum-told .given .1) refl (c .trailer-refusal .ensures)))
 
 returns-2 : tie.Need-returns-2
-returns-2 c = empty-marked (c .before .before .before .before .before .before .args .self) _ _ (trailer-read (c .before)) (c .if1 .taken)
+returns-2 c = empty-marked (c .before .before .before .before .before .before .before .args .self) _ _ (trailer-read (c .before .before)) (c .if1 .taken)
 
 enum-told-2 : tie.Need-enum-told-2
 enum-told-2 c = search needs
@@ -40,10 +40,10 @@ enum-told-3 : tie.Need-enum-told-3
 enum-told-3 c = search needs
 
 returns-3 : tie.Need-returns-3
-returns-3 c = empty-up (c .before .before .before .before .before .before .before .before .before .args .self) _ _ (trailer-read (c .before .before .before .before)) (c .before .before .before .if1 .left) (c .before .enum-told2 .given .1)
+returns-3 c = empty-up (c .before .before .before .before .before .before .before .before .before .before .args .self) _ _ (trailer-read (c .before .before .before .before .before)) (c .before .before .before .if1 .left) (c .before .enum-told2 .given .1)
 
 returns-4 : tie.Need-returns-4
-returns-4 c = empty-down (c .before .before .before .before .before .before .before .before .args .self) _ _ (trailer-read (c .before .before .before)) (c .before .before .if1 .left) (c .enum-told3 .given .1)
+returns-4 c = empty-down (c .before .before .before .before .before .before .before .before .before .args .self) _ _ (trailer-read (c .before .before .before .before)) (c .before .before .if1 .left) (c .enum-told3 .given .1)
 
 pub is-empty-spec : {M : Type 1} → statement M
 is-empty-spec =

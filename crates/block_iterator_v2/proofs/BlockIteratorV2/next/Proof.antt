@@ -20,7 +20,7 @@ same-length c = search needs
 returns : tie.Need-returns
 returns c =
     let s = c .before .before .before .before .before .before .before .before .before in
-    steps-put (s .args .t1) _ _ _ _ (c .before .before .before .before .next-in-array .ensures) (c .before .place-after .ensures) (c .answer-of .ensures)
+    steps-put (s .before .args .t1) _ _ _ _ (c .before .before .before .before .next-in-array .ensures) (c .before .place-after .ensures) (c .answer-of .ensures)
 
 pub next-spec : {M : Type 1} → statement M
 next-spec = tie.close (tie.spec next-in-array-requires place-after-requires answer-of-requires same-length returns)

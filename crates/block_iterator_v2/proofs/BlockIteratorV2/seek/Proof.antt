@@ -15,7 +15,7 @@ answer-sought-requires : tie.Need-answer-sought-requires
 answer-sought-requires c κs = search needs
 
 returns : tie.Need-returns
-returns c = let s = c .before .before .before .before .before .before in seeks-put (s .args .t1) _ _ _ (c .before .before .seek-in-array .ensures) (c .before .place-sought .ensures) (c .answer-sought .ensures)
+returns c = let s = c .before .before .before .before .before .before in seeks-put (s .before .args .t1) _ _ _ (c .before .before .seek-in-array .ensures) (c .before .place-sought .ensures) (c .answer-sought .ensures)
 
 pub seek-spec : {M : Type 1} → statement M
 seek-spec =

@@ -5,9 +5,6 @@ use Rattle.block_v2.proofs.Writes.{builds}
 use Rattle.block_v2.proofs.BlockBuilderV2.build.Statement.{statement}
 use Rattle.block_v2.proofs.BlockBuilderV2.build.Tie as tie
 
-state-of-requires : tie.Need-state-of-requires
-state-of-requires c κs = search needs
-
 build-in-place-requires : tie.Need-build-in-place-requires
 build-in-place-requires c κs = search needs
 
@@ -15,7 +12,7 @@ same-length : tie.Need-same-length
 same-length c = search needs
 
 returns : tie.Need-returns
-returns c = builds _ (c .before .before .before .before .state-of .ensures) _ _ (c .before .before .build-in-place .ensures)
+returns c = builds _ _ _ (c .before .before .build-in-place .ensures)
 
 pub build-spec : {M : Type 1} → statement M
-build-spec = tie.close (tie.spec state-of-requires build-in-place-requires same-length returns)
+build-spec = tie.close (tie.spec build-in-place-requires same-length returns)

@@ -1,6 +1,5 @@
 -- `would_fit` keeps its promise: what the fit question answers of the builder.
 -- Its array has as many bytes as the longest key, so `would_fit_in_place` refuses nothing for them; and the builder's numbers beside this array are the builder.
-use mathlib.Core.Path.{refl}
 use borrow.Author.Needs.{needs}
 use Rattle.block_v2.proofs.Writes.{fits}
 use Rattle.block_v2.proofs.BlockBuilderV2.would_fit.Statement.{statement}
@@ -10,7 +9,7 @@ would-fit-in-place-requires : tie.Need-would-fit-in-place-requires
 would-fit-in-place-requires c κs = search needs
 
 returns : tie.Need-returns
-returns c = fits _ refl _ _ _ _ (search needs) (c .would-fit-in-place .ensures)
+returns c = fits _ _ _ _ _ (search needs) (c .would-fit-in-place .ensures)
 
 pub would-fit-spec : {M : Type 1} → statement M
 would-fit-spec = tie.close (tie.spec would-fit-in-place-requires returns)
