@@ -90,11 +90,17 @@ fn all_seeks(block: &[u8]) {
     both_ways(block, b"");
 }
 
-// The first three of five rows.
-fn three_rows(builder: BlockBuilderV2, data: &mut [u8], restarts: &mut [u16]) -> BlockBuilderV2 {
-    let one = add(builder, data, restarts, b"a", b"", 0);
-    let two = add(one, data, restarts, b"b", b"", 1);
-    add(two, data, restarts, b"b", b"", 2)
+// Two of five rows, the second with the key b.
+fn two_rows(
+    builder: BlockBuilderV2,
+    data: &mut [u8],
+    restarts: &mut [u16],
+    key: &[u8],
+    seq: u64,
+    next: u64,
+) -> BlockBuilderV2 {
+    let one = add(builder, data, restarts, key, b"", seq);
+    add(one, data, restarts, b"b", b"", next)
 }
 
 pub fn seeks() {
@@ -103,8 +109,8 @@ pub fn seeks() {
     let mut data = [0u8; 72];
     let mut restarts = [0u16; 3];
     let fresh = BlockBuilderV2::new_with_restart_interval(4096, 2).builder;
-    let three = three_rows(fresh, &mut data, &mut restarts);
-    let four = add(three, &mut data, &mut restarts, b"b", b"", 3);
+    let two = two_rows(fresh, &mut data, &mut restarts, b"a", 0, 1);
+    let four = two_rows(two, &mut data, &mut restarts, b"b", 2, 3);
     let five = add(four, &mut data, &mut restarts, b"c", b"", 4);
     built(five, &mut data, &restarts);
     checked(&data);

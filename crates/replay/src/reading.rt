@@ -43,7 +43,7 @@ fn rest(cursor: BlockIteratorV2, block: &[u8]) {
     let mut at = cursor;
     for _ in 0..block.len() {
         at = step(at, block);
-        if at.done {
+        if at.place.done {
             return;
         }
         show::mark(b' ');
