@@ -17,8 +17,8 @@ use Rattle.layout.specs.Check.{check}
 use Rattle.layout.specs.Cursor.{ascending, descending, Cursor, opened, Keyed, found, stepIs, next}
 use Rattle.layout.specs.Seek.{Sought, soughtIs, seek}
 use Rattle.demands.specs.Reads.{Accepts, keysOf}
-use Rattle.demands.specs.Runs.{Held, Call, Ran, Finishes, RoomFor, backwards, GivesFirst}
-use Rattle.demands.specs.Rows.{DecodesBack, Rows, Walked, SoughtUp, SoughtDown, FoundFirst, offeredRanks}
+use Rattle.demands.specs.Runs.{Lending, Call, Ran, Finishes, RoomFor, backwards, GivesFirst}
+use Rattle.demands.specs.Rows.{DecodesBack, Rows, BothWays, SoughtUp, SoughtDown, FoundFirst, offeredRanks}
 use Rattle.demands.specs.RunsProof.{walks-first}
 use Rattle.demands.specs.Proof3.{encode-tells, ran-laid}
 use Rattle.demands.specs.Proof2.{decodes-back, rows-walked, accepted-rows, rows-room, sought-up, sought-down, first-splits, last-splits, retry-present, retry-absent, restarts-few, laid-accepted, accepted-laid}
@@ -66,7 +66,7 @@ module _ (b : List ℕ) (n : ℕ) (t : Trailer) (rows : List Keyed) (q : Rows b 
 
 module _ (b : List ℕ) (n : ℕ) (t : Trailer) (rows : List Keyed) (q : Rows b n t rows) (room : ℕ) (fits : RoomFor room rows) where
   -- A walk from an opened cursor gives every row, in order or reversed, and says "done" after exactly as many steps as there are rows, and ever after, with the cursor unchanged.
-  pub walk-steps : Walked b t room rows
+  pub walk-steps : BothWays b t room rows
   walk-steps = rows-walked b n t rows q room fits
 
   -- The rows walked after an ascending seek are exactly those from the first at or above the target on; it is marked "done" exactly when there is none.
@@ -87,7 +87,7 @@ module _ (b : List ℕ) (n : ℕ) (t : Trailer) (rows : List Keyed) (q : Rows b 
       (λ i h k. rw same at (retry-present b n t rows q target room fits i h k), λ k moved g has. retry-absent b n t rows q target room fits k moved (rw same g) has)
 
 -- A finished block is accepted exactly when its rows are in order: each may follow the one before.
-pub finished-accepted : (size interval : ℕ) (calls : List Call) (rows : List Row) (end : Held) (block : List ℕ) → Ran size interval calls rows end → Finishes end block
+pub finished-accepted : (size interval : ℕ) (calls : List Call) (rows : List Row) (end : Lending) (block : List ℕ) → Ran size interval calls rows end → Finishes end block
     → (Rising noRank (offeredRanks rows) → check block ≡ ok (length rows)) × ((n : ℕ) → check block ≡ ok n → Rising noRank (offeredRanks rows))
 finished-accepted size interval calls rows end block ran f =
     let l = ran-laid size interval calls rows end ran block f in

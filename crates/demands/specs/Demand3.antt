@@ -15,16 +15,16 @@ use Rattle.layout.specs.Block.{blockBytes}
 use Rattle.layout.specs.Trailer.{Trailer, dataOf}
 use Rattle.layout.specs.Cursor.{ascending, descending, opened, openBlock, Keyed}
 use Rattle.demands.specs.Reads.{contentOf}
-use Rattle.demands.specs.Runs.{Held, Call, Ran, Finishes, backwards, WalksAll, GivesFirst, KeysFit}
+use Rattle.demands.specs.Runs.{Lending, Call, Ran, Finishes, backwards, WalksAll, GivesFirst, KeysFit}
 use Rattle.demands.specs.RunsProof.{walks-first}
 use Rattle.demands.specs.Proof3.{ran-finishes, ran-laid, ran-fits, same-rows, ReadsBack, laid-reads-back, encode-tells, encoded-differ, decoded-differ}
 
 -- After at least one accepted row, build answers a block, never 6 or 18: the block of the accepted rows.
-pub run-finishes : (size interval : ℕ) (calls : List Call) (rows : List Row) (end : Held) → Ran size interval calls rows end → 1 ≤ length rows → Finishes end (blockBytes interval rows)
+pub run-finishes : (size interval : ℕ) (calls : List Call) (rows : List Row) (end : Lending) → Ran size interval calls rows end → 1 ≤ length rows → Finishes end (blockBytes interval rows)
 run-finishes size interval calls rows end ran some = ran-finishes size interval calls rows end ran some
 
 -- Different accepted rows, in key, kind, value, seq, times or order, give different finished blocks.
-pub blocks-differ : (size₁ size₂ n₁ n₂ : ℕ) (calls₁ calls₂ : List Call) (rows₁ rows₂ : List Row) (end₁ end₂ : Held) (block₁ block₂ : List ℕ)
+pub blocks-differ : (size₁ size₂ n₁ n₂ : ℕ) (calls₁ calls₂ : List Call) (rows₁ rows₂ : List Row) (end₁ end₂ : Lending) (block₁ block₂ : List ℕ)
     → Ran size₁ n₁ calls₁ rows₁ end₁ → Ran size₂ n₂ calls₂ rows₂ end₂ → Finishes end₁ block₁ → Finishes end₂ block₂
     → (map plainRow rows₁ ≡ map plainRow rows₂ → ⊥) → block₁ ≡ block₂ → ⊥
 blocks-differ size₁ size₂ n₁ n₂ calls₁ calls₂ rows₁ rows₂ end₁ end₂ block₁ block₂ ran₁ ran₂ f₁ f₂ differ same =
@@ -32,10 +32,10 @@ blocks-differ size₁ size₂ n₁ n₂ calls₁ calls₂ rows₁ rows₂ end₁
     (same-rows block₂ n₁ n₂ rows₁ rows₂ (rw same at (ran-laid size₁ n₁ calls₁ rows₁ end₁ ran₁ block₁ f₁)) (ran-laid size₂ n₂ calls₂ rows₂ end₂ ran₂ block₂ f₂))
 
 -- A key buffer of 1,024 bytes is no shorter than any accepted key.
-pub keys-fit : (size interval : ℕ) (calls : List Call) (rows : List Row) (end : Held) → Ran size interval calls rows end → KeysFit maxKey rows
+pub keys-fit : (size interval : ℕ) (calls : List Call) (rows : List Row) (end : Lending) → Ran size interval calls rows end → KeysFit maxKey rows
 keys-fit size interval calls rows end ran = ran-fits size interval calls rows end ran
 
-module _ (size interval : ℕ) (calls : List Call) (rows : List Row) (end : Held) (block : List ℕ) (ran : Ran size interval calls rows end) (f : Finishes end block)
+module _ (size interval : ℕ) (calls : List Call) (rows : List Row) (end : Lending) (block : List ℕ) (ran : Ran size interval calls rows end) (f : Finishes end block)
     (room : ℕ) (fits : KeysFit room rows) where
   all-back : ReadsBack block room rows
   all-back = laid-reads-back block interval room rows (ran-laid size interval calls rows end ran block f) fits
@@ -51,7 +51,7 @@ module _ (size interval : ℕ) (calls : List Call) (rows : List Row) (end : Held
   reads-backwards = (all-back .t, all-back .given, all-back .opens-down, all-back .back, all-back .are)
 
 -- Whatever key buffers the steps are lent, refused steps among them, they give the accepted rows in order, or reversed: none twice, and none left out before one that is given.
-pub reads-any-buffers : (size interval : ℕ) (calls : List Call) (rows : List Row) (end : Held) (block : List ℕ) → Ran size interval calls rows end → Finishes end block
+pub reads-any-buffers : (size interval : ℕ) (calls : List Call) (rows : List Row) (end : Lending) (block : List ℕ) → Ran size interval calls rows end → Finishes end block
     → (rooms : List ℕ) → (t : Trailer) × (given : List Keyed) × GivesFirst block (opened ascending t) rooms given × GivesFirst block (opened descending t) rooms (backwards given)
     × (map (contentOf (dataOf block t)) given ≡ map plainRow rows)
 reads-any-buffers size interval calls rows end block ran f rooms =

@@ -26,8 +26,8 @@ use Rattle.layout.specs.Cursor.{ascending, descending, Cursor, keptCursor, curs
 use Rattle.layout.specs.Seek.{seek, soughtAfter}
 use Rattle.demands.specs.Reads.{regionRows, regionsRows, allRows, Accepts, contentOf, keysOf}
 use Rattle.layout.specs.Cases.{rowWith}
-use Rattle.demands.specs.Runs.{Held, held, Call, offer, would-fit, is-empty, finish, lend-on, run, rowsOf, BeginAlike, Ran, Finishes, RoomFor, backwards, WalksAll, stepsGive, GivesFirst, KeysFit}
-use Rattle.demands.specs.Rows.{DecodesBack, Rows, Walked, SoughtUp, SoughtDown, FoundFirst}
+use Rattle.demands.specs.Runs.{Lending, lending, Call, offer, would-fit, is-empty, finish, lend-on, run, rowsOf, BeginAlike, Ran, Finishes, RoomFor, backwards, WalksAll, stepsGive, GivesFirst, KeysFit}
+use Rattle.demands.specs.Rows.{DecodesBack, Rows, BothWays, SoughtUp, SoughtDown, FoundFirst}
 use Rattle.demands.specs.Demand1.{refused-step, refused-seek, refused-add, refused-build, refused-encode, refused-restore, given-bytes, stale-bytes-tell-nothing, stale-bytes-empty, stale-bytes-seek, stale-bytes-fit, stale-bytes-add, stale-bytes-build}
 use Rattle.demands.specs.Demand2.{decode-encode, check-exact, has-rows, room-enough, walk-any-buffers, first-at-or-above, last-at-or-below, walk-steps, seek-ascending-lands, seek-descending-lands, retry-found, restarts-at-most, finished-accepted}
 use Rattle.demands.specs.Demand3.{run-finishes, blocks-differ, keys-fit, reads-forwards, reads-backwards, reads-any-buffers, row-begins-no-other, read-begins-no-other}
@@ -53,8 +53,8 @@ longer = rowBytes 0 (97 ∷ []) (rowA .fields) ++ replicate 35 9
 abbrev pub calls2 : List Call
 calls2 = is-empty ∷ offer rowA ∷ offer noKey ∷ finish ∷ lend-on longer (0 ∷ 5 ∷ []) ∷ would-fit rowAB ∷ offer rowAB ∷ []
 
-abbrev start2 : Held
-start2 = held (fresh 4096 16) (replicate 20 7) (replicate 1 7)
+abbrev start2 : Lending
+start2 = lending (fresh 4096 16) (replicate 20 7) (replicate 1 7)
 
 typed : (k : Key) (v : List ℕ) (q : ℕ) → q < 100 → Typed (rowWith k v q .fields)
 typed k v q h = record { seq-fits = omega arith; expire-fits = tt; create-fits = tt }
@@ -168,7 +168,7 @@ reads8 =
 room8 : RoomFor maxKey rows8
 room8 = room-enough block8 5 t8 rows8 reads8
 
-pub case-8-walked : Walked block8 t8 maxKey rows8
+pub case-8-walked : BothWays block8 t8 maxKey rows8
 case-8-walked = walk-steps block8 5 t8 rows8 reads8 maxKey room8
 
 -- of steps with key buffers of 0, 8, 0 and 1 bytes two are refused, and two give the first two rows
@@ -340,14 +340,14 @@ rowY = gone-at Absent (At earliest)
 abbrev callsX : List Call
 callsX = offer rowX ∷ finish ∷ offer rowA ∷ would-fit rowX ∷ []
 
-abbrev startX : Held
-startX = held (fresh 0 1) (replicate 30 9) (replicate 1 9)
+abbrev startX : Lending
+startX = lending (fresh 0 1) (replicate 30 9) (replicate 1 9)
 
 abbrev callsY : List Call
 callsY = offer rowY ∷ offer rowA ∷ []
 
-abbrev startY : Held
-startY = held (fresh 131072 1024) (replicate 64 3) (replicate 5 9)
+abbrev startY : Lending
+startY = lending (fresh 131072 1024) (replicate 64 3) (replicate 5 9)
 
 ran-x : Ran 0 1 callsX (rowX ∷ []) (run startX callsX)
 unfolding leadingZeros run rowsOf newBuilder stateTests fits wouldFit add build keyLengthTests lengthTests isRestart shareOf laidRow rowBytes timeBytes big bits varint varintIn common splice trailer offsetBytes

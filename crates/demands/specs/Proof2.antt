@@ -23,7 +23,7 @@ use Rattle.layout.specs.Cursor.{ascending, descending, Cursor, opened, Keyed, f
 use Rattle.layout.specs.Seek.{doneUp, doneDown}
 use Rattle.demands.specs.Reads.{regionsRows, Reads, allRows, ranksOf, keysOf, contentOf}
 use Rattle.demands.specs.Runs.{RoomFor, backwards, Walks, stands, gives, WalksAll}
-use Rattle.demands.specs.Rows.{DecodesBack, Rows, Walked, offeredRanks, SoughtUp, SoughtDown, FoundFirst}
+use Rattle.demands.specs.Rows.{DecodesBack, Rows, BothWays, offeredRanks, SoughtUp, SoughtDown, FoundFirst}
 use Rattle.demands.specs.RunsProof.{walks-before, walks-after}
 use Rattle.demands.specs.Proof3.{Encoded, encoded-fields}
 use Rattle.layout.specs.Laws.Answer.{ok-inj, ltb-cases, bool-cases, clash}
@@ -71,7 +71,7 @@ room-take room (suc n) [] f = tt
 room-take room (suc n) (k ∷ ks) f = (f .0, room-take room n ks (f .1))
 
 module _ (b : List ℕ) (n : ℕ) (t : Trailer) (rows : List Keyed) (q : Rows b n t rows) (room : ℕ) (f : RoomFor room rows) where
-  pub rows-walked : Walked b t room rows
+  pub rows-walked : BothWays b t room rows
   rows-walked =
       record {
         opens-up = open-good b ascending t (q .reads .trailer-good) (q .reads .offsets-good);

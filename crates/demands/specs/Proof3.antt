@@ -17,7 +17,7 @@ use Rattle.layout.specs.Trailer.{Trailer, dataOf}
 use Rattle.layout.specs.Builder.{blockAfter}
 use Rattle.layout.specs.Cursor.{ascending, descending, opened, openBlock, Keyed}
 use Rattle.demands.specs.Reads.{regionsRows, Reads, allRows, AllOf, contentOf}
-use Rattle.demands.specs.Runs.{Held, Call, Ran, Finishes, RoomFor, backwards, WalksAll, KeysFit}
+use Rattle.demands.specs.Runs.{Lending, Call, Ran, Finishes, RoomFor, backwards, WalksAll, KeysFit}
 use Rattle.demands.specs.RunsProof.{made-ran, finishes-some, made-finishes, walks-before, walks-after}
 use Rattle.layout.specs.Laws.Answer.{bind-then, guard-then, ok-inj}
 use Rattle.layout.specs.Laws.Row.{FieldsOk, KeyOk, prefix-free}
@@ -35,12 +35,12 @@ use Rattle.demands.specs.Laws.Laid.{LaidBlock, laid-block}
 -- ---- a run finishes
 
 -- one answer of build, one block
-finishes-one : (h : Held) (x y : List ℕ) → Finishes h x → Finishes h y → x ≡ y
+finishes-one : (h : Lending) (x y : List ℕ) → Finishes h x → Finishes h y → x ≡ y
 finishes-one h x y f g =
     let n : f .n ≡ g .n = ok-inj (sym (f .answers) ∙ g .answers) in
     sym (f .block-is) ∙ ap (λ (k : ℕ). take k (blockAfter (ok k) (h .builder) (h .bytes) (h .places))) n ∙ g .block-is
 
-module _ (size n : ℕ) (calls : List Call) (rows : List Row) (end : Held) (ran : Ran size n calls rows end) where
+module _ (size n : ℕ) (calls : List Call) (rows : List Row) (end : Lending) (ran : Ran size n calls rows end) where
   m : Made n rows (end .builder) (end .bytes) (end .places)
   m = made-ran size n calls rows end ran
 
@@ -61,7 +61,7 @@ module _ (size n : ℕ) (calls : List Call) (rows : List Row) (end : Held) (ran 
       laid (r ∷ rs) s a o = laid-block n r rs a o
 
 -- no accepted key is longer than the key limit
-pub ran-fits : (size n : ℕ) (calls : List Call) (rows : List Row) (end : Held) → Ran size n calls rows end → KeysFit maxKey rows
+pub ran-fits : (size n : ℕ) (calls : List Call) (rows : List Row) (end : Lending) → Ran size n calls rows end → KeysFit maxKey rows
 ran-fits size n calls rows end ran = go rows (made-ran size n calls rows end ran .rows-ok)
   where
     go : (rows : List Row) → AllOk rows → KeysFit maxKey rows

@@ -36,7 +36,7 @@ pub record Rows (b : List ℕ) (n : ℕ) (t : Trailer) (rows : List Keyed) : Typ
   pub many : n ≡ length rows
 
 -- opened and stepped through, both ways
-pub record Walked (b : List ℕ) (t : Trailer) (room : ℕ) (rows : List Keyed) : Type 0 where
+pub record BothWays (b : List ℕ) (t : Trailer) (room : ℕ) (rows : List Keyed) : Type 0 where
   pub opens-up : openBlock b ascending ≡ ok (opened ascending t)
   pub opens-down : openBlock b descending ≡ ok (opened descending t)
   pub forwards : WalksAll b room (opened ascending t) rows

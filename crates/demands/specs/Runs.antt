@@ -12,13 +12,13 @@ use Rattle.demands.specs.Reads.{AllOf}
 
 -- ---- a builder, over its two lent buffers
 
-pub record Held : Type 0 where
+pub record Lending : Type 0 where
   pub builder : Builder
   pub bytes : List ℕ
   pub places : List ℕ
 
-abbrev pub held : Builder → List ℕ → List ℕ → Held
-held b bytes places = record { builder = b; bytes = bytes; places = places }
+abbrev pub lending : Builder → List ℕ → List ℕ → Lending
+lending b bytes places = record { builder = b; bytes = bytes; places = places }
 
 -- any mix of calls: rows offered, rows asked about, "is it empty", and build, in the middle too; and other buffers that are lent from there on
 pub data Call : Type 0 where
@@ -28,73 +28,73 @@ pub data Call : Type 0 where
   finish : Call
   lend-on : List ℕ → List ℕ → Call
 
-abbrev pub addTo : Held → Row → Res Builder
+abbrev pub addTo : Lending → Row → Res Builder
 addTo h r = add (h .builder) (length (h .bytes)) (length (h .places)) (r .key) (r .fields)
 
-abbrev pub buildOf : Held → Res ℕ
+abbrev pub buildOf : Lending → Res ℕ
 buildOf h = build (h .builder) (length (h .bytes)) (length (h .places))
 
 -- what a call gives back; the fit question and "is it empty" change nothing
-abbrev pub after : Held → Call → Held
+abbrev pub after : Lending → Call → Lending
 after h (offer r) =
-    held (stateAfter (addTo h r) (h .builder)) (dataAfter (addTo h r) (h .builder) (r .key) (r .fields) (h .bytes)) (placesAfter (addTo h r) (h .builder) (h .places))
+    lending (stateAfter (addTo h r) (h .builder)) (dataAfter (addTo h r) (h .builder) (r .key) (r .fields) (h .bytes)) (placesAfter (addTo h r) (h .builder) (h .places))
 after h (would-fit r) = h
 after h is-empty = h
-after h finish = held (h .builder) (blockAfter (buildOf h) (h .builder) (h .bytes) (h .places)) (h .places)
-after h (lend-on bytes places) = held (h .builder) bytes places
+after h finish = lending (h .builder) (blockAfter (buildOf h) (h .builder) (h .bytes) (h .places)) (h .places)
+after h (lend-on bytes places) = lending (h .builder) bytes places
 
 -- the row that a call added: one that was refused is none
 abbrev pub taken : Res Builder → Row → List Row
 taken (ok b) r = r ∷ []
 taken (refuse n) r = []
 
-abbrev pub accepted : Held → Call → List Row
+abbrev pub accepted : Lending → Call → List Row
 accepted h (offer r) = taken (addTo h r) r
 accepted h (would-fit r) = []
 accepted h is-empty = []
 accepted h finish = []
 accepted h (lend-on bytes places) = []
 
-unfoldable pub run : Held → List Call → Held
+unfoldable pub run : Lending → List Call → Lending
 run h [] = h
 run h (c ∷ cs) = run (after h c) cs
 
 -- the accepted rows, in order
-unfoldable pub rowsOf : Held → List Call → List Row
+unfoldable pub rowsOf : Lending → List Call → List Row
 rowsOf h [] = []
 rowsOf h (c ∷ cs) = accepted h c ++ rowsOf (after h c) cs
 
 -- buffers that may be lent in the place of those before: no shorter, and alike as far as they are used
-pub record BeginAlike (h : Held) (bytes places : List ℕ) : Type 0 where
+pub record BeginAlike (h : Lending) (bytes places : List ℕ) : Type 0 where
   pub no-fewer-bytes : length (h .bytes) ≤ length bytes
   pub no-fewer-places : length (h .places) ≤ length places
   pub same-bytes : take (h .builder .used) bytes ≡ take (h .builder .used) (h .bytes)
   pub same-places : take (h .builder .restarts) places ≡ take (h .builder .restarts) (h .places)
 
 -- numbers are offered in their types: 64 bits, signed for times
-abbrev pub TypedCall : Held → Call → Type 0
+abbrev pub TypedCall : Lending → Call → Type 0
 TypedCall h (offer r) = Typed (r .fields)
 TypedCall h (would-fit r) = Unit {0}
 TypedCall h is-empty = Unit {0}
 TypedCall h finish = Unit {0}
 TypedCall h (lend-on bytes places) = BeginAlike h bytes places
 
-abbrev pub TypedCalls : Held → List Call → Type 0
+abbrev pub TypedCalls : Lending → List Call → Type 0
 TypedCalls h [] = Unit {0}
 TypedCalls h (c ∷ cs) = TypedCall h c × TypedCalls (after h c) cs
 
 -- a fresh builder, whatever its buffers hold and however long they are, after a run of calls
-pub record Ran (size interval : ℕ) (calls : List Call) (rows : List Row) (end : Held) : Type 0 where
+pub record Ran (size interval : ℕ) (calls : List Call) (rows : List Row) (end : Lending) : Type 0 where
   pub fresh-one : Builder
   pub bytes : List ℕ
   pub places : List ℕ
   pub is-new : newBuilder size interval ≡ ok fresh-one
-  pub typed : TypedCalls (held fresh-one bytes places) calls
-  pub rows-are : rows ≡ rowsOf (held fresh-one bytes places) calls
-  pub ends : end ≡ run (held fresh-one bytes places) calls
+  pub typed : TypedCalls (lending fresh-one bytes places) calls
+  pub rows-are : rows ≡ rowsOf (lending fresh-one bytes places) calls
+  pub ends : end ≡ run (lending fresh-one bytes places) calls
 
 -- build answers a length, and the block stands at the start of the data buffer
-pub record Finishes (h : Held) (block : List ℕ) : Type 0 where
+pub record Finishes (h : Lending) (block : List ℕ) : Type 0 where
   pub n : ℕ
   pub answers : buildOf h ≡ ok n
   pub block-is : take n (blockAfter (ok n) (h .builder) (h .bytes) (h .places)) ≡ block

@@ -16,7 +16,7 @@ use Rattle.layout.specs.Block.{offsets, trailer, blockBytes}
 use Rattle.layout.specs.Trailer.{Trailer}
 use Rattle.layout.specs.Builder.{Builder, stateTests, presentSize, build, blockAfter}
 use Rattle.layout.specs.Cursor.{Cursor, marked, Keyed, found, done, stepIs}
-use Rattle.demands.specs.Runs.{Held, held, Call, offer, would-fit, is-empty, finish, lend-on, addTo, buildOf, after, taken, accepted, run, rowsOf, BeginAlike, TypedCall, TypedCalls, Ran, Finishes, Walks, stands, gives, EndsDone, RoomFor, backwards, WalksAll, stepsGive, GivesFirst}
+use Rattle.demands.specs.Runs.{Lending, lending, Call, offer, would-fit, is-empty, finish, lend-on, addTo, buildOf, after, taken, accepted, run, rowsOf, BeginAlike, TypedCall, TypedCalls, Ran, Finishes, Walks, stands, gives, EndsDone, RoomFor, backwards, WalksAll, stepsGive, GivesFirst}
 use Rattle.layout.specs.Laws.Answer.{bind-then, guard-then, ltb-cases}
 use Rattle.layout.specs.Laws.Splice.{length-splice, take-splice}
 use Rattle.layout.specs.Laws.Trailer.{length-trailer}
@@ -60,7 +60,7 @@ made-finish n rs b bytes places k m e =
     }
 
 -- buffers that begin alike hold the same rows
-made-longer : (n : ℕ) (rs : List Row) (h : Held) (bytes places : List ℕ) → Made n rs (h .builder) (h .bytes) (h .places) → BeginAlike h bytes places → Made n rs (h .builder) bytes places
+made-longer : (n : ℕ) (rs : List Row) (h : Lending) (bytes places : List ℕ) → Made n rs (h .builder) (h .bytes) (h .places) → BeginAlike h bytes places → Made n rs (h .builder) bytes places
 made-longer n rs h bytes places m a =
     record {
       interval-is = m .interval-is;
@@ -81,7 +81,7 @@ made-longer n rs h bytes places m a =
       offsets-fit = m .offsets-fit;
     }
 
-pub made-after : (n : ℕ) (rs : List Row) (h : Held) (c : Call) → Made n rs (h .builder) (h .bytes) (h .places) → TypedCall h c
+pub made-after : (n : ℕ) (rs : List Row) (h : Lending) (c : Call) → Made n rs (h .builder) (h .bytes) (h .places) → TypedCall h c
     → Made n (rs ++ accepted h c) (after h c .builder) (after h c .bytes) (after h c .places)
 made-after n rs h (offer r) m t = go (addTo h r) refl
   where
@@ -97,20 +97,20 @@ made-after n rs h finish m t = rw (append-nil rs) (go (buildOf h) refl)
     go (refuse k) e = rw e m
 made-after n rs h (lend-on bytes places) m t = rw (append-nil rs) (made-longer n rs h bytes places m t)
 
-pub made-run : (n : ℕ) (rs : List Row) (h : Held) (cs : List Call) → Made n rs (h .builder) (h .bytes) (h .places) → TypedCalls h cs
+pub made-run : (n : ℕ) (rs : List Row) (h : Lending) (cs : List Call) → Made n rs (h .builder) (h .bytes) (h .places) → TypedCalls h cs
     → Made n (rs ++ rowsOf h cs) (run h cs .builder) (run h cs .bytes) (run h cs .places)
 unfolding rowsOf run
 made-run n rs h [] m t = rw (append-nil rs) m
 made-run n rs h (c ∷ cs) m t =
     rw (append-assoc rs (accepted h c) (rowsOf (after h c) cs)) at (made-run n (rs ++ accepted h c) (after h c) cs (made-after n rs h c m (t .0)) (t .1))
 
-pub made-ran : (size n : ℕ) (cs : List Call) (rows : List Row) (end : Held) → Ran size n cs rows end → Made n rows (end .builder) (end .bytes) (end .places)
+pub made-ran : (size n : ℕ) (cs : List Call) (rows : List Row) (end : Lending) → Ran size n cs rows end → Made n rows (end .builder) (end .bytes) (end .places)
 made-ran size n cs rows end r =
     rw (r .rows-are, r .ends)
-    (made-run n [] (held (r .fresh-one) (r .bytes) (r .places)) cs (made-none size n (r .fresh-one) (r .bytes) (r .places) (r .is-new)) (r .typed))
+    (made-run n [] (lending (r .fresh-one) (r .bytes) (r .places)) cs (made-none size n (r .fresh-one) (r .bytes) (r .places) (r .is-new)) (r .typed))
 
 -- build answers a block only where a row was accepted
-pub finishes-some : (n : ℕ) (rows : List Row) (h : Held) (block : List ℕ) → Made n rows (h .builder) (h .bytes) (h .places) → Finishes h block → 1 ≤ length rows
+pub finishes-some : (n : ℕ) (rows : List Row) (h : Lending) (block : List ℕ) → Made n rows (h .builder) (h .bytes) (h .places) → Finishes h block → 1 ≤ length rows
 unfolding build
 finishes-some n rows h block m f =
     bind-then (stateTests (h .builder) (length (h .bytes)) (length (h .places))) _ (f .n) (f .answers) λ u s e₁.
@@ -119,7 +119,7 @@ finishes-some n rows h block m f =
     omega (arith, ne, m .rows-are)
 
 -- after an accepted row, build answers the block of the accepted rows
-pub made-finishes : (n : ℕ) (rows : List Row) (h : Held) → Made n rows (h .builder) (h .bytes) (h .places) → 1 ≤ length rows → Finishes h (blockBytes n rows)
+pub made-finishes : (n : ℕ) (rows : List Row) (h : Lending) → Made n rows (h .builder) (h .bytes) (h .places) → 1 ≤ length rows → Finishes h (blockBytes n rows)
 made-finishes n rows h m s =
     let q = made-builds n rows (h .builder) (h .bytes) (h .places) m s in
     record { n = length (blockBytes n rows); answers = q .0; block-is = q .1 }

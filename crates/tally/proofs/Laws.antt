@@ -12,7 +12,7 @@ use Rattle.layout.specs.Trailer.{Trailer}
 use Rattle.layout.specs.Check.{check}
 use Rattle.layout.specs.Cursor.{ascending, Cursor, opened, cursorOr, openBlock, Keyed, found, stepIs, next}
 use Rattle.demands.specs.Runs.{Walks, stands, gives}
-use Rattle.demands.specs.Rows.{Rows, Walked}
+use Rattle.demands.specs.Rows.{Rows, BothWays}
 use Rattle.demands.specs.Proof2.{rows-room}
 use Rattle.demands.specs.Demand2.{has-rows, walk-steps}
 use Rattle.layout.specs.Laws.Answer.{ok-inj}
@@ -64,7 +64,7 @@ module _ (t : Tally) {held : ValueDeletable} {rows : ℕ} (more : rows ≡ added
 
 -- the walk from the opening of an accepted block gives its rows
 module _ (b : List ℕ) (n : ℕ) (tr : Trailer) (rows : List Keyed) (q : Rows b n tr rows) where
-  rows-walk : Walked b tr maxKey rows
+  rows-walk : BothWays b tr maxKey rows
   rows-walk = walk-steps b n tr rows q maxKey (rows-room b n tr rows q)
 
 module _ (b : List ℕ) (a : Checked) (checks : Checks b a) where
@@ -105,7 +105,7 @@ fold-start t b r o = go (check b) refl
     go (ok n) h =
         let a = has-rows b n h in
         let q : Rows b n (a .0) (a .1) = a .2 in
-        let w : Walked b (a .0) maxKey (a .1) = rows-walk b n (a .0) (a .1) q in
+        let w : BothWays b (a .0) maxKey (a .1) = rows-walk b n (a .0) (a .1) q in
         let same : opened ascending (a .0) ≡ viewIn (r .start) (replicate maxKey 0) = ok-inj (sym (w .opens-up) ∙ o .opens h) in
         let many : r .rows ≡ n = o .many ∙ ap rowsOf h in
         rw (o .verdict, h, ← same, rows-tally t b n (a .0) (a .1) q h)
