@@ -5,7 +5,7 @@ use mathlib.Core.Bool.{cond}
 use mathlib.Core.List.{List, []}
 use lib.Dec.{ltb, leb}
 use lib.ListN.{length}
-use Rattle.layout.specs.Answer.{Res, ok, refuse, bind, guard}
+use Rattle.layout.specs.Answer.{Res, ok, refuse, bind, _when_else_}
 use Rattle.layout.specs.Place.{splice}
 use Rattle.layout.specs.Key.{Key}
 use Rattle.layout.specs.RowRead.{RowRead, keyLength}
@@ -16,17 +16,17 @@ use Rattle.layout.specs.Seek.{Stop, walkRegion, lastAtOrBelow}
 -- the row that ends at `stop`, whose key a buffer of `room` bytes is to hold: 18 where no row of the region can, the rows' own refusals, 18, 19
 unfoldable pub endingAt : List ℕ → Region → ℕ → ℕ → Res Keyed
 endingAt d g stop room =
-    guard (leb stop (g .start)) 18
-    (bind (rowEndingAt stop d g stop (g .start) []) λ k.
-    guard (ltb room (keyLength (k .row))) 19
-    (ok k))
+    18 when leb stop (g .start) else
+    bind (rowEndingAt stop d g stop (g .start) []) λ k.
+    19 when ltb room (keyLength (k .row)) else
+    ok k
 
 -- the first row that reaches `stop`, with its key
 abbrev pub given : RowRead → ℕ → Key → ℕ → Res Keyed
 given r stop key room =
-    guard (ltb stop (r .next)) 18
-    (guard (ltb room (length key)) 19
-    (ok (keyed r key)))
+    18 when ltb stop (r .next) else
+    19 when ltb room (length key) else
+    ok (keyed r key)
 
 -- the lent buffer after it: only the key that is given is written
 abbrev pub outAfter : Res Keyed → List ℕ → List ℕ
@@ -36,12 +36,12 @@ outAfter (refuse n) out = out
 -- where the walk up to a target stops: 18 for a region that ends after the data
 unfoldable pub walkTo : List ℕ → Region → Key → Res Stop
 walkTo d g target =
-    guard (ltb (length d) (g .end)) 18
-    (walkRegion (length d) d g target (g .start) [])
+    18 when ltb (length d) (g .end) else
+    walkRegion (length d) d g target (g .start) []
 
 -- one that stops inside the region gives the key of the row before: 19 where a slice of `room` bytes does not hold it
 abbrev pub held : Region → ℕ → Stop → Res Stop
-held g room s = cond (ltb (s .at) (g .end)) (guard (ltb room (length (s .before))) 19 (ok s)) (ok s)
+held g room s = cond (ltb (s .at) (g .end)) (19 when ltb room (length (s .before)) else ok s) (ok s)
 
 unfoldable pub walkInto : List ℕ → Region → Key → ℕ → Res Stop
 walkInto d g target room = bind (walkTo d g target) (held g room)
@@ -54,5 +54,5 @@ keyLeft g (refuse n) key = key
 -- where the last row at or below a target ends, or the region's start: 18 for a region that ends after the data
 unfoldable pub lastTo : List ℕ → Region → Key → Res ℕ
 lastTo d g target =
-    guard (ltb (length d) (g .end)) 18
-    (lastAtOrBelow (length d) d g target (g .start) [] (g .start))
+    18 when ltb (length d) (g .end) else
+    lastAtOrBelow (length d) d g target (g .start) [] (g .start)

@@ -7,14 +7,14 @@ use mathlib.Core.List.{List}
 use lib.Dec.{eqb}
 use lib.ListN.{length}
 use borrow.Author.Tests.{eq-eqb, ne-eqb}
-use Rattle.layout.specs.Answer.{Res, refuse, guard}
+use Rattle.layout.specs.Answer.{Res, refuse, _when_else_}
 use Rattle.layout.specs.Limits.{maxKey}
 use Rattle.layout.specs.Seek.{Sought, seek}
 use Rattle.basics.specs.Says.{saysOrder}
 use Rattle.step_in_place_v2.specs.declared.Place.{Place}
 
 unfoldable pub seekIn : Place → List ℕ → List ℕ → List ℕ → Res Sought
-seekIn p key b target = guard (not (eqb (length key) maxKey)) 18 (seek (saysOrder (p .order)) b target)
+seekIn p key b target = 18 when not (eqb (length key) maxKey) else seek (saysOrder (p .order)) b target
 
 module _ (p : Place) (key b target : List ℕ) where
   pub lent-other : (length key ≡ maxKey → ⊥) → seekIn p key b target ≡ refuse 18

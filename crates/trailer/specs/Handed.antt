@@ -5,7 +5,7 @@ use mathlib.Core.Bool.{Bool, not, _&&_}
 use mathlib.Core.List.{List}
 use lib.Dec.{ltb, eqb}
 use lib.ListN.{length}
-use Rattle.layout.specs.Answer.{Res, guard}
+use Rattle.layout.specs.Answer.{Res, _when_else_}
 use Rattle.layout.specs.Trailer.{Trailer, Region, regionOf, allOffsets}
 
 -- rows, offsets and count are all of a block of `len` bytes, and r is below the count
@@ -13,7 +13,7 @@ abbrev pub hasRegion : ℕ → Trailer → ℕ → Bool
 hasRegion len t r = ltb r (t .count) && eqb (t .size + (2 + 2 * t .count)) len
 
 unfoldable pub handed : {A : Type 0} → List ℕ → Trailer → ℕ → Res A → Res A
-handed b t r x = guard (not (hasRegion (length b) t r)) 18 x
+handed b t r x = 18 when not (hasRegion (length b) t r) else x
 
 abbrev pub regionAt : List ℕ → Trailer → ℕ → Res Region
 regionAt b t r = handed b t r (regionOf b t r)
