@@ -146,21 +146,21 @@ module _ {M : Type 1} (𝓤 : URA M) (H : Heap 𝓤) (A : Atoms 𝓤) (W : Given
           use1 W (later (some (λ (a : TallyAnswer). ((‵ (flft (α ∷ []) fullShare) ⊛ ‵ (flft κ q) ⊛ ‵ ftrue) ⊛ ‵ (R.the-row .own a (v ∷ [])))
           ⊛ raw (ensured 𝓤 H A block.ended (block.clauses 𝓤 H A at-mem run) (α ∷ [], (κ, tt)) (ref l₃ α γ, (s, tt)) tt a)))) (id⊢ 𝓤 _) $ await ! tt $ pick ! (λ a. split ! $ move ! (1 ∷ []) $
           use1 W (some (λ (ws : Tally × (Unit {0} × Unit {0})). ‵ (lasts block.ended (α ∷ [], (κ, tt)) (ref l₃ α γ, (s, tt)) ws) ⊛ raw (fact 𝓤 (CountsBlock t (now s) (ws .0) a)))) (id⊢ 𝓤 _) $
-          pick ! (λ ws. let r : Tally = ws .0 in split ! $ move ! (1 ∷ []) $ heard ! (CountsBlock t (now s) r a) (λ counts. fsplit ! $ move ! (2 ∷ []) $ split ! $ move ! (1 ∷ []) $
+          pick ! (λ ws. split ! $ move ! (1 ∷ []) $ heard ! (CountsBlock t (now s) (ws .0) a) (λ counts. fsplit ! $ move ! (2 ∷ []) $ split ! $ move ! (1 ∷ []) $
           peeks ! R.the-row (Is R.the-row) (shows 𝓤 H A R.the-row) a (v ∷ []) (λ is-v.
-          -- [what a owns; the tokens; what says that r is the last value; true; the block; the lender's part; room for _6; …; _5; …; room for _4; …; what frees _3; _2; …; _1; …; room for _0; …]
+          -- [what a owns; the tokens; the tally's last value; true; the block; the lender's part; room for _6; …; _5; …; room for _4; …; what frees _3; _2; …; _1; …; room for _0; …]
           land ! (from ! (stop !)) (init ! 10 refl (answer-fits 𝓤 H A W a _ is-v .0)) $
           rewrite ! 10 (λ (u : Val). ‵ (fat fullShare R′.mir l₄ 0 u)) (ap only (answer-tells a (v ∷ []) is-v)) refl $ drop ! $
-          -- the lifetime is ended, and _3 is had back at r
-          split ! $ lft-end ! tt $ move ! (0 ∷ 5 ∷ 2 ∷ []) $ use3 W (later (‵ (mem T.the-row .lies r l₃ 0))) (ref-back 𝓤 H A W T.the-row (α ∷ []) γ r l₃ 0) $ await ! tt $
-          use1 W (‵ (fat fullShare T′.mir l₃ 0 (tallyVal r)) ⊛ ‵ (T.the-row .own r (tallyVals r))) (stands 𝓤 H A W l₃ r) $ split ! $ move ! (1 ∷ []) $ sees ! r (tallyVals r) (λ is-r.
-          -- [what r owns; _3; the block's token; true; the block; room for _6; …; _5; …; _4; …; what frees _3; _2; …; _1; …; room for _0; …]
-          assigns ! (of-opd ! (load ! (from ! (stop !)) (look ! 1 refl))) (from ! (stop !)) (init ! 5 refl (tally-fits 𝓤 H A W r _ is-r .0)) $
+          -- the lifetime is ended, and _3 is had back at that value
+          split ! $ lft-end ! tt $ move ! (0 ∷ 5 ∷ 2 ∷ []) $ use3 W (later (‵ (mem T.the-row .lies (ws .0) l₃ 0))) (ref-back 𝓤 H A W T.the-row (α ∷ []) γ (ws .0) l₃ 0) $ await ! tt $
+          use1 W (‵ (fat fullShare T′.mir l₃ 0 (tallyVal (ws .0))) ⊛ ‵ (T.the-row .own (ws .0) (tallyVals (ws .0)))) (stands 𝓤 H A W l₃ (ws .0)) $ split ! $ move ! (1 ∷ []) $ sees ! (ws .0) (tallyVals (ws .0)) (λ is-r.
+          -- [what it owns; _3; the block's token; true; the block; room for _6; …; _5; …; _4; …; what frees _3; _2; …; _1; …; room for _0; …]
+          assigns ! (of-opd ! (load ! (from ! (stop !)) (look ! 1 refl))) (from ! (stop !)) (init ! 5 refl (tally-fits 𝓤 H A W (ws .0) _ is-r .0)) $
           assigns ! (agg ! (and-then ! (load ! (from ! (stop !)) (look ! 5 refl)) (and-then ! (load ! (from ! (stop !)) (look ! 9 refl)) (no-more !)))) (from ! (stop !))
-          (init ! 16 refl (LL.lawful B.the-type B′.the-laws 𝓤 H A W .typed (both r a) _ (both-is r a is-r (answer-is a v is-v)) .0)) $
+          (init ! 16 refl (LL.lawful B.the-type B′.the-laws 𝓤 H A W .typed (both (ws .0) a) _ (both-is (ws .0) a is-r (answer-is a v is-v)) .0)) $
           returns ! (look ! 16 refl) $ forget ! 1 refl $ forget ! 5 refl $ forget ! 7 refl $ forget ! 9 refl $ forget ! 12 refl $ forget ! 14 refl $ forget ! 16 refl $
           keep ! (16 ∷ 17 ∷ 14 ∷ 15 ∷ 12 ∷ 13 ∷ 1 ∷ 11 ∷ 9 ∷ 10 ∷ 7 ∷ 8 ∷ 5 ∷ 6 ∷ 4 ∷ 2 ∷ []) $
-          free1 ! $ free1 ! $ free1 ! $ free1 ! $ free1 ! $ free1 ! $ free1 ! $ free0 ! $ by ! (exits r a is-r (answer-is a v is-v) counts))))))))))))))))
+          free1 ! $ free1 ! $ free1 ! $ free1 ! $ free1 ! $ free1 ! $ free1 ! $ free0 ! $ by ! (exits (ws .0) a is-r (answer-is a v is-v) counts))))))))))))))))
 
   walks : (C : Calls 𝓤 H) (Λ : Loops 𝓤 H) → FmC 𝓤 H (W .laws) C → Triple 𝓤 (C #tally·tally-block) Counts
       → Walks 𝓤 H A whole.ended stayed (WpFn 𝓤 H C Λ code.function) (whole.clauses 𝓤 H A at-mem run)
