@@ -5,7 +5,7 @@ use mathlib.Core.List.{List}
 use Rattle.buf.specs.declared.ShortRead.{ShortRead}
 use Rattle.buf.specs.declared.WordRead.{WordRead}
 use Rattle.buf.specs.declared.SignedRead.{SignedRead}
-use Rattle.buf.specs.Promise.{ReadsShort, ReadsWord, ReadsSigned}
+use Rattle.buf.specs.Promise.{ReadsShort, ReadsWord, ReadsSigned, ReadsEight}
 use Rattle.buf.specs.Says.{saysShort-one, saysWord-one, saysSigned-one}
 
 module _ (s : List ℕ) (at : ℕ) where
@@ -17,3 +17,6 @@ module _ (s : List ℕ) (at : ℕ) where
 
   pub get-i64-settled : (r q : SignedRead) → ReadsSigned s at r → ReadsSigned s at q → r ≡ q
   get-i64-settled r q a b = saysSigned-one r q (a ∙ sym b)
+
+  pub eight-settled : (r q : ℕ) → ReadsEight s at r → ReadsEight s at q → r ≡ q
+  eight-settled r q a b = a ∙ sym b

@@ -176,7 +176,7 @@ fn pass_plain(key: &mut [u8], data: &[u8], at: usize, row: PlainRow, sum: u64) -
     let from = at + 3;
     let end = from + row.unshared;
     buf_mut::copy_in(key, row.shared, &data[from..end]);
-    let seq = region_rows_v2::seq_at(data, row.next - 9);
+    let seq = buf::eight(data, row.next - 9);
     with_parts(
         sum,
         seq,
