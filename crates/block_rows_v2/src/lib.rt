@@ -53,35 +53,16 @@ fn put_nth(rows: &mut [u64], n: usize, row: Row)
 
 // ---- a plain row
 
-// All bytes are read before the first store, and the places are one after another: so LLVM makes one load and one store of them.
-fn copy_8(buf: &mut [u8], at: usize, src: &[u8], from: usize)
-    requires { ⌜ (at + 8 ≤ length (now buf)) × (from + 8 ≤ length (now src)) ⌝ }
-    ensures { λ _. ⌜ now (buf .exit) ≡ splice (now (buf .entry)) at (take 8 (drop from (now (src .entry)))) ⌝ }
-{
-    let a = src[from];
-    let b = src[from + 1];
-    let c = src[from + 2];
-    let d = src[from + 3];
-    let e = src[from + 4];
-    let f = src[from + 5];
-    let g = src[from + 6];
-    let h = src[from + 7];
-    buf[at] = a;
-    buf[at + 1] = b;
-    buf[at + 2] = c;
-    buf[at + 3] = d;
-    buf[at + 4] = e;
-    buf[at + 5] = f;
-    buf[at + 6] = g;
-    buf[at + 7] = h;
-}
-
 fn copy_16(buf: &mut [u8], at: usize, src: &[u8], from: usize)
     requires { ⌜ (at + 16 ≤ length (now buf)) × (from + 16 ≤ length (now src)) ⌝ }
     ensures { λ _. ⌜ now (buf .exit) ≡ splice (now (buf .entry)) at (take 16 (drop from (now (src .entry)))) ⌝ }
 {
-    copy_8(buf, at, src, from);
-    copy_8(buf, at + 8, src, from + 8);
+    let half = at + 8;
+    let end = half + 8;
+    let mid = from + 8;
+    let last = mid + 8;
+    buf_mut::copy_8(&mut buf[at..half], &src[from..mid]);
+    buf_mut::copy_8(&mut buf[half..end], &src[mid..last]);
 }
 
 // Gives the key of a plain row to the start of `out`, and has it carried. Bytes past a carried key tell nothing, so that sixteen may go where the suffix has
@@ -120,7 +101,7 @@ fn row_of(data: &[u8], at: usize, row: PlainRow) -> Row
             start: suffix_at + row.unshared,
             len: row.value_len,
         },
-        seq: region_rows_v2::seq_at(data, row.next - 9),
+        seq: buf::eight(data, row.next - 9),
         expire: Time::Absent,
         create: Time::Absent,
     }

@@ -2,7 +2,8 @@
 use Prim.Native.Nat.{ℕ}
 use mathlib.Core.Path.{_≡_}
 use mathlib.Core.List.{List}
-use Rattle.layout.specs.Place.{fixedAt, signedAt}
+use Rattle.layout.specs.Answer.{Res, ok, refuse}
+use Rattle.layout.specs.Place.{NumAt, fixedAt, signedAt}
 use Rattle.basics.specs.declared.Refusal.{Refusal}
 use Rattle.buf.specs.declared.WordRead.{WordRead}
 use Rattle.buf.specs.declared.SignedRead.{SignedRead}
@@ -19,3 +20,11 @@ ReadsSigned s at r = saysSigned r ≡ signedAt s at
 
 abbrev pub SignedRefusal : SignedRead → Refusal → Type 0
 SignedRefusal a r = r ≡ refusalOfSigned a
+
+-- the number that was read, or 0
+abbrev pub orZero : Res NumAt → ℕ
+orZero (ok n) = n .val
+orZero (refuse n) = 0
+
+abbrev pub ReadsEight : List ℕ → ℕ → ℕ → Type 0
+ReadsEight s at r = r ≡ orZero (fixedAt 8 s at)

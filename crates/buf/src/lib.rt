@@ -5,7 +5,7 @@ ghost use mathlib.Core.Path.{_≡_};
 ghost use Prim.Native.Nat.{_≤_, _<_, _+_};
 ghost use lib.ListN.{length};
 ghost use Rattle.layout.specs.Laws.Place.{fourAt};
-ghost use Rattle.buf.specs.Promise.{ReadsWord, WordRefusal, ReadsSigned, SignedRefusal};
+ghost use Rattle.buf.specs.Promise.{ReadsWord, WordRefusal, ReadsSigned, SignedRefusal, ReadsEight};
 use basics::Refusal;
 
 pub enum WordRead {
@@ -50,6 +50,17 @@ pub fn get_u64(s: &[u8], at: usize) -> WordRead
     WordRead::Word {
         value: high * 4294967296 + low,
         next: at + 8,
+    }
+}
+
+// The eight bytes at `at`, high byte first; 0 where they are not all there. Of a part of eight bytes the compiler drops the test.
+pub fn eight(s: &[u8], at: usize) -> u64
+    ensures { λ r. ⌜ ReadsEight (now (s .entry)) at r ⌝ }
+{
+    let read = get_u64(s, at);
+    match read {
+        WordRead::Word { value, next: _ } => value,
+        WordRead::Refused(_) => 0,
     }
 }
 

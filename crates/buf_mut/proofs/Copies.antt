@@ -8,7 +8,10 @@ use native.Mathlib.Omega.{arith}
 use lib.ListN.{length, take, drop, set, getD, length-set, length-drop, take-append-drop}
 use lib.Seq.{take-add, take-all, drop-drop, drop-cons, length-take-le}
 use Rattle.layout.specs.Place.{splice}
-use Rattle.layout.specs.Laws.Splice.{length-splice, take-splice, drop-past-splice, splice-splice, splice-none, set-splice}
+use borrow.Author.Tests.{lt-ltb, le-ltb}
+use borrow.Rule.Slice.PartMut.{midOf, putMid, mid-len}
+use Rattle.layout.specs.Laws.Splice.{length-splice, take-splice, drop-past-splice, splice-splice, splice-none, set-splice, splice-lent}
+use Rattle.buf_mut.specs.Promise.{firstCopied, CopiesFirst}
 
 -- n bytes of src, of which the first has number k from `from` on, stored one by one from `at` on
 abbrev pub stored : ℕ → ℕ → List ℕ → ℕ → List ℕ → ℕ → List ℕ
@@ -31,6 +34,31 @@ pub all-copied : (n : ℕ) (src : List ℕ) (from : ℕ) (buf : List ℕ) (at : 
     → stored n 1 src from (set buf at (getD src from 0)) at ≡ splice buf at (take (suc n) (drop from src))
 all-copied n src from buf at h f =
     rw (add-zero at, add-zero from) at (stored-splice (suc n) 0 src from buf at (omega arith) (omega arith))
+
+-- ---- the first n bytes of a source at the start of a buffer
+
+module _ (n : ℕ) (src buf : List ℕ) where
+  pub first-none : length buf < n → buf ≡ firstCopied n src buf
+  first-none h = rw (lt-ltb (length buf) n h)
+
+  pub first-short : n ≤ length buf → length src < n → buf ≡ firstCopied n src buf
+  first-short h k = rw (le-ltb (length buf) n h, lt-ltb (length src) n k)
+
+  pub first-all : {ys : List ℕ} → n ≤ length buf → n ≤ length src → ys ≡ splice buf 0 (take n src) → ys ≡ firstCopied n src buf
+  first-all h k e = e ∙ rw (le-ltb (length buf) n h, le-ltb (length src) n k)
+
+-- parts that are lent for n bytes: said of the wholes
+pub part-copied : (n : ℕ) (xs src : List ℕ) (at from : ℕ) {ys : List ℕ} → at + n ≤ length xs → from + n ≤ length src
+    → CopiesFirst n (take (from + n - from) (drop from src)) (midOf at (at + n - at) xs) ys → putMid at (at + n - at) xs ys ≡ splice xs at (take n (drop from src))
+part-copied n xs src at from h k e =
+    let m : at + n - at ≡ n = omega arith in
+    let l : from + n - from ≡ n = omega arith in
+    let w = take n (drop from src) in
+    let long : length w ≡ n = length-take-le n (drop from src) (rw length-drop (omega arith)) in
+    let room : length (midOf at n xs) ≡ n = rw m at (mid-len at (at + n) xs h) in
+    let all : take n w ≡ w = take-all n w (omega arith) in
+    let is = (rw (m, l) at e) ∙ sym (first-all n w (midOf at n xs) (omega (arith, room)) (omega (arith, long)) refl) in
+    rw m (ap (putMid at n xs) (is ∙ ap (splice (midOf at n xs) 0) all) ∙ splice-lent xs at n 0 w (omega (arith, room, long)) ∙ ap (λ (i : ℕ). splice xs i w) (add-zero at))
 
 -- a write is lost under a longer one at its place
 under : (xs : List ℕ) (a : ℕ) (u w : List ℕ) → length u ≤ length w → a + length w ≤ length xs → splice (splice xs a u) a w ≡ splice xs a w

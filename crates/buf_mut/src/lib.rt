@@ -6,7 +6,7 @@ ghost use Prim.Native.Nat.{_+_, _≤_};
 ghost use lib.ListN.{length, take, drop};
 ghost use Rattle.layout.specs.Fixed.{big, bits};
 ghost use Rattle.layout.specs.Place.{splice};
-ghost use Rattle.buf_mut.specs.Promise.{Puts, PlaceAfter};
+ghost use Rattle.buf_mut.specs.Promise.{Puts, CopiesFirst, PlaceAfter};
 use basics::Refusal;
 
 // The place after what was written.
@@ -67,7 +67,7 @@ pub fn put_i64(buf: &mut [u8], at: usize, z: i64) -> Put
 // ---- copies
 
 // All bytes are read before the first store, and the places are one after another: so LLVM makes one load and one store of them.
-fn copy_8(buf: &mut [u8], at: usize, src: &[u8], from: usize)
+fn copy_8_at(buf: &mut [u8], at: usize, src: &[u8], from: usize)
     requires { ⌜ (at + 8 ≤ length (now buf)) × (from + 8 ≤ length (now src)) ⌝ }
     ensures { λ _. ⌜ now (buf .exit) ≡ splice (now (buf .entry)) at (take 8 (drop from (now (src .entry)))) ⌝ }
 {
@@ -89,6 +89,39 @@ fn copy_8(buf: &mut [u8], at: usize, src: &[u8], from: usize)
     buf[at + 7] = h;
 }
 
+// Copies the first eight bytes of `src` to the start of `buf`; nothing where either has fewer. Of parts of eight bytes the compiler drops the tests.
+pub fn copy_8(buf: &mut [u8], src: &[u8])
+    ensures { λ _. ⌜ CopiesFirst 8 (now (src .entry)) (now (buf .entry)) (now (buf .exit)) ⌝ }
+{
+    if buf.len() < 8 {
+        return;
+    }
+    if src.len() < 8 {
+        return;
+    }
+    copy_8_at(buf, 0, src, 0);
+}
+
+// The same of the first four.
+pub fn copy_4(buf: &mut [u8], src: &[u8])
+    ensures { λ _. ⌜ CopiesFirst 4 (now (src .entry)) (now (buf .entry)) (now (buf .exit)) ⌝ }
+{
+    if buf.len() < 4 {
+        return;
+    }
+    if src.len() < 4 {
+        return;
+    }
+    let a = src[0];
+    let b = src[1];
+    let c = src[2];
+    let d = src[3];
+    buf[0] = a;
+    buf[1] = b;
+    buf[2] = c;
+    buf[3] = d;
+}
+
 // Groups of eight, and last the eight bytes that end it, over what the groups have of them already.
 fn copy_groups(buf: &mut [u8], at: usize, src: &[u8])
     requires { ⌜ (8 ≤ length (now src)) × (at + length (now src) ≤ length (now buf)) ⌝ }
@@ -97,10 +130,10 @@ fn copy_groups(buf: &mut [u8], at: usize, src: &[u8])
     let n = src.len();
     let mut i = 0;
     while i + 8 < n {
-        copy_8(buf, at + i, src, i);
+        copy_8_at(buf, at + i, src, i);
         i += 8;
     }
-    copy_8(buf, at + (n - 8), src, n - 8);
+    copy_8_at(buf, at + (n - 8), src, n - 8);
 }
 
 fn copy_each(buf: &mut [u8], at: usize, src: &[u8])

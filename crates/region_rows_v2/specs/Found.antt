@@ -40,7 +40,7 @@ module _ (b : List ℕ) (c d : Cursor) (out out′ : List ℕ) (long : c .keyLen
       rw (← same) (record { key = key; is = e; well = next-given c (stepIs d (found s key)) b (length out) long e; lent = o })
   found-so done r e t o = absurd (told-apart (sym (ok-inj t)))
 
-  finds : (r : RowRead) → bind (next c b (length out)) told ≡ ok (row r) → d ≡ cursorAfter (next c b (length out)) c → out′ ≡ keyAfter (next c b (length out)) out
+  pub finds : (r : RowRead) → bind (next c b (length out)) told ≡ ok (row r) → d ≡ cursorAfter (next c b (length out)) c → out′ ≡ keyAfter (next c b (length out)) out
       → Finds b c d r out out′
   finds r t v o = go (next c b (length out)) refl t v o
     where
@@ -50,7 +50,7 @@ module _ (b : List ℕ) (c d : Cursor) (out out′ : List ℕ) (long : c .keyLen
 
 -- ---- "done", which writes no key, and a refusal
 
-ends : (b : List ℕ) (c d : Cursor) (out out′ : List ℕ) → bind (next c b (length out)) told ≡ ok none → d ≡ cursorAfter (next c b (length out)) c → out′ ≡ keyAfter (next c b (length out)) out
+pub ends : (b : List ℕ) (c d : Cursor) (out out′ : List ℕ) → bind (next c b (length out)) told ≡ ok none → d ≡ cursorAfter (next c b (length out)) c → out′ ≡ keyAfter (next c b (length out)) out
     → (next c b (length out) ≡ ok (stepIs d done)) × (out′ ≡ out)
 ends b c d out out′ t v o = go (next c b (length out)) refl t v o
   where
@@ -62,7 +62,7 @@ ends b c d out out′ t v o = go (next c b (length out)) refl t v o
     go (ok s) e t v o = over (s .answer) (e ∙ ap (λ (x : Cursor). ok (stepIs x (s .answer))) (sym v)) t o
     go (refuse n) e t v o = absurd (apart (sym t))
 
-refuses : (want : Res Step) {k : ℕ} → bind want told ≡ refuse k → want ≡ refuse k
+pub refuses : (want : Res Step) {k : ℕ} → bind want told ≡ refuse k → want ≡ refuse k
 refuses (ok s) t = absurd (apart t)
 refuses (refuse n) {k} t = let same : n ≡ k = cc in ap refuse same
 

@@ -5,7 +5,7 @@ use mathlib.Core.List.{List}
 use Rattle.step_in_place_v2.specs.declared.Place.{Place}
 use Rattle.region_rows_v2.specs.declared.Bounds.{Bounds}
 use Rattle.region_rows_v2.specs.Bounds.{Stretch, stretchFrom}
-use Rattle.region_rows_v2.specs.Promise.{BoundsOf, ReadsSeq}
+use Rattle.region_rows_v2.specs.Promise.{BoundsOf}
 
 stretchFrom-one : (r q : Bounds) → stretchFrom r ≡ stretchFrom q → r ≡ q
 stretchFrom-one r q e =
@@ -13,6 +13,3 @@ stretchFrom-one r q e =
 
 pub bounds-of-settled : (p : Place) (b : List ℕ) (r q : Bounds) → BoundsOf p b r → BoundsOf p b q → r ≡ q
 bounds-of-settled p b r q m n = stretchFrom-one r q (m ∙ sym n)
-
-pub seq-at-settled : (d : List ℕ) (at r q : ℕ) → ReadsSeq d at r → ReadsSeq d at q → r ≡ q
-seq-at-settled d at r q m n = m ∙ sym n

@@ -28,7 +28,8 @@ use Rattle.step_in_place_v2.specs.Says.{viewIn}
 use Rattle.step_in_place_v2.specs.declared.Place.{Place}
 use Rattle.region_rows_v2.specs.declared.Bounds.{Bounds}
 use Rattle.region_rows_v2.specs.Bounds.{Inside, stretch-inside}
-use Rattle.region_rows_v2.specs.Promise.{BoundsOf, orZero, ReadsSeq}
+use Rattle.region_rows_v2.specs.Promise.{BoundsOf}
+use Rattle.buf.specs.Promise.{orZero, ReadsEight}
 
 -- a plain row that stands in so many bytes
 pub record PlainFits (len at : ℕ) (r : PlainRow) : Type 0 where
@@ -39,7 +40,7 @@ pub record PlainFits (len at : ℕ) (r : PlainRow) : Type 0 where
   pub unshared-small : r .unshared ≤ 127
 
 -- its sequence number is read
-pub seq-read : (d : List ℕ) (at : ℕ) (r : PlainRow) {q : ℕ} → PlainFits (length d) at r → ReadsSeq d (r .next - 9) q → q ≡ unbig (take 8 (drop (r .next - 9) d))
+pub seq-read : (d : List ℕ) (at : ℕ) (r : PlainRow) {q : ℕ} → PlainFits (length d) at r → ReadsEight d (r .next - 9) q → q ≡ unbig (take 8 (drop (r .next - 9) d))
 seq-read d at r f e = e ∙ ap orZero (fixedAt-is 8 d (r .next - 9) (omega (arith, f .ends, f .inside)))
 
 -- a place whose region, position and key length are set

@@ -2,9 +2,8 @@
 // Follows slatedb 0.16.0, src/block_iterator_v2.rs (Apache License 2.0), and is changed: plain rows of one region are stepped over with no test of the block between them.
 ghost use mathlib.Core.Path.{_≡_};
 ghost use Rattle.region_rows_v2.specs.Bounds.{noStretch, stretchFrom};
-ghost use Rattle.region_rows_v2.specs.Promise.{BoundsOf, ReadsSeq};
+ghost use Rattle.region_rows_v2.specs.Promise.{BoundsOf};
 use basics::IterationOrder;
-use buf::WordRead;
 use step_in_place_v2::Place;
 use trailer::Region;
 use trailer::RegionRead;
@@ -58,16 +57,5 @@ pub fn bounds_of(block: &[u8], p: Place) -> Bounds
     Bounds {
         size: trailer.size,
         region,
-    }
-}
-
-// A row's sequence number: the eight bytes at `at`, 0 where they are not all there.
-pub fn seq_at(data: &[u8], at: usize) -> u64
-    ensures { λ r. ⌜ ReadsSeq (now («data» .entry)) at r ⌝ }
-{
-    let word = buf::get_u64(data, at);
-    match word {
-        WordRead::Word { value, next: _ } => value,
-        WordRead::Refused(_) => 0,
     }
 }

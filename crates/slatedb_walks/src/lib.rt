@@ -138,34 +138,6 @@ fn by_value(block: &[u8], start: BlockIteratorV2, limit: u64) -> Walked
     }
 }
 
-// Opens the block and steps at most `limit` times: 254, 14, 15, and what a step refuses. Good after `limit` rows, or done, sets `sums` to the rows found and their sum.
-#[no_mangle]
-pub extern "C" fn slatedb_walk_by_value(
-    block: &[u8],
-    order: u64,
-    limit: u64,
-    sums: &mut [u64],
-) -> u8
-    ensures { λ r. ⌜ WalksFlat (now (block .entry)) order limit (now (sums .entry)) r (now (sums .exit)) ⌝ }
-{
-    if sums.len() != SUMS_WORDS {
-        return block_words::BAD_WORDS;
-    }
-    let ordered = block_words::order_in(order);
-    let OrderRead::Is(o) = ordered else {
-        return block_words::BAD_WORDS;
-    };
-    let opened = BlockIteratorV2::new(block, o);
-    let answer = opened.answer;
-    match answer {
-        OpenAnswer::Good => {
-            let walked = by_value(block, opened.iterator, limit);
-            tell(walked, sums)
-        }
-        OpenAnswer::Refused(refusal) => basics::number(refusal),
-    }
-}
-
 // ---- in place
 
 // Puts the suffix of a plain row over the key of the row before, and gives the sum with it.
@@ -176,7 +148,7 @@ fn pass_plain(key: &mut [u8], data: &[u8], at: usize, row: PlainRow, sum: u64) -
     let from = at + 3;
     let end = from + row.unshared;
     buf_mut::copy_in(key, row.shared, &data[from..end]);
-    let seq = region_rows_v2::seq_at(data, row.next - 9);
+    let seq = buf::eight(data, row.next - 9);
     with_parts(
         sum,
         seq,
@@ -298,14 +270,10 @@ fn in_place(block: &[u8], start: Place, limit: u64) -> Walked
     }
 }
 
-// The same with the key bytes in place: no step copies a cursor.
-#[no_mangle]
-pub extern "C" fn slatedb_walk_in_place(
-    block: &[u8],
-    order: u64,
-    limit: u64,
-    sums: &mut [u64],
-) -> u8
+// ---- the two walks
+
+// Opens the block and steps at most `limit` times. Both walks are one but for the cursor, which moves by value or stays in place.
+fn walk_flat(block: &[u8], order: u64, limit: u64, sums: &mut [u64], moves: bool) -> u8
     ensures { λ r. ⌜ WalksFlat (now (block .entry)) order limit (now (sums .entry)) r (now (sums .exit)) ⌝ }
 {
     if sums.len() != SUMS_WORDS {
@@ -319,9 +287,39 @@ pub extern "C" fn slatedb_walk_in_place(
     let answer = opened.answer;
     match answer {
         OpenAnswer::Good => {
+            if moves {
+                let walked = by_value(block, opened.iterator, limit);
+                return tell(walked, sums);
+            }
             let walked = in_place(block, opened.iterator.place, limit);
             tell(walked, sums)
         }
         OpenAnswer::Refused(refusal) => basics::number(refusal),
     }
+}
+
+// 254, 14, 15, and what a step refuses. Good after `limit` rows, or done, sets `sums` to the rows found and their sum.
+#[no_mangle]
+pub extern "C" fn slatedb_walk_by_value(
+    block: &[u8],
+    order: u64,
+    limit: u64,
+    sums: &mut [u64],
+) -> u8
+    ensures { λ r. ⌜ WalksFlat (now (block .entry)) order limit (now (sums .entry)) r (now (sums .exit)) ⌝ }
+{
+    walk_flat(block, order, limit, sums, true)
+}
+
+// The same with the key bytes in place: no step copies a cursor.
+#[no_mangle]
+pub extern "C" fn slatedb_walk_in_place(
+    block: &[u8],
+    order: u64,
+    limit: u64,
+    sums: &mut [u64],
+) -> u8
+    ensures { λ r. ⌜ WalksFlat (now (block .entry)) order limit (now (sums .entry)) r (now (sums .exit)) ⌝ }
+{
+    walk_flat(block, order, limit, sums, false)
 }

@@ -312,14 +312,14 @@ module _ (b : List ℕ) (region at keyLen : ℕ) (key out : List ℕ) (a : Ahead
         (goes b region at keyLen key out s moved (ltb (s .g .reach) (s .p .next))))
 
     -- by the numbers that were met
-    pub step-goes : {key′ out′ : List ℕ} {to left high low : ℕ} → Moved key out (a .shared) (take (a .unshared) (drop (at + 3) b)) key′ out′
+    pub step-goes : {key′ out′ : List ℕ} {to left q : ℕ} → Moved key out (a .shared) (take (a .unshared) (drop (at + 3) b)) key′ out′
         → to ≡ cond (ltb (a .reach) (a .next)) (region + 1) region → left ≡ cond (ltb (a .reach) (a .next)) 0 (a .shared + a .unshared)
-        → high ≡ fourAt b (a .next - 9) → low ≡ fourAt b (a .next - 9 + 4)
+        → q ≡ fourAt b (a .next - 9) * 4294967296 + fourAt b (a .next - 9 + 4)
         → Goes (plainStep region at keyLen key b (length out)) key out
-        (record { region = to; «key_len» = left; next = a .next; shared = a .shared; unshared = a .unshared; «value_len» = a .«value_len»; seq = high * 4294967296 + low }) key′ out′
-    step-goes m t l h w =
+        (record { region = to; «key_len» = left; next = a .next; shared = a .shared; unshared = a .unshared; «value_len» = a .«value_len»; seq = q }) key′ out′
+    step-goes m t l w =
         let g = goes-made m in
-        record { answer = rw (t, l, h, w) (g .answer); key-bytes = g .key-bytes; lent = g .lent }
+        record { answer = rw (t, l, w) (g .answer); key-bytes = g .key-bytes; lent = g .lent }
 
 -- ---- for callers
 

@@ -4,9 +4,8 @@
 // for the rows that most rows are.
 ghost use mathlib.Core.Bool.{cond};
 ghost use mathlib.Core.Path.{_≡_};
-ghost use Prim.Native.Nat.{_≤_, _<_, _+_};
+ghost use Prim.Native.Nat.{_≤_, _+_};
 ghost use lib.ListN.{length, take, drop};
-ghost use Rattle.layout.specs.Laws.Place.{fourAt};
 ghost use Rattle.layout.specs.Place.{splice};
 ghost use Rattle.step_plain_v2.specs.Ahead.{noAhead, aheadAt, noStep, Moved};
 ghost use Rattle.step_plain_v2.specs.Promise.{StepsPlain};
@@ -119,36 +118,18 @@ fn copy_4(buf: &mut [u8], at: usize, src: &[u8], from: usize)
     requires { ⌜ (at + 4 ≤ length (now buf)) × (from + 4 ≤ length (now src)) ⌝ }
     ensures { λ _. ⌜ now (buf .exit) ≡ splice (now (buf .entry)) at (take 4 (drop from (now (src .entry)))) ⌝ }
 {
-    let a = src[from];
-    let b = src[from + 1];
-    let c = src[from + 2];
-    let d = src[from + 3];
-    buf[at] = a;
-    buf[at + 1] = b;
-    buf[at + 2] = c;
-    buf[at + 3] = d;
+    let end = at + 4;
+    let last = from + 4;
+    buf_mut::copy_4(&mut buf[at..end], &src[from..last]);
 }
 
 fn copy_8(buf: &mut [u8], at: usize, src: &[u8], from: usize)
     requires { ⌜ (at + 8 ≤ length (now buf)) × (from + 8 ≤ length (now src)) ⌝ }
     ensures { λ _. ⌜ now (buf .exit) ≡ splice (now (buf .entry)) at (take 8 (drop from (now (src .entry)))) ⌝ }
 {
-    let a = src[from];
-    let b = src[from + 1];
-    let c = src[from + 2];
-    let d = src[from + 3];
-    let e = src[from + 4];
-    let f = src[from + 5];
-    let g = src[from + 6];
-    let h = src[from + 7];
-    buf[at] = a;
-    buf[at + 1] = b;
-    buf[at + 2] = c;
-    buf[at + 3] = d;
-    buf[at + 4] = e;
-    buf[at + 5] = f;
-    buf[at + 6] = g;
-    buf[at + 7] = h;
+    let end = at + 8;
+    let last = from + 8;
+    buf_mut::copy_8(&mut buf[at..end], &src[from..last]);
 }
 
 // The first and the last of `n` bytes, which are all of them, some twice.
@@ -224,25 +205,6 @@ fn carry(key: &mut [u8], out: &mut [u8], block: &[u8], shared: usize, from: usiz
 
 // ---- the step
 
-fn wide64(x: u8) -> u64
-    ensures { λ r. ⌜ (r ≡ x) × (r < 256) ⌝ }
-{
-    x as u64
-}
-
-// Four bytes, high byte first. LLVM makes one load and a byte swap of sums in this form.
-fn four(s: &[u8], at: usize) -> u64
-    requires { ⌜ at + 4 ≤ length (now s) ⌝ }
-    ensures { λ r. ⌜ (r ≡ fourAt (now (s .entry)) at) × (r < 4294967296) ⌝ }
-{
-    let a = wide64(s[at]);
-    let b = wide64(s[at + 1]);
-    let half = at + 2;
-    let c = wide64(s[half]);
-    let d = wide64(s[half + 1]);
-    ((a * 256 + b) * 256 + c) * 256 + d
-}
-
 // One step past a plain row, of an ascending cursor that is not marked. Its key's bytes are lent, 1,024 of
 // them.
 pub fn plain_step(
@@ -262,8 +224,7 @@ pub fn plain_step(
     carry(key, out, block, row.shared, at + 3, row.unshared);
     let over = row.reach < row.next;
     let seq_at = row.next - 9;
-    let high = four(block, seq_at);
-    let low = four(block, seq_at + 4);
+    let seq_end = seq_at + 8;
     Stepped {
         region: pick(over, region + 1, region),
         key_len: pick(over, 0, row.shared + row.unshared),
@@ -271,6 +232,6 @@ pub fn plain_step(
         shared: row.shared,
         unshared: row.unshared,
         value_len: row.value_len,
-        seq: high * 4294967296 + low,
+        seq: buf::eight(&block[seq_at..seq_end], 0),
     }
 }

@@ -14,18 +14,18 @@ add-suffix-at c = search needs
 add-t5 : tie.Need-add-t5
 add-t5 c = search needs
 
-sub-seq-at : tie.Need-sub-seq-at
-sub-seq-at c = search needs
+sub-eight : tie.Need-sub-eight
+sub-eight c = search needs
 
-seq-at-requires : tie.Need-seq-at-requires
-seq-at-requires c κs = search needs
+eight-requires : tie.Need-eight-requires
+eight-requires c κs = search needs
 
 returns : tie.Need-returns
 returns c =
     let s = c .before .before .before .before in
     ap
     (λ (q : ℕ). record { start = s .args .at; next = s .args .row .next; shared = s .args .row .shared; suffixAt = s .args .at + 3; suffixLen = s .args .row .unshared; held = holds (s .args .at + 3 + s .args .row .unshared) (s .args .row .«value_len»); seq = q; expire = Absent; create = Absent })
-    (seq-read (s .args .«data» .now) (s .args .at) (s .args .row) (s .pre) (c .seq-at .ensures))
+    (seq-read (s .args .«data» .now) (s .args .at) (s .args .row) (s .pre) (c .eight .ensures))
 
 pub row-of-spec : {M : Type 1} → statement M
-row-of-spec = tie.close (tie.spec add-suffix-at add-t5 sub-seq-at seq-at-requires returns)
+row-of-spec = tie.close (tie.spec add-suffix-at add-t5 sub-eight eight-requires returns)

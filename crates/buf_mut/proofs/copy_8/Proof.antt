@@ -1,141 +1,26 @@
--- `copy_8` keeps its promise: eight bytes of `src`, from `from` on, at `at`. All are read before the first store, and what eight stores in a row leave is one write (`all-copied`).
-use native.Mathlib.Omega.{arith}
-use lib.ListN.{length-set}
-use Rattle.buf_mut.proofs.Copies.{all-copied}
+-- `copy_8` keeps its promise: nothing where either slice is too short, else eight bytes, copied from the start of the one to the start of the other.
+use borrow.Author.Needs.{needs}
+use Rattle.buf_mut.proofs.Copies.{first-none, first-short, first-all}
 use Rattle.buf_mut.proofs.copy_8.Statement.{statement}
 use Rattle.buf_mut.proofs.copy_8.Tie as tie
 
-shared-slice-read-a : tie.Need-shared-slice-read-a
-shared-slice-read-a c = omega arith
+returns : tie.Need-returns
+returns c = first-none 8 (c .before .before .before .args .src .now) (c .before .before .before .args .buf .now) (c .if1 .taken)
 
-add-b : tie.Need-add-b
-add-b c = omega arith
+returns-2 : tie.Need-returns-2
+returns-2 c = first-short 8 (c .before .before .before .before .args .src .now) (c .before .before .before .before .args .buf .now) (c .before .if1 .left) (c .if2 .taken)
 
-shared-slice-read-b : tie.Need-shared-slice-read-b
-shared-slice-read-b c = omega arith
-
-add-c : tie.Need-add-c
-add-c c = omega arith
-
-shared-slice-read-c : tie.Need-shared-slice-read-c
-shared-slice-read-c c = omega arith
-
-add-d : tie.Need-add-d
-add-d c = omega arith
-
-shared-slice-read-d : tie.Need-shared-slice-read-d
-shared-slice-read-d c = omega arith
-
-add-e : tie.Need-add-e
-add-e c = omega arith
-
-shared-slice-read-e : tie.Need-shared-slice-read-e
-shared-slice-read-e c = omega arith
-
-add-f : tie.Need-add-f
-add-f c = omega arith
-
-shared-slice-read-f : tie.Need-shared-slice-read-f
-shared-slice-read-f c = omega arith
-
-add-g : tie.Need-add-g
-add-g c = omega arith
-
-shared-slice-read-g : tie.Need-shared-slice-read-g
-shared-slice-read-g c = omega arith
-
-add-h : tie.Need-add-h
-add-h c = omega arith
-
-shared-slice-read-h : tie.Need-shared-slice-read-h
-shared-slice-read-h c = omega arith
-
-slice-write-buf : tie.Need-slice-write-buf
-slice-write-buf c = omega arith
-
-add-buf : tie.Need-add-buf
-add-buf c = omega arith
-
-slice-write-buf-2 : tie.Need-slice-write-buf-2
-slice-write-buf-2 c = simp length-set (omega arith)
-
-add-buf-2 : tie.Need-add-buf-2
-add-buf-2 c = omega arith
-
-slice-write-buf-3 : tie.Need-slice-write-buf-3
-slice-write-buf-3 c = simp length-set (omega arith)
-
-add-buf-3 : tie.Need-add-buf-3
-add-buf-3 c = omega arith
-
-slice-write-buf-4 : tie.Need-slice-write-buf-4
-slice-write-buf-4 c = simp length-set (omega arith)
-
-add-buf-4 : tie.Need-add-buf-4
-add-buf-4 c = omega arith
-
-slice-write-buf-5 : tie.Need-slice-write-buf-5
-slice-write-buf-5 c = simp length-set (omega arith)
-
-add-buf-5 : tie.Need-add-buf-5
-add-buf-5 c = omega arith
-
-slice-write-buf-6 : tie.Need-slice-write-buf-6
-slice-write-buf-6 c = simp length-set (omega arith)
-
-add-buf-6 : tie.Need-add-buf-6
-add-buf-6 c = omega arith
-
-slice-write-buf-7 : tie.Need-slice-write-buf-7
-slice-write-buf-7 c = simp length-set (omega arith)
-
-add-buf-7 : tie.Need-add-buf-7
-add-buf-7 c = omega arith
-
-slice-write-buf-8 : tie.Need-slice-write-buf-8
-slice-write-buf-8 c = simp length-set (omega arith)
+copy-8-at-requires : tie.Need-copy-8-at-requires
+copy-8-at-requires c κs = search needs
 
 same-length : tie.Need-same-length
-same-length c = simp length-set
+same-length c = search needs
 
-returns : tie.Need-returns
-returns c =
-    let s = c .before .before .before .before .before .before .before .before in
-    all-copied 7 (s .args .src .now) (s .args .from) (s .args .buf .now) (s .args .at) (s .pre .0) (s .pre .1)
+returns-3 : tie.Need-returns-3
+returns-3 c =
+    let k = c .before .before .before .before in
+    let a = k .before .before .before .before .args in
+    first-all 8 (a .src .now) (a .buf .now) (k .before .if1 .left) (k .if2 .left) (c .before .before .copy-8-at .ensures)
 
 pub copy-8-spec : {M : Type 1} → statement M
-copy-8-spec =
-    tie.close
-    (tie.spec
-    shared-slice-read-a
-    add-b
-    shared-slice-read-b
-    add-c
-    shared-slice-read-c
-    add-d
-    shared-slice-read-d
-    add-e
-    shared-slice-read-e
-    add-f
-    shared-slice-read-f
-    add-g
-    shared-slice-read-g
-    add-h
-    shared-slice-read-h
-    slice-write-buf
-    add-buf
-    slice-write-buf-2
-    add-buf-2
-    slice-write-buf-3
-    add-buf-3
-    slice-write-buf-4
-    add-buf-4
-    slice-write-buf-5
-    add-buf-5
-    slice-write-buf-6
-    add-buf-6
-    slice-write-buf-7
-    add-buf-7
-    slice-write-buf-8
-    same-length
-    returns)
+copy-8-spec = tie.close (tie.spec returns returns-2 copy-8-at-requires same-length returns-3)

@@ -19,11 +19,11 @@ loop-holds c = copying-start _ _ _ (omega arith)
 add-loop : tie.Need-add-loop Inv-loop μ-loop
 add-loop c = omega arith
 
-add-copy-8 : tie.Need-add-copy-8 Inv-loop μ-loop
-add-copy-8 c = omega arith
+add-copy-8-at : tie.Need-add-copy-8-at Inv-loop μ-loop
+add-copy-8-at c = omega arith
 
-copy-8-requires : tie.Need-copy-8-requires Inv-loop μ-loop
-copy-8-requires c κs = omega arith
+copy-8-at-requires : tie.Need-copy-8-at-requires Inv-loop μ-loop
+copy-8-at-requires c κs = omega arith
 
 add-i : tie.Need-add-i Inv-loop μ-loop
 add-i c = omega arith
@@ -34,24 +34,24 @@ loop-less c = omega arith
 loop-again : tie.Need-loop-again Inv-loop μ-loop
 loop-again c =
     let l = c .before .before .before .before .before in
-    copying-more (l .before .before .before .pre .1) (l .loop .inv) (c .before .before .before .before .loop-test .taken) (c .before .before .copy-8 .ensures)
+    copying-more (l .before .before .before .pre .1) (l .loop .inv) (c .before .before .before .before .loop-test .taken) (c .before .before .copy-8-at .ensures)
 
-sub-copy-8 : tie.Need-sub-copy-8 Inv-loop μ-loop
-sub-copy-8 c = omega arith
+sub-copy-8-at : tie.Need-sub-copy-8-at Inv-loop μ-loop
+sub-copy-8-at c = omega arith
 
-add-copy-8-2 : tie.Need-add-copy-8-2 Inv-loop μ-loop
-add-copy-8-2 c = omega arith
+add-copy-8-at-2 : tie.Need-add-copy-8-at-2 Inv-loop μ-loop
+add-copy-8-at-2 c = omega arith
 
-sub-copy-8-2 : tie.Need-sub-copy-8-2 Inv-loop μ-loop
-sub-copy-8-2 c = omega arith
+sub-copy-8-at-2 : tie.Need-sub-copy-8-at-2 Inv-loop μ-loop
+sub-copy-8-at-2 c = omega arith
 
-copy-8-requires-2 : tie.Need-copy-8-requires-2 Inv-loop μ-loop
-copy-8-requires-2 c κs = omega arith
+copy-8-at-requires-2 : tie.Need-copy-8-at-requires-2 Inv-loop μ-loop
+copy-8-at-requires-2 c κs = omega arith
 
 returns : tie.Need-returns Inv-loop μ-loop
 returns c =
     let l = c .before .before .before .before .before in
-    copying-last (l .before .before .before .pre .1) (l .loop .inv) (l .before .before .before .pre .0) (omega arith) (c .before .before .copy-82 .ensures)
+    copying-last (l .before .before .before .pre .1) (l .loop .inv) (l .before .before .before .pre .0) (omega arith) (c .before .before .copy-8-at2 .ensures)
 
 same-length : tie.Need-same-length Inv-loop μ-loop
 same-length c =
@@ -66,14 +66,14 @@ copy-groups-spec =
     μ-loop
     loop-holds
     add-loop
-    add-copy-8
-    copy-8-requires
+    add-copy-8-at
+    copy-8-at-requires
     add-i
     loop-less
     loop-again
-    sub-copy-8
-    add-copy-8-2
-    sub-copy-8-2
-    copy-8-requires-2
+    sub-copy-8-at
+    add-copy-8-at-2
+    sub-copy-8-at-2
+    copy-8-at-requires-2
     same-length
     returns)

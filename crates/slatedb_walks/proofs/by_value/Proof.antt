@@ -36,7 +36,7 @@ module _ (k : tie.After-known-told Inv-loop μ-loop) where
   row-found =
       let l = k .before .before .before .before .before .before .before .loop in
       let n = k .before .before .before .before .next in
-      finds _ _ _ (l .key) _ (λ few. length-take-le _ _ (omega (arith, few, l .inv .2))) (l .inv .1) _ (yes saysNext (n .ensures .answer) (k .before .answer .given .1)) (n .ensures .view) (n .ensures .lent)
+      finds _ _ _ (l .key) _ (l .inv .1) (λ few. length-take-le _ _ (omega (arith, few, l .inv .2))) _ (yes saysNext (n .ensures .answer) (k .before .answer .given .1)) (n .ensures .view) (n .ensures .lent)
 
 loop-holds : tie.Need-loop-holds Inv-loop μ-loop
 loop-holds c = (walking-start _ _ _, search needs, search needs)
@@ -76,7 +76,7 @@ enum-told c = search needs
 returns : tie.Need-returns Inv-loop μ-loop
 returns c =
     let n = c .before .before .before in
-    walking-done _ _ _ _ _ (n .before .before .before .loop .inv .0) (n .before .before .loop-test .taken) (ends _ _ _ (n .before .before .before .loop .inv .1) (yes saysNext (n .next .ensures .answer) (c .enum-told .given .1)) .1)
+    walking-done _ _ _ _ _ (n .before .before .before .loop .inv .0) (n .before .before .loop-test .taken) (ends _ _ _ (n .before .before .before .loop .key) _ (n .before .before .before .loop .inv .1) (yes saysNext (n .next .ensures .answer) (c .enum-told .given .1)) (n .next .ensures .view) (n .next .ensures .lent))
 
 enum-known-answer-2 : tie.Need-enum-known-answer-2 Inv-loop μ-loop
 enum-known-answer-2 c = search needs

@@ -96,7 +96,7 @@ enum-told c = search needs
 returns : tie.Need-returns Inv-loop μ-loop
 returns c =
     let n = c .before .before .before .before in
-    walking-done _ _ _ _ _ (here n) (few n) (moved-ends _ _ _ _ _ _ _ (carried-whole n) (key-whole n) (n .next-in-place .ensures) (c .enum-told .given .1) .1)
+    walking-done _ _ _ _ _ (here n) (few n) (moved-ends _ _ _ _ _ _ _ (carried-whole n) (key-whole n) (n .next-in-place .ensures) (c .enum-told .given .1))
 
 enum-known-moved-2 : tie.Need-enum-known-moved-2 Inv-loop μ-loop
 enum-known-moved-2 c = search needs

@@ -25,11 +25,11 @@ part-copy-in-end c = search needs
 copy-in-requires : tie.Need-copy-in-requires
 copy-in-requires c κs = search needs
 
-sub-seq-at : tie.Need-sub-seq-at
-sub-seq-at c = search needs
+sub-eight : tie.Need-sub-eight
+sub-eight c = search needs
 
-seq-at-requires : tie.Need-seq-at-requires
-seq-at-requires c κs = search needs
+eight-requires : tie.Need-eight-requires
+eight-requires c κs = search needs
 
 add-with-parts : tie.Need-add-with-parts
 add-with-parts c = search needs
@@ -45,7 +45,7 @@ returns c =
     let s = c .before .before .before .before .before .before .before .before .before .before .before .before .before in
     record {
       carried = copied-part (s .args .«data» .now) (s .args .at + 3) (s .args .row .unshared) (omega (arith, s .pre)) (omega (arith, s .pre)) (c .before .before .before .before .before .before .before .copy-in .ensures);
-      summed = rw (seq-read (s .args .«data» .now) (s .args .at) (s .args .row) (s .pre .1) (c .before .before .before .seq-at .ensures)) at (c .with-parts .ensures);
+      summed = rw (seq-read (s .args .«data» .now) (s .args .at) (s .args .row) (s .pre .1) (c .before .before .before .eight .ensures)) at (c .with-parts .ensures);
     }
 
 pub pass-plain-spec : {M : Type 1} → statement M
@@ -58,8 +58,8 @@ pass-plain-spec =
     part-copy-in-start
     part-copy-in-end
     copy-in-requires
-    sub-seq-at
-    seq-at-requires
+    sub-eight
+    eight-requires
     add-with-parts
     with-parts-requires
     same-length

@@ -1,142 +1,56 @@
--- `copy_8` keeps its promise: eight bytes of `src`, from `from` on, at `at`. All are read before the first
--- store, and eight stores in a row are one write (`all-copied`).
-use native.Mathlib.Omega.{arith}
-use lib.ListN.{length-set}
-use Rattle.buf_mut.proofs.Copies.{all-copied}
+-- `copy_8` keeps its promise: the parts that are lent have eight bytes, so that all are copied (`part-copied`).
+use Rattle.buf_mut.proofs.Copies.{part-copied}
 use borrow.Author.Needs.{needs}
 use Rattle.step_plain_v2.proofs.copy_8.Statement.{statement}
 use Rattle.step_plain_v2.proofs.copy_8.Tie as tie
 
-shared-slice-read-a : tie.Need-shared-slice-read-a
-shared-slice-read-a c = search needs
+add-end : tie.Need-add-end
+add-end c = search needs
 
-add-b : tie.Need-add-b
-add-b c = search needs
+add-last : tie.Need-add-last
+add-last c = search needs
 
-shared-slice-read-b : tie.Need-shared-slice-read-b
-shared-slice-read-b c = search needs
+sub-copy-8 : tie.Need-sub-copy-8
+sub-copy-8 c = search needs
 
-add-c : tie.Need-add-c
-add-c c = search needs
+part-copy-8-start : tie.Need-part-copy-8-start
+part-copy-8-start c = search needs
 
-shared-slice-read-c : tie.Need-shared-slice-read-c
-shared-slice-read-c c = search needs
+part-copy-8-end : tie.Need-part-copy-8-end
+part-copy-8-end c = search needs
 
-add-d : tie.Need-add-d
-add-d c = search needs
+sub-copy-8-2 : tie.Need-sub-copy-8-2
+sub-copy-8-2 c = search needs
 
-shared-slice-read-d : tie.Need-shared-slice-read-d
-shared-slice-read-d c = search needs
+part-copy-8-start-2 : tie.Need-part-copy-8-start-2
+part-copy-8-start-2 c = search needs
 
-add-e : tie.Need-add-e
-add-e c = search needs
+part-copy-8-end-2 : tie.Need-part-copy-8-end-2
+part-copy-8-end-2 c = search needs
 
-shared-slice-read-e : tie.Need-shared-slice-read-e
-shared-slice-read-e c = search needs
-
-add-f : tie.Need-add-f
-add-f c = search needs
-
-shared-slice-read-f : tie.Need-shared-slice-read-f
-shared-slice-read-f c = search needs
-
-add-g : tie.Need-add-g
-add-g c = search needs
-
-shared-slice-read-g : tie.Need-shared-slice-read-g
-shared-slice-read-g c = search needs
-
-add-h : tie.Need-add-h
-add-h c = search needs
-
-shared-slice-read-h : tie.Need-shared-slice-read-h
-shared-slice-read-h c = search needs
-
-slice-write-buf : tie.Need-slice-write-buf
-slice-write-buf c = search needs
-
-add-buf : tie.Need-add-buf
-add-buf c = search needs
-
-slice-write-buf-2 : tie.Need-slice-write-buf-2
-slice-write-buf-2 c = simp length-set (omega arith)
-
-add-buf-2 : tie.Need-add-buf-2
-add-buf-2 c = search needs
-
-slice-write-buf-3 : tie.Need-slice-write-buf-3
-slice-write-buf-3 c = simp length-set (omega arith)
-
-add-buf-3 : tie.Need-add-buf-3
-add-buf-3 c = search needs
-
-slice-write-buf-4 : tie.Need-slice-write-buf-4
-slice-write-buf-4 c = simp length-set (omega arith)
-
-add-buf-4 : tie.Need-add-buf-4
-add-buf-4 c = search needs
-
-slice-write-buf-5 : tie.Need-slice-write-buf-5
-slice-write-buf-5 c = simp length-set (omega arith)
-
-add-buf-5 : tie.Need-add-buf-5
-add-buf-5 c = search needs
-
-slice-write-buf-6 : tie.Need-slice-write-buf-6
-slice-write-buf-6 c = simp length-set (omega arith)
-
-add-buf-6 : tie.Need-add-buf-6
-add-buf-6 c = search needs
-
-slice-write-buf-7 : tie.Need-slice-write-buf-7
-slice-write-buf-7 c = simp length-set (omega arith)
-
-add-buf-7 : tie.Need-add-buf-7
-add-buf-7 c = search needs
-
-slice-write-buf-8 : tie.Need-slice-write-buf-8
-slice-write-buf-8 c = simp length-set (omega arith)
+copy-8-requires : tie.Need-copy-8-requires
+copy-8-requires c κs = search needs
 
 same-length : tie.Need-same-length
-same-length c = simp length-set
+same-length c = search needs
 
 returns : tie.Need-returns
-returns c = let s = c .before .before .before .before .before .before .before .before in
-    all-copied 7 (s .args .src .now) (s .args .from) (s .args .buf .now) (s .args .at) (s .pre .0) (s .pre .1)
+returns c =
+    let s = c .before .before .before .before .before .before .before in
+    part-copied 8 (s .args .buf .now) (s .args .src .now) (s .args .at) (s .args .from) (s .pre .0) (s .pre .1) (c .before .before .copy-8 .ensures)
 
 pub copy-8-spec : {M : Type 1} → statement M
 copy-8-spec =
     tie.close
     (tie.spec
-    shared-slice-read-a
-    add-b
-    shared-slice-read-b
-    add-c
-    shared-slice-read-c
-    add-d
-    shared-slice-read-d
-    add-e
-    shared-slice-read-e
-    add-f
-    shared-slice-read-f
-    add-g
-    shared-slice-read-g
-    add-h
-    shared-slice-read-h
-    slice-write-buf
-    add-buf
-    slice-write-buf-2
-    add-buf-2
-    slice-write-buf-3
-    add-buf-3
-    slice-write-buf-4
-    add-buf-4
-    slice-write-buf-5
-    add-buf-5
-    slice-write-buf-6
-    add-buf-6
-    slice-write-buf-7
-    add-buf-7
-    slice-write-buf-8
+    add-end
+    add-last
+    sub-copy-8
+    part-copy-8-start
+    part-copy-8-end
+    sub-copy-8-2
+    part-copy-8-start-2
+    part-copy-8-end-2
+    copy-8-requires
     same-length
     returns)

@@ -1,8 +1,10 @@
 -- `plain_step` keeps its promise: no step where the look finds none, else the rules' own step, with the key
 -- carried and given. What the look found tells that no sum fails and that all places are inside the block.
+use Prim.Native.Nat.{_-_}
 use native.Mathlib.Omega.{arith}
 use lib.ListN.{length}
 use Rattle.step_plain_v2.proofs.Laws.{Numbers, standing, numbers, step-not, step-goes}
+use Rattle.buf.proofs.Laws.{eight-part}
 use borrow.Author.Needs.{needs}
 use Rattle.step_plain_v2.proofs.plain_step.Statement.{statement}
 use Rattle.step_plain_v2.proofs.plain_step.Tie as tie
@@ -35,32 +37,32 @@ carry-requires c κs = let f = facts (c .before .before) in
 sub-seq-at : tie.Need-sub-seq-at
 sub-seq-at c = let f = facts (c .before .before .before .before .before .before .before .before .before) in omega (arith, f .ends)
 
-four-requires : tie.Need-four-requires
-four-requires c κs = let f = facts (c .before .before .before .before .before .before .before .before .before) in omega (arith, f .ends, f .inside)
-
-add-four : tie.Need-add-four
-add-four c = search needs
-
-four-requires-2 : tie.Need-four-requires-2
-four-requires-2 c κs = let f = facts (c .before .before .before .before .before .before .before .before .before .before) in omega (arith, f .ends, f .inside)
+add-seq-end : tie.Need-add-seq-end
+add-seq-end c = search needs
 
 add-pick : tie.Need-add-pick
-add-pick c = let k = c .before .before .before .before .before .before .before .before .before .before .before in let good = entry k .good in omega (arith, facts k .counted)
+add-pick c = let k = c .before .before .before .before .before .before .before .before .before in let good = entry k .good in omega (arith, facts k .counted)
 
 pick-requires : tie.Need-pick-requires
 pick-requires c κs = search needs
 
 add-pick-2 : tie.Need-add-pick-2
-add-pick-2 c = let f = facts (c .before .before .before .before .before .before .before .before .before .before .before .before .before) in omega (arith, f .shared-small, f .unshared-small)
+add-pick-2 c = let f = facts (c .before .before .before .before .before .before .before .before .before .before .before) in omega (arith, f .shared-small, f .unshared-small)
 
 pick-requires-2 : tie.Need-pick-requires-2
 pick-requires-2 c κs = search needs
 
-mul-t22 : tie.Need-mul-t22
-mul-t22 c = search needs
+sub-eight : tie.Need-sub-eight
+sub-eight c = search needs
 
-add-t23 : tie.Need-add-t23
-add-t23 c = search needs
+part-eight-start : tie.Need-part-eight-start
+part-eight-start c = search needs
+
+part-eight-end : tie.Need-part-eight-end
+part-eight-end c = let f = facts (c .before .before .before .before .before .before .before .before .before .before .before .before) in omega (arith, f .ends, f .inside)
+
+eight-requires : tie.Need-eight-requires
+eight-requires c κs = search needs
 
 same-length : tie.Need-same-length
 same-length c = search needs
@@ -70,7 +72,8 @@ same-length-2 c = search needs
 
 returns-2 : tie.Need-returns-2
 returns-2 c = let k = c .before .before .before .before .before .before .before .before .before .before .before .before .before .before in
-    step-goes _ _ _ _ _ _ _ (k .before .before .look-plain .ensures) (k .if1 .left) (c .before .before .before .before .before .before .before .before .before .before .before .carry .ensures) (c .before .before .pick .ensures) (c .pick2 .ensures) (c .before .before .before .before .four .ensures .0) (c .before .before .before .four2 .ensures .0)
+    let f = facts k in
+    step-goes _ _ _ _ _ _ _ (k .before .before .look-plain .ensures) (k .if1 .left) (c .before .before .before .before .before .before .before .before .before .before .before .carry .ensures) (c .before .before .before .before .pick .ensures) (c .before .before .pick2 .ensures) (eight-part (entry k .args .block .now) (k .before .before .look-plain .result .next - 9) (omega (arith, f .ends, f .inside)) (c .eight .ensures))
 
 pub plain-step-spec : {M : Type 1} → statement M
 plain-step-spec =
@@ -82,15 +85,15 @@ plain-step-spec =
     add-carry
     carry-requires
     sub-seq-at
-    four-requires
-    add-four
-    four-requires-2
+    add-seq-end
     add-pick
     pick-requires
     add-pick-2
     pick-requires-2
-    mul-t22
-    add-t23
+    sub-eight
+    part-eight-start
+    part-eight-end
+    eight-requires
     same-length
     same-length-2
     returns-2)

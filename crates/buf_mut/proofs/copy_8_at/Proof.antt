@@ -1,9 +1,9 @@
--- `copy_8` keeps its promise: eight bytes of `src`, from `from` on, at `at`. All are read before the first store, and what eight stores in a row leave is one write (`all-copied`).
+-- `copy_8_at` keeps its promise: eight bytes of `src`, from `from` on, at `at`. All are read before the first store, and what eight stores in a row leave is one write (`all-copied`).
 use native.Mathlib.Omega.{arith}
 use lib.ListN.{length-set}
 use Rattle.buf_mut.proofs.Copies.{all-copied}
-use Rattle.block_rows_v2.proofs.copy_8.Statement.{statement}
-use Rattle.block_rows_v2.proofs.copy_8.Tie as tie
+use Rattle.buf_mut.proofs.copy_8_at.Statement.{statement}
+use Rattle.buf_mut.proofs.copy_8_at.Tie as tie
 
 shared-slice-read-a : tie.Need-shared-slice-read-a
 shared-slice-read-a c = omega arith
@@ -103,8 +103,8 @@ returns c =
     let s = c .before .before .before .before .before .before .before .before in
     all-copied 7 (s .args .src .now) (s .args .from) (s .args .buf .now) (s .args .at) (s .pre .0) (s .pre .1)
 
-pub copy-8-spec : {M : Type 1} → statement M
-copy-8-spec =
+pub copy-8-at-spec : {M : Type 1} → statement M
+copy-8-at-spec =
     tie.close
     (tie.spec
     shared-slice-read-a

@@ -1,11 +1,11 @@
--- The walk by value keeps the promise: the number of words and the order first, then the walk from the cursor that `new` promised, told as it ended.
--- Each exit is one law.
+-- Both walks keep the promise: the number of words and the order first, then the walk from the cursor that `new` promised, or from its place, told as it ended.
+-- Each exit is one law; an opened cursor carries no key, so that zeros do for its bytes.
 use Rattle.basics.specs.Answers.{yes}
 use Rattle.block_words.specs.Says.{saysOrdered}
-use Rattle.slatedb_walks.proofs.Laws.{walks-short, walks-no-order, walks-told, walks-not-opened}
+use Rattle.slatedb_walks.proofs.Laws.{walks-short, walks-no-order, walks-told, walks-told-in-place, walks-not-opened}
 use borrow.Author.Needs.{needs}
-use Rattle.slatedb_walks.proofs.slatedb_walk_by_value.Statement.{statement}
-use Rattle.slatedb_walks.proofs.slatedb_walk_by_value.Tie as tie
+use Rattle.slatedb_walks.proofs.walk_flat.Statement.{statement}
+use Rattle.slatedb_walks.proofs.walk_flat.Tie as tie
 
 returns : tie.Need-returns
 returns c =
@@ -38,12 +38,6 @@ by-value-requires c κs = search needs
 tell-requires : tie.Need-tell-requires
 tell-requires c κs = search needs
 
-enum-known-answer : tie.Need-enum-known-answer
-enum-known-answer c = search needs
-
-number-requires : tie.Need-number-requires
-number-requires c κs = search needs
-
 same-length : tie.Need-same-length
 same-length c = search needs
 
@@ -52,17 +46,39 @@ returns-3 c =
     let opened = c .before .before .before .before .before .before .before in
     let known = opened .before .before in
     let start = known .before .before .before .before .before .before in
-    walks-told (start .args .block .now) (start .args .order) (start .args .limit) (start .args .sums .now) _ _ (known .before .before .before .if1 .left) (yes saysOrdered (known .before .before .order-in .ensures) (known .ordered .given .1)) (opened .new .ensures) (c .before .before .before .before .before .enum-told2 .given .1) (c .before .before .before .before .by-value .ensures) (c .before .before .tell .ensures)
+    walks-told (start .args .block .now) (start .args .order) (start .args .limit) (start .args .sums .now) _ _ (known .before .before .before .if1 .left) (yes saysOrdered (known .before .before .order-in .ensures) (known .ordered .given .1)) (opened .new .ensures) (c .before .before .before .before .before .before .enum-told2 .given .1) (c .before .before .before .before .by-value .ensures) (c .before .before .tell .ensures)
+
+in-place-requires : tie.Need-in-place-requires
+in-place-requires c κs = search needs
+
+tell-requires-2 : tie.Need-tell-requires-2
+tell-requires-2 c κs = search needs
+
+enum-known-answer : tie.Need-enum-known-answer
+enum-known-answer c = search needs
+
+number-requires : tie.Need-number-requires
+number-requires c κs = search needs
+
+same-length-2 : tie.Need-same-length-2
+same-length-2 c = search needs
 
 returns-4 : tie.Need-returns-4
 returns-4 c =
+    let opened = c .before .before .before .before .before .before .before .before in
+    let known = opened .before .before in
+    let start = known .before .before .before .before .before .before in
+    walks-told-in-place (start .args .block .now) (start .args .order) (start .args .limit) (start .args .sums .now) _ _ (known .before .before .before .if1 .left) (yes saysOrdered (known .before .before .order-in .ensures) (known .ordered .given .1)) (opened .new .ensures) (c .before .before .before .before .before .before .enum-told2 .given .1) (c .before .before .before .before .in-place .ensures) (c .before .before .tell2 .ensures)
+
+returns-5 : tie.Need-returns-5
+returns-5 c =
     let opened = c .before .before .before .before in
     let known = opened .before .before in
     let start = known .before .before .before .before .before .before in
     walks-not-opened (start .args .block .now) (start .args .order) (start .args .limit) (start .args .sums .now) _ _ (known .before .before .before .if1 .left) (yes saysOrdered (known .before .before .order-in .ensures) (known .ordered .given .1)) (opened .new .ensures) (c .before .before .answer .given .1) (c .number .ensures)
 
-pub slatedb-walk-by-value-spec : {M : Type 1} → statement M
-slatedb-walk-by-value-spec =
+pub walk-flat-spec : {M : Type 1} → statement M
+walk-flat-spec =
     tie.close
     (tie.spec
     returns
@@ -74,8 +90,12 @@ slatedb-walk-by-value-spec =
     enum-told-2
     by-value-requires
     tell-requires
-    enum-known-answer
-    number-requires
     same-length
     returns-3
-    returns-4)
+    in-place-requires
+    tell-requires-2
+    enum-known-answer
+    number-requires
+    same-length-2
+    returns-4
+    returns-5)
