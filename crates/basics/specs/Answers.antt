@@ -1,9 +1,11 @@
 -- Answers that say a value or a refusal's number, whatever their type: what a callee's answer tells its caller, and that none says two things.
 use Prim.Native.Nat.{ℕ}
-use mathlib.Core.Path.{_≡_, ap, sym, _∙_}
+use mathlib.Core.Path.{_≡_, refl, ap, sym, _∙_}
 use native.Mathlib.Omega.{arith}
 use Rattle.layout.specs.Answer.{Res, ok, refuse}
 use Rattle.basics.specs.declared.Refusal.{Refusal}
+use Rattle.basics.specs.declared.Verdict.{Verdict}
+use Rattle.basics.specs.declared.Verdict.the-variants.{Good, Refused}
 use Rattle.basics.specs.Number.{number, number-one}
 
 -- the answer a is the case v, so what it was asked to say is what v says
@@ -25,3 +27,15 @@ refusal (refuse n) = n
 
 pub refused-one : {A : Type 0} {a b : Refusal} → _≡_ {A = Res A} (refuse (number a)) (refuse (number b)) → a ≡ b
 refused-one {A} {a} {b} e = number-one a b (ap refusal e)
+
+-- ---- good, or a refusal
+
+abbrev pub saysVerdict : Verdict → Res (Unit {0})
+saysVerdict Good = ok tt
+saysVerdict (Refused r) = refuse (number r)
+
+pub saysVerdict-one : (a b : Verdict) → saysVerdict a ≡ saysVerdict b → a ≡ b
+saysVerdict-one Good Good e = refl
+saysVerdict-one Good (Refused r) e = absurd (apart e)
+saysVerdict-one (Refused r) Good e = absurd (apart (sym e))
+saysVerdict-one (Refused r) (Refused q) e = ap Refused (refused-one e)

@@ -70,6 +70,12 @@ pub fn number(r: Refusal) -> u8
     }
 }
 
+// An answer that tells no more than whether the call was good.
+pub enum Verdict {
+    Good,
+    Refused(Refusal),
+}
+
 // In an answer: where the value's bytes stand. A tombstone has no bytes, so it has no place.
 pub enum ValueDeletable {
     Value { start: usize, len: usize },

@@ -1,22 +1,14 @@
--- The promises of `new`, `is_empty`, `next` and `seek` from what was met: laws for the exits of the first two, and one law for the whole step and the whole seek.
+-- The promises of `next` and `seek` from what was met: one law for the whole step and one for the whole seek.
 -- The place that a step or a seek leaves is put into the cursor that came, beside its key bytes; after a refusal both are those that came.
-use Prim.Native.Nat.{ℕ, _-_}
-use mathlib.Core.Path.{_≡_, refl, ap, sym, _∙_}
-use mathlib.Core.Bool.{Bool, true, false}
+use Prim.Native.Nat.{ℕ}
+use mathlib.Core.Path.{_≡_, refl, ap, _∙_}
 use mathlib.Core.List.{List}
-use lib.Dec.{leb}
 use lib.ListN.{length}
 use Rattle.layout.specs.Answer.{Res, ok, refuse, bind}
-use Rattle.layout.specs.Trailer.{Trailer, trailerOf}
-use Rattle.layout.specs.Cursor.{Direction, ascending, descending, opened, openBlock, Step, next, exhausted, isEmpty}
+use Rattle.layout.specs.Cursor.{Step, next}
 use Rattle.layout.specs.Seek.{Sought, seek}
-use Rattle.layout.specs.Laws.Cursor.{empty-is}
 use Rattle.basics.specs.Answers.{apart}
-use Rattle.basics.specs.Number.{number}
 use Rattle.basics.specs.Says.{saysOrder}
-use Rattle.basics.specs.declared.IterationOrder.{IterationOrder}
-use Rattle.basics.specs.declared.IterationOrder.the-variants.{Ascending, Descending}
-use Rattle.basics.specs.declared.Refusal.{Refusal}
 use Rattle.step_in_place_v2.specs.declared.Place.{Place}
 use Rattle.step_in_place_v2.specs.declared.Moved.{Moved}
 use Rattle.step_in_place_v2.specs.declared.Moved.the-variants.{Found as StepFound, Done as StepDone, Refused as StepRefused}
@@ -27,42 +19,11 @@ use Rattle.seek_in_place_v2.specs.declared.Found.the-variants.{Landed as FoundL
 use Rattle.seek_in_place_v2.specs.Promise.{Finds}
 use Rattle.seek_in_place_v2.specs.Says.{reported, saysFound, placeFound}
 use Rattle.block_iterator_v2.specs.declared.BlockIteratorV2.{BlockIteratorV2}
-use Rattle.block_iterator_v2.specs.declared.OpenAnswer.the-variants.{Good, Refused as OpenRefused}
 use Rattle.block_iterator_v2.specs.declared.NextAnswer.{NextAnswer}
 use Rattle.block_iterator_v2.specs.declared.SeekAnswer.{SeekAnswer}
 use Rattle.block_iterator_v2.specs.Says.{viewOf, saysNext, saysSeek}
-use Rattle.block_iterator_v2.specs.Parts.{placed, answerOf, answerFound}
-use Rattle.block_iterator_v2.specs.Promise.{Opens, Whole, StepsNext, SeeksTarget}
-
--- ---- opening
-
-module _ (b : List ℕ) (order : IterationOrder) (i : BlockIteratorV2) where
-  pub opens-not : {x : Refusal} → openBlock b (saysOrder order) ≡ refuse (number x) → i ≡ placed order 0 0 → Opens b order (record { iterator = i; answer = OpenRefused x })
-  opens-not e is = rw is (record { answer = rw e; view = rw e; bytes = refl })
-
-  module _ (t : Trailer) (e : openBlock b (saysOrder order) ≡ ok (opened (saysOrder order) t)) where
-    pub opens-up : order ≡ Ascending → i ≡ placed order 0 0 → Opens b order (record { iterator = i; answer = Good })
-    opens-up o is = rw is (record { answer = rw e; view = rw (e, o); bytes = refl })
-
-    pub opens-down : order ≡ Descending → i ≡ placed order (t .count - 1) (t .size) → Opens b order (record { iterator = i; answer = Good })
-    opens-down o is = rw is (record { answer = rw e; view = rw (e, o); bytes = refl })
-
--- ---- is_empty
-
-module _ (self : BlockIteratorV2) (b : List ℕ) (t : Trailer) (e : trailerOf b ≡ ok t) where
-  pub empty-marked : self .place .done ≡ true → ok true ≡ isEmpty (viewOf self) b
-  empty-marked m = sym (empty-is (viewOf self) b t e ∙ ap (λ (x : Bool). ok x) (either (saysOrder (self .place .order))))
-    where
-      either : (d : Direction) → exhausted d (viewOf self) t ≡ true
-      either ascending = rw m
-      either descending = m
-
-  module _ (m : self .place .done ≡ false) where
-    pub empty-up : self .place .order ≡ Ascending → ok (leb (t .size) (self .place .at)) ≡ isEmpty (viewOf self) b
-    empty-up o = sym (empty-is (viewOf self) b t e ∙ rw (o, m))
-
-    pub empty-down : self .place .order ≡ Descending → ok false ≡ isEmpty (viewOf self) b
-    empty-down o = sym (empty-is (viewOf self) b t e ∙ rw (o, m))
+use Rattle.block_iterator_v2.specs.Parts.{answerOf, answerFound}
+use Rattle.block_iterator_v2.specs.Promise.{Whole, StepsNext, SeeksTarget}
 
 -- ---- a step
 

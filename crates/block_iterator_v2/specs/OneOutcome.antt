@@ -7,22 +7,24 @@ use lib.ListN.{length}
 use Rattle.layout.specs.Answer.{Res, ok, refuse}
 use Rattle.layout.specs.Cursor.{next}
 use Rattle.layout.specs.Seek.{seek}
+use Rattle.basics.specs.Answers.{saysVerdict-one}
 use Rattle.basics.specs.Says.{saysOrder}
 use Rattle.basics.specs.declared.IterationOrder.{IterationOrder}
+use Rattle.basics.specs.declared.Verdict.{Verdict}
+use Rattle.step_in_place_v2.specs.Says.{saysEmpty-one}
+use Rattle.step_in_place_v2.specs.declared.EmptyRead.{EmptyRead}
 use Rattle.block_iterator_v2.specs.declared.BlockIteratorV2.{BlockIteratorV2}
-use Rattle.block_iterator_v2.specs.declared.OpenAnswer.{OpenAnswer}
 use Rattle.block_iterator_v2.specs.declared.Opened.{Opened}
 use Rattle.block_iterator_v2.specs.declared.Next.{Next}
 use Rattle.block_iterator_v2.specs.declared.Sought.{Sought}
-use Rattle.block_iterator_v2.specs.declared.EmptyRead.{EmptyRead}
-use Rattle.block_iterator_v2.specs.Says.{viewOf, viewOf-one, saysOpen-one, saysNext-one, saysSeek-one, saysEmpty-one}
+use Rattle.block_iterator_v2.specs.Says.{viewOf, viewOf-one, saysNext-one, saysSeek-one}
 use Rattle.block_iterator_v2.specs.Promise.{Opens, Whole, StepsNext, SeeksTarget, TellsEmpty}
 
 pub new-settled : (b : List ℕ) (order : IterationOrder) (r q : Opened) → Opens b order r → Opens b order q → r ≡ q
 new-settled b order r q m n =
     let i = viewOf-one (r .iterator) (q .iterator) (m .view ∙ sym (n .view)) (m .bytes ∙ sym (n .bytes)) in
-    let a = saysOpen-one (r .answer) (q .answer) (m .answer ∙ sym (n .answer)) in
-    ap (λ (x : BlockIteratorV2). record { iterator = x; answer = r .answer }) i ∙ ap (λ (x : OpenAnswer). record { iterator = q .iterator; answer = x }) a
+    let a = saysVerdict-one (r .answer) (q .answer) (m .answer ∙ sym (n .answer)) in
+    ap (λ (x : BlockIteratorV2). record { iterator = x; answer = r .answer }) i ∙ ap (λ (x : Verdict). record { iterator = q .iterator; answer = x }) a
 
 wholes : {A : Type 0} (want : Res A) (a b self : BlockIteratorV2) → Whole want a self → Whole want b self → Whole want a b
 wholes (ok x) a b self m n = tt

@@ -1,22 +1,12 @@
 -- What the private functions answer.
-use Prim.Native.Nat.{ℕ}
-use mathlib.Core.Bool.{false}
-use lib.ListN.{replicate}
-use Rattle.layout.specs.Limits.{maxKey}
-use Rattle.basics.specs.declared.IterationOrder.{IterationOrder}
 use Rattle.step_in_place_v2.specs.declared.Moved.{Moved}
 use Rattle.step_in_place_v2.specs.declared.Moved.the-variants.{Found as StepFound, Done as StepDone, Refused as StepRefused}
 use Rattle.seek_in_place_v2.specs.declared.Found.{Found as FoundC}
 use Rattle.seek_in_place_v2.specs.declared.Found.the-variants.{Landed as FoundLanded, Done as FoundDone, Refused as FoundRefused}
-use Rattle.block_iterator_v2.specs.declared.BlockIteratorV2.{BlockIteratorV2}
 use Rattle.block_iterator_v2.specs.declared.NextAnswer.{NextAnswer}
 use Rattle.block_iterator_v2.specs.declared.NextAnswer.the-variants.{Found, Done as NextDone, Refused as NextRefused}
 use Rattle.block_iterator_v2.specs.declared.SeekAnswer.{SeekAnswer}
 use Rattle.block_iterator_v2.specs.declared.SeekAnswer.the-variants.{Landed, Done as SeekDone, Refused as SeekRefused}
-
--- a cursor with no key
-abbrev pub placed : IterationOrder → ℕ → ℕ → BlockIteratorV2
-placed order region at = record { place = record { order = order; region = region; at = at; «key_len» = 0; done = false }; key = replicate maxKey 0 }
 
 -- what the step over the key's bytes answers
 abbrev pub answerOf : Moved → NextAnswer

@@ -8,20 +8,21 @@ use Rattle.layout.specs.Answer.{Res, ok, refuse, bind, whether}
 use Rattle.layout.specs.Limits.{maxKey}
 use Rattle.layout.specs.Cursor.{cursorOr, openBlock, Step, next, cursorAfter, keyAfter, isEmpty}
 use Rattle.layout.specs.Seek.{Sought as SoughtL, seek, soughtAfter}
+use Rattle.basics.specs.Answers.{saysVerdict}
 use Rattle.basics.specs.Says.{saysOrder}
 use Rattle.basics.specs.declared.IterationOrder.{IterationOrder}
-use Rattle.step_in_place_v2.specs.Says.{told}
+use Rattle.step_in_place_v2.specs.Says.{saysEmpty, told}
+use Rattle.step_in_place_v2.specs.declared.EmptyRead.{EmptyRead}
 use Rattle.seek_in_place_v2.specs.Says.{reported}
 use Rattle.block_iterator_v2.specs.declared.BlockIteratorV2.{BlockIteratorV2}
 use Rattle.block_iterator_v2.specs.declared.Opened.{Opened}
 use Rattle.block_iterator_v2.specs.declared.Next.{Next}
 use Rattle.block_iterator_v2.specs.declared.Sought.{Sought}
-use Rattle.block_iterator_v2.specs.declared.EmptyRead.{EmptyRead}
-use Rattle.block_iterator_v2.specs.Says.{viewOf, saysOpen, saysNext, saysSeek, saysEmpty}
+use Rattle.block_iterator_v2.specs.Says.{viewOf, saysNext, saysSeek}
 
 -- a cursor, and beside a refusal one in region 0 at 0; its key's bytes are zeros
 pub record Opens (b : List ℕ) (order : IterationOrder) (r : Opened) : Type 0 where
-  pub answer : saysOpen (r .answer) ≡ whether (openBlock b (saysOrder order))
+  pub answer : saysVerdict (r .answer) ≡ whether (openBlock b (saysOrder order))
   pub view : viewOf (r .iterator) ≡ cursorOr (saysOrder order) (openBlock b (saysOrder order))
   pub bytes : r .iterator .key ≡ replicate maxKey 0
 

@@ -1,6 +1,6 @@
 -- What a cursor is to the definitions, and what each case of an answer says: the values, or the number of the refusal. No two cases say the same.
 use Prim.Native.Nat.{ℕ}
-use mathlib.Core.Bool.{Bool, true, false}
+use mathlib.Core.Bool.{true, false}
 use mathlib.Core.List.{List}
 use mathlib.Core.Path.{_≡_, refl, ap, ap₂, sym}
 use Rattle.layout.specs.Answer.{Res, ok, refuse}
@@ -13,21 +13,13 @@ use Rattle.step_in_place_v2.specs.declared.Place.{Place}
 use Rattle.step_in_place_v2.specs.Says.{viewIn, Told, row, none, viewIn-one, told-row, told-apart}
 use Rattle.seek_in_place_v2.specs.Says.{Report, reportIs, over-apart}
 use Rattle.block_iterator_v2.specs.declared.BlockIteratorV2.{BlockIteratorV2}
-use Rattle.block_iterator_v2.specs.declared.OpenAnswer.{OpenAnswer}
-use Rattle.block_iterator_v2.specs.declared.OpenAnswer.the-variants.{Good, Refused as OpenRefused}
 use Rattle.block_iterator_v2.specs.declared.NextAnswer.{NextAnswer}
 use Rattle.block_iterator_v2.specs.declared.NextAnswer.the-variants.{Found, Done as NextDone, Refused as NextRefused}
 use Rattle.block_iterator_v2.specs.declared.SeekAnswer.{SeekAnswer}
 use Rattle.block_iterator_v2.specs.declared.SeekAnswer.the-variants.{Landed, Done as SeekDone, Refused as SeekRefused}
-use Rattle.block_iterator_v2.specs.declared.EmptyRead.{EmptyRead}
-use Rattle.block_iterator_v2.specs.declared.EmptyRead.the-variants.{Is, Refused as EmptyRefused}
 
 abbrev pub viewOf : BlockIteratorV2 → Cursor
 viewOf c = viewIn (c .place) (c .key)
-
-abbrev pub saysOpen : OpenAnswer → Res (Unit {0})
-saysOpen Good = ok tt
-saysOpen (OpenRefused r) = refuse (number r)
 
 abbrev pub saysNext : NextAnswer → Res Told
 saysNext (Found r) = ok (row (rowFrom r))
@@ -39,22 +31,12 @@ saysSeek (Landed n) = ok (reportIs false n)
 saysSeek (SeekDone n) = ok (reportIs true n)
 saysSeek (SeekRefused r) = refuse (number r)
 
-abbrev pub saysEmpty : EmptyRead → Res Bool
-saysEmpty (Is b) = ok b
-saysEmpty (EmptyRefused r) = refuse (number r)
-
 -- ---- one to one
 
 -- two cursors that are known as one, with the same bytes past the key
 pub viewOf-one : (a b : BlockIteratorV2) → viewOf a ≡ viewOf b → a .key ≡ b .key → a ≡ b
 viewOf-one a b e k =
     ap₂ (λ (p : Place) (x : List ℕ). record { place = p; key = x }) (viewIn-one (a .place) (b .place) (a .key) (b .key) e) k
-
-pub saysOpen-one : (a b : OpenAnswer) → saysOpen a ≡ saysOpen b → a ≡ b
-saysOpen-one Good Good e = refl
-saysOpen-one Good (OpenRefused r) e = absurd (apart e)
-saysOpen-one (OpenRefused r) Good e = absurd (apart (sym e))
-saysOpen-one (OpenRefused r) (OpenRefused q) e = ap OpenRefused (refused-one e)
 
 pub saysNext-one : (a b : NextAnswer) → saysNext a ≡ saysNext b → a ≡ b
 saysNext-one (Found r) (Found q) e = ap Found (rowFrom-one r q (told-row (ok-inj e)))
@@ -77,9 +59,3 @@ saysSeek-one (SeekDone m) (SeekRefused q) e = absurd (apart e)
 saysSeek-one (SeekRefused r) (Landed n) e = absurd (apart (sym e))
 saysSeek-one (SeekRefused r) (SeekDone n) e = absurd (apart (sym e))
 saysSeek-one (SeekRefused r) (SeekRefused q) e = ap SeekRefused (refused-one e)
-
-pub saysEmpty-one : (a b : EmptyRead) → saysEmpty a ≡ saysEmpty b → a ≡ b
-saysEmpty-one (Is a) (Is b) e = ap Is (ok-inj e)
-saysEmpty-one (Is a) (EmptyRefused r) e = absurd (apart e)
-saysEmpty-one (EmptyRefused r) (Is a) e = absurd (apart (sym e))
-saysEmpty-one (EmptyRefused r) (EmptyRefused q) e = ap EmptyRefused (refused-one e)

@@ -12,16 +12,16 @@ ghost use Rattle.step_in_place_v2.specs.Promise.{Moves};
 ghost use Rattle.step_in_place_v2.specs.Says.{viewIn, placeAfter};
 ghost use Rattle.seek_in_place_v2.specs.Promise.{Finds};
 ghost use Rattle.seek_in_place_v2.specs.Says.{placeFound};
-ghost use Rattle.block_iterator_v2.specs.Parts.{placed, answerOf, answerFound};
+ghost use Rattle.block_iterator_v2.specs.Parts.{answerOf, answerFound};
 ghost use Rattle.block_iterator_v2.specs.Promise.{Opens, StepsNext, SeeksTarget, TellsEmpty};
 use basics::IterationOrder;
 use basics::Refusal;
+use basics::Verdict;
 use row_decode_v2::Row;
 use seek_in_place_v2::Found;
+use step_in_place_v2::EmptyRead;
 use step_in_place_v2::Moved;
 use step_in_place_v2::Place;
-use trailer::Tested;
-use trailer::TrailerRead;
 
 // A cursor: its place, and beside it the bytes of the key before, of which the first `place.key_len` tell. A fresh one has `[0; basics::MAX_KEY]` and length 0.
 pub struct BlockIteratorV2 {
@@ -29,14 +29,9 @@ pub struct BlockIteratorV2 {
     pub key: [u8; basics::MAX_KEY],
 }
 
-pub enum OpenAnswer {
-    Good,
-    Refused(Refusal),
-}
-
 pub struct Opened {
     pub iterator: BlockIteratorV2,
-    pub answer: OpenAnswer,
+    pub answer: Verdict,
 }
 
 pub enum NextAnswer {
@@ -62,11 +57,6 @@ pub enum SeekAnswer {
 pub struct Sought {
     pub iterator: BlockIteratorV2,
     pub answer: SeekAnswer,
-}
-
-pub enum EmptyRead {
-    Is(bool),
-    Refused(Refusal),
 }
 
 // ---- a step over the cursor's own key bytes
@@ -132,76 +122,25 @@ fn answer_sought(found: Found) -> SeekAnswer
 }
 
 impl BlockIteratorV2 {
-    // A cursor with no key.
-    fn placed(order: IterationOrder, region: usize, at: usize) -> BlockIteratorV2
-        ensures { λ r. ⌜ r ≡ placed order region at ⌝ }
-    {
-        let place = Place {
-            order,
-            region,
-            at,
-            key_len: 0,
-            done: false,
-        };
-        BlockIteratorV2 {
-            place,
-            key: [0; basics::MAX_KEY],
-        }
-    }
-
     // Opens a block with all its offsets tested. Beside a refusal stands a cursor at 0 in region 0.
     pub fn new(block: &[u8], order: IterationOrder) -> Opened
         ensures { λ r. ⌜ Opens (now (block .entry)) order r ⌝ }
     {
-        let start = BlockIteratorV2::placed(order, 0, 0);
-        let read = trailer::trailer_of(block);
-        let TrailerRead::Good(t) = read else {
-            return Opened {
-                iterator: start,
-                answer: OpenAnswer::Refused(trailer::trailer_refusal(read)),
-            };
+        let opened = step_in_place_v2::open_place(block, order);
+        let place = opened.place;
+        let answer = opened.answer;
+        let iterator = BlockIteratorV2 {
+            place,
+            key: [0; basics::MAX_KEY],
         };
-        let offsets = trailer::all_offsets(block, t);
-        if let Tested::Refused(refusal) = offsets {
-            return Opened {
-                iterator: start,
-                answer: OpenAnswer::Refused(refusal),
-            };
-        }
-        match order {
-            IterationOrder::Ascending => Opened {
-                iterator: start,
-                answer: OpenAnswer::Good,
-            },
-            IterationOrder::Descending => {
-                let end = BlockIteratorV2::placed(order, t.count - 1, t.size);
-                Opened {
-                    iterator: end,
-                    answer: OpenAnswer::Good,
-                }
-            }
-        }
+        Opened { iterator, answer }
     }
 
-    // Whether the cursor is known to have no row left: ascending by its position or its mark; descending by its mark alone, so not before a step or a seek has
-    // said "done". Only the trailer is tested.
+    // Whether the cursor is known to have no row left: ascending by its position or its mark; descending by its mark alone.
     pub fn is_empty(self, block: &[u8]) -> EmptyRead
         ensures { λ r. ⌜ TellsEmpty self (now (block .entry)) r ⌝ }
     {
-        let read = trailer::trailer_of(block);
-        let TrailerRead::Good(t) = read else {
-            return EmptyRead::Refused(trailer::trailer_refusal(read));
-        };
-        let p = self.place;
-        if p.done {
-            return EmptyRead::Is(true);
-        }
-        let at = p.at;
-        let order = p.order;
-        match order {
-            IterationOrder::Ascending => EmptyRead::Is(t.size <= at),
-            IterationOrder::Descending => EmptyRead::Is(false),
-        }
+        step_in_place_v2::is_empty_place(self.place, block)
     }
 
     // One step, made on the cursor's place and its key where it lies; then the place is put back.

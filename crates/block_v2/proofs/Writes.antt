@@ -7,14 +7,15 @@ use native.Mathlib.Nat.{zero-add}
 use native.Mathlib.Omega.{arith}
 use lib.ListN.{length, take}
 use Rattle.layout.specs.Limits.{maxKey}
-use Rattle.layout.specs.Answer.{Res, ok, refuse, bind}
-use Rattle.layout.specs.Builder.{fresh, newBuilder, wouldFit, grown, add}
+use Rattle.layout.specs.Answer.{Res, ok, bind}
+use Rattle.layout.specs.Builder.{wouldFit, grown, add}
 use Rattle.layout.specs.Key.{Key}
 use Rattle.layout.specs.Place.{splice}
 use Rattle.layout.specs.Row.{Fields}
 use Rattle.layout.specs.Laws.Made.{add-tells}
 use Rattle.layout.specs.Laws.Splice.{key-over}
 use Rattle.basics.specs.declared.Refusal.{Refusal}
+use Rattle.basics.specs.declared.Verdict.the-variants.{Good, Refused}
 use Rattle.build_in_place_v2.specs.Promise.{entered, AddsInPlaceAs, Finishes}
 use Rattle.build_in_place_v2.specs.Says.{stateFrom}
 use Rattle.build_in_place_v2.specs.declared.State.{State}
@@ -24,21 +25,8 @@ use Rattle.build_in_place_v2.specs.declared.Grown.the-variants.{Row as GrownRow
 use Rattle.build_in_place_v2.proofs.Tests.{passed-not, passed}
 use Rattle.build_in_place_v2.proofs.Writes.{entered-is}
 use Rattle.block_v2.specs.declared.BlockBuilderV2.{BlockBuilderV2}
-use Rattle.block_v2.specs.declared.New.{New}
-use Rattle.block_v2.specs.declared.Made.the-variants.{Good as GoodMade}
-use Rattle.block_v2.specs.declared.AddAnswer.the-variants.{Good as GoodAdd, Refused as AddRefused}
-use Rattle.block_v2.specs.Says.{viewOf, builderFrom, noKey, badSettings}
-use Rattle.block_v2.specs.Promise.{Makes, AddsAs, Builds}
-
--- ---- a new builder
-
-module _ (size interval : ℕ) where
-  pub made-not : {r : New} → r ≡ badSettings → newBuilder size interval ≡ refuse 8 → Makes size interval r
-  made-not e q = rw (e, q) (record { answer = refl; view = refl; key-bytes = refl })
-
-  pub made-good : {b : BlockBuilderV2} → b ≡ builderFrom (stateFrom (fresh size interval)) noKey → newBuilder size interval ≡ ok (fresh size interval)
-      → Makes size interval (record { builder = b; answer = GoodMade })
-  made-good e q = rw (e, q) (record { answer = refl; view = refl; key-bytes = refl })
+use Rattle.block_v2.specs.Says.{viewOf, builderFrom}
+use Rattle.block_v2.specs.Promise.{AddsAs, Builds}
 
 -- ---- the other methods, over the builder's numbers and the bytes of its last key
 
@@ -53,7 +41,7 @@ module _ (self : BlockBuilderV2) where
     added = rw (entered-is (self .state) (self .«last_key») long) at g
 
     pub adds-not : {x : Refusal} → r ≡ GrownRefused x
-        → AddsAs (add (viewOf self) (length bytes) (length places) key f) self bytes places key f (record { builder = builderFrom (self .state) last′; answer = AddRefused x }) bytes′ places′
+        → AddsAs (add (viewOf self) (length bytes) (length places) key f) self bytes places key f (record { builder = builderFrom (self .state) last′; answer = Refused x }) bytes′ places′
     adds-not q =
         let h = rw q at added in
         let e = passed-not (add (viewOf self) (length bytes) (length places) key f) stateFrom (sym (h .answer)) in
@@ -61,7 +49,7 @@ module _ (self : BlockBuilderV2) where
         rw (e, k .last-after) (record { answer = refl; view = refl; whole = refl; bytes-after = k .bytes-after; places-after = k .places-after })
 
     pub adds-good : {t : State} → r ≡ GrownRow t
-        → AddsAs (add (viewOf self) (length bytes) (length places) key f) self bytes places key f (record { builder = builderFrom t last′; answer = GoodAdd }) bytes′ places′
+        → AddsAs (add (viewOf self) (length bytes) (length places) key f) self bytes places key f (record { builder = builderFrom t last′; answer = Good }) bytes′ places′
     adds-good {t} q =
         let h = rw q at added in
         let p = passed (add (viewOf self) (length bytes) (length places) key f) stateFrom (sym (h .answer)) in

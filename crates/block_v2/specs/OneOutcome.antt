@@ -10,17 +10,16 @@ use Rattle.layout.specs.Key.{Key}
 use Rattle.layout.specs.Limits.{defaultInterval}
 use Rattle.row_flags.specs.Says.{fieldsFrom}
 use Rattle.row_flags.specs.declared.RowFields.{RowFields}
-use Rattle.build_in_place_v2.specs.Says.{stateFrom, saysFit-one, saysBuild-one}
-use Rattle.build_in_place_v2.specs.declared.Fit.{Fit}
+use Rattle.basics.specs.Answers.{saysVerdict-one}
+use Rattle.basics.specs.declared.Verdict.{Verdict}
+use Rattle.build_in_place_v2.specs.Says.{stateFrom, saysBuild-one}
 use Rattle.build_in_place_v2.specs.declared.BuildAnswer.{BuildAnswer}
 use Rattle.block_v2.specs.declared.BlockBuilderV2.{BlockBuilderV2}
-use Rattle.block_v2.specs.declared.Made.{Made}
 use Rattle.block_v2.specs.declared.New.{New}
-use Rattle.block_v2.specs.declared.AddAnswer.{AddAnswer}
 use Rattle.block_v2.specs.declared.Added.{Added}
 use Rattle.block_v2.specs.declared.Built.{Built}
 use Rattle.block_v2.specs.Promise.{Makes, Fits, Adds, Empties, Builds}
-use Rattle.block_v2.specs.Says.{viewOf, builderFrom, saysMade-one, saysAdd-one}
+use Rattle.block_v2.specs.Says.{viewOf, builderFrom}
 
 -- a builder is its view and the bytes of its last key
 abbrev whole : Builder → List ℕ → BlockBuilderV2
@@ -28,23 +27,23 @@ whole v last = builderFrom (stateFrom v) last
 
 pub new-with-restart-interval-settled : (size interval : ℕ) (r q : New) → Makes size interval r → Makes size interval q → r ≡ q
 new-with-restart-interval-settled size interval r q a b =
-    ap₂ (λ (x : BlockBuilderV2) (y : Made). record { builder = x; answer = y })
+    ap₂ (λ (x : BlockBuilderV2) (y : Verdict). record { builder = x; answer = y })
     (ap₂ whole (a .view ∙ sym (b .view)) (a .key-bytes ∙ sym (b .key-bytes)))
-    (saysMade-one (r .answer) (q .answer) (a .answer ∙ sym (b .answer)))
+    (saysVerdict-one (r .answer) (q .answer) (a .answer ∙ sym (b .answer)))
 
 pub new-settled : (size : ℕ) (r q : New) → Makes size defaultInterval r → Makes size defaultInterval q → r ≡ q
 new-settled size = new-with-restart-interval-settled size defaultInterval
 
-pub would-fit-settled : (self : BlockBuilderV2) (dataLen placesLen : ℕ) (key : Key) (value : List ℕ) (row : RowFields) (r q : Fit)
+pub would-fit-settled : (self : BlockBuilderV2) (dataLen placesLen : ℕ) (key : Key) (value : List ℕ) (row : RowFields) (r q : Verdict)
     → Fits self dataLen placesLen key value row r → Fits self dataLen placesLen key value row q → r ≡ q
-would-fit-settled self dataLen placesLen key value row r q a b = saysFit-one r q (a ∙ sym b)
+would-fit-settled self dataLen placesLen key value row r q a b = saysVerdict-one r q (a ∙ sym b)
 
 pub add-settled : (self : BlockBuilderV2) (bytes places : List ℕ) (key : Key) (value : List ℕ) (row : RowFields) (r q : Added) (ys zs os ps : List ℕ)
     → Adds self bytes places key value row r ys os → Adds self bytes places key value row q zs ps → (r ≡ q) × (ys ≡ zs) × (os ≡ ps)
 add-settled self bytes places key value row r q ys zs os ps a b = (
-  ap₂ (λ (x : BlockBuilderV2) (y : AddAnswer). record { builder = x; answer = y })
+  ap₂ (λ (x : BlockBuilderV2) (y : Verdict). record { builder = x; answer = y })
       (a .whole ∙ sym (b .whole))
-      (saysAdd-one (r .answer) (q .answer) (a .answer ∙ sym (b .answer))),
+      (saysVerdict-one (r .answer) (q .answer) (a .answer ∙ sym (b .answer))),
   a .bytes-after ∙ sym (b .bytes-after),
   a .places-after ∙ sym (b .places-after),
 )

@@ -11,25 +11,26 @@ use Rattle.layout.specs.Place.{splice}
 use Rattle.layout.specs.Row.{Fields}
 use Rattle.row_flags.specs.Says.{fieldsFrom}
 use Rattle.row_flags.specs.declared.RowFields.{RowFields}
-use Rattle.build_in_place_v2.specs.Says.{stateFrom, saysFit, saysBuild}
-use Rattle.build_in_place_v2.specs.declared.Fit.{Fit}
+use Rattle.basics.specs.Answers.{saysVerdict}
+use Rattle.basics.specs.declared.Verdict.{Verdict}
+use Rattle.build_in_place_v2.specs.Says.{stateFrom, saysBuild}
 use Rattle.block_v2.specs.declared.BlockBuilderV2.{BlockBuilderV2}
 use Rattle.block_v2.specs.declared.New.{New}
 use Rattle.block_v2.specs.declared.Added.{Added}
 use Rattle.block_v2.specs.declared.Built.{Built}
-use Rattle.block_v2.specs.Says.{viewOf, builderFrom, noKey, saysMade, saysAdd}
+use Rattle.block_v2.specs.Says.{viewOf, builderFrom, noKey}
 
 -- the builder that is wanted, or beside a refusal the zero one, with no byte set in its last key
 pub record MakesAs (want : Res Builder) (r : New) : Type 0 where
-  pub answer : saysMade (r .answer) ≡ whether want
+  pub answer : saysVerdict (r .answer) ≡ whether want
   pub view : viewOf (r .builder) ≡ built want
   pub key-bytes : r .builder .«last_key» ≡ noKey
 
 abbrev pub Makes : ℕ → ℕ → New → Type 0
 Makes size interval r = MakesAs (newBuilder size interval) r
 
-abbrev pub Fits : BlockBuilderV2 → ℕ → ℕ → Key → List ℕ → RowFields → Fit → Type 0
-Fits self dataLen placesLen key value row r = saysFit r ≡ wouldFit (viewOf self) dataLen placesLen key (fieldsFrom row value)
+abbrev pub Fits : BlockBuilderV2 → ℕ → ℕ → Key → List ℕ → RowFields → Verdict → Type 0
+Fits self dataLen placesLen key value row r = saysVerdict r ≡ wouldFit (viewOf self) dataLen placesLen key (fieldsFrom row value)
 
 -- the builder given back: a refusal gives it as it came, bytes past the last key's length included; an accepted row's key lies over the start of those bytes
 abbrev pub builderAfter : Res Builder → Key → BlockBuilderV2 → BlockBuilderV2
@@ -37,7 +38,7 @@ builderAfter (ok v) key self = builderFrom (stateFrom v) (splice (self .«last_k
 builderAfter (refuse n) key self = self
 
 pub record AddsAs (want : Res Builder) (self : BlockBuilderV2) (bytes places : List ℕ) (key : Key) (f : Fields) (r : Added) (bytes′ places′ : List ℕ) : Type 0 where
-  pub answer : saysAdd (r .answer) ≡ whether want
+  pub answer : saysVerdict (r .answer) ≡ whether want
   pub view : viewOf (r .builder) ≡ stateAfter want (viewOf self)
   pub whole : r .builder ≡ builderAfter want key self
   pub bytes-after : bytes′ ≡ dataAfter want (viewOf self) key f bytes

@@ -2,16 +2,11 @@
 // `build_in_place_v2`; the rows' bytes and the restarts' offsets are in buffers that are lent to each call.
 // Follows slatedb 0.16.0, src/format/block_v2.rs (Apache License 2.0), and is changed: rows go into the free rest of the lent data buffer, the builder comes in and
 // goes out by value, and what the settings, the row, the room or the state itself can break is a refusal. A refused call changes nothing.
-ghost use mathlib.Core.Path.{_≡_};
-ghost use Rattle.layout.specs.Builder.{fresh};
 ghost use Rattle.layout.specs.Limits.{defaultInterval};
 ghost use Rattle.build_in_place_v2.specs.Promise.{AddsInPlace};
-ghost use Rattle.build_in_place_v2.specs.Says.{stateFrom};
-ghost use Rattle.block_v2.specs.Says.{builderFrom, noKey, badSettings};
 ghost use Rattle.block_v2.specs.Promise.{Makes, Fits, Adds, Empties, Builds};
-use basics::Refusal;
+use basics::Verdict;
 use build_in_place_v2::BuildAnswer;
-use build_in_place_v2::Fit;
 use build_in_place_v2::Grown;
 use build_in_place_v2::State;
 use row_flags::RowFields;
@@ -22,56 +17,20 @@ pub struct BlockBuilderV2 {
     pub last_key: [u8; basics::MAX_KEY],
 }
 
-pub enum Made {
-    Good,
-    Refused(Refusal),
-}
-
 // A refused constructor gives a builder of size 0 and interval 1, with nothing used, beside its refusal.
 pub struct New {
     pub builder: BlockBuilderV2,
-    pub answer: Made,
-}
-
-pub enum AddAnswer {
-    Good,
-    Refused(Refusal),
+    pub answer: Verdict,
 }
 
 pub struct Added {
     pub builder: BlockBuilderV2,
-    pub answer: AddAnswer,
+    pub answer: Verdict,
 }
 
 pub struct Built {
     pub builder: BlockBuilderV2,
     pub answer: BuildAnswer,
-}
-
-fn empty_builder(block_size: usize, restart_interval: usize) -> BlockBuilderV2
-    ensures { λ r. ⌜ r ≡ builderFrom (stateFrom (fresh «block_size» «restart_interval»)) noKey ⌝ }
-{
-    let state = State {
-        block_size,
-        restart_interval,
-        used: 0,
-        restarts: 0,
-        counter: 0,
-        last_key_len: 0,
-    };
-    BlockBuilderV2 {
-        state,
-        last_key: [0; basics::MAX_KEY],
-    }
-}
-
-fn bad_settings() -> New
-    ensures { λ r. ⌜ r ≡ badSettings ⌝ }
-{
-    New {
-        builder: empty_builder(0, 1),
-        answer: Made::Refused(Refusal::BadSettings),
-    }
 }
 
 // Adds a row where the last key lies. A builder's own array can be lent only as one.
@@ -101,19 +60,14 @@ impl BlockBuilderV2 {
     pub fn new_with_restart_interval(block_size: usize, restart_interval: usize) -> New
         ensures { λ r. ⌜ Makes «block_size» «restart_interval» r ⌝ }
     {
-        if basics::MAX_BLOCK < block_size {
-            return bad_settings();
-        }
-        if restart_interval == 0 {
-            return bad_settings();
-        }
-        if basics::MAX_INTERVAL < restart_interval {
-            return bad_settings();
-        }
-        New {
-            builder: empty_builder(block_size, restart_interval),
-            answer: Made::Good,
-        }
+        let new = build_in_place_v2::new_state(block_size, restart_interval);
+        let state = new.state;
+        let answer = new.answer;
+        let builder = BlockBuilderV2 {
+            state,
+            last_key: [0; basics::MAX_KEY],
+        };
+        New { builder, answer }
     }
 
     // Whether the row would fit, over buffers of these lengths: 18, 1, 2, 3, and 4 for "no".
@@ -124,7 +78,7 @@ impl BlockBuilderV2 {
         key: &[u8],
         value: &[u8],
         row: RowFields,
-    ) -> Fit
+    ) -> Verdict
         ensures { λ r. ⌜ Fits self «data_len» «places_len» (now (key .entry)) (now (value .entry)) row r ⌝ }
     {
         let s = self.state;
@@ -157,13 +111,13 @@ impl BlockBuilderV2 {
                 self.state = state;
                 Added {
                     builder: self,
-                    answer: AddAnswer::Good,
+                    answer: Verdict::Good,
                 }
             }
             // Nothing is written, and the last key is as it was.
             Grown::Refused(refusal) => Added {
                 builder: self,
-                answer: AddAnswer::Refused(refusal),
+                answer: Verdict::Refused(refusal),
             },
         }
     }
@@ -172,7 +126,7 @@ impl BlockBuilderV2 {
     pub fn is_empty(self) -> bool
         ensures { λ r. ⌜ Empties self r ⌝ }
     {
-        self.state.counter == 0
+        build_in_place_v2::is_empty_state(self.state)
     }
 
     // Builds the final block at the start of the data buffer, and answers its length: 18, 7, 6. The builder is given back as it came.

@@ -1,10 +1,11 @@
 -- Adding a row over lent words: what each exit leaves, in place and by value alike, from the builder that is wanted.
--- The tests of the words come first and leave everything; once they are passed the promise is about `add` alone (`adds-asked`), and it is kept in two cases, a row added and a refusal.
+-- The tests of the words come first, all of `offer_in`, and leave everything; once they are passed the promise is about `add` alone (`adds-asked`), and it is kept in two cases, a row
+-- added and a refusal.
 use Prim.Native.Nat.{ℕ}
 use mathlib.Core.Path.{_≡_, refl}
 use mathlib.Core.List.{List}
 use lib.ListN.{length}
-use borrow.Author.Tests.{eq-eqb, ne-eqb}
+use borrow.Author.Tests.{eq-eqb}
 use Rattle.layout.specs.Answer.{Res, ok, refuse, bind}
 use Rattle.layout.specs.Builder.{Builder, add, dataAfter, placesAfter}
 use Rattle.layout.specs.Key.{Key}
@@ -14,10 +15,13 @@ use Rattle.layout.specs.Row.{Fields}
 use Rattle.row_flags.specs.Says.{fieldsFrom}
 use Rattle.row_flags.specs.declared.RowFields.{RowFields}
 use Rattle.row_words.specs.Words.{badWords, builderFrom, builderWords, fieldsIn, builderCount}
-use Rattle.block_words.specs.Exports.{Gain, AddsAs, AddsFlat}
+use Rattle.block_words.specs.Says.{Gain, gainIs}
+use Rattle.block_words.specs.Promise.{offerIn}
+use Rattle.block_words.specs.Exports.{gain, AddsAs, AddsFlat}
+use Rattle.block_words.proofs.Starts.{offer-bad}
 
 abbrev pub gained : Fields → Builder → Res Gain
-gained f w = ok (record { builder = w; fields = f })
+gained f w = ok (gainIs w f)
 
 -- the builder is wanted, and this is what is left with it
 module _ (want : Res Builder) (v : Builder) (key : Key) (f : Fields) (ws last bytes places bytes′ places′ : List ℕ) (b : bytes′ ≡ dataAfter want v key f bytes)
@@ -41,15 +45,8 @@ abbrev pub addWanted : List ℕ → List ℕ → List ℕ → List ℕ → List 
 addWanted ws last bytes places key value f = add (builderFrom ws last) (length bytes) (length places) key (fieldsFrom f value)
 
 module _ (ws last bytes places key value fs : List ℕ) where
-  pub adds-short : (length ws ≡ builderCount → ⊥) → AddsFlat ws last bytes places key value fs badWords ws last bytes places
-  adds-short h = rw (ne-eqb (length ws) builderCount h) (record { answer = refl; state = refl; last-after = refl; bytes-after = refl; places-after = refl })
-
-  pub adds-no-key : length ws ≡ builderCount → (length last ≡ maxKey → ⊥) → AddsFlat ws last bytes places key value fs badWords ws last bytes places
-  adds-no-key h k = rw (eq-eqb (length ws) builderCount h, ne-eqb (length last) maxKey k) (record { answer = refl; state = refl; last-after = refl; bytes-after = refl; places-after = refl })
-
-  pub adds-bad : length ws ≡ builderCount → length last ≡ maxKey → fieldsIn fs value ≡ refuse badWords → AddsFlat ws last bytes places key value fs badWords ws last bytes places
-  adds-bad h k e =
-      rw (eq-eqb (length ws) builderCount h, eq-eqb (length last) maxKey k, e) (record { answer = refl; state = refl; last-after = refl; bytes-after = refl; places-after = refl })
+  pub adds-bad : offerIn ws last fs value ≡ refuse badWords → AddsFlat ws last bytes places key value fs badWords ws last bytes places
+  adds-bad e = rw (offer-bad ws last fs value (λ (o : Gain). gain (o .builder) bytes places key (o .fields)) e) (record { answer = refl; state = refl; last-after = refl; bytes-after = refl; places-after = refl })
 
   module _ (f : RowFields) (h : length ws ≡ builderCount) (k : length last ≡ maxKey) (is : fieldsIn fs value ≡ ok (fieldsFrom f value)) where
     pub adds-asked : {code : ℕ} {ws′ last′ bytes′ places′ : List ℕ}

@@ -1,3 +1,4 @@
 pub mod Laws
 pub mod Adds
 pub mod Steps
+pub mod Starts

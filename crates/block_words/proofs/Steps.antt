@@ -13,8 +13,9 @@ use Rattle.layout.specs.Laws.Answer.{ok-inj}
 use Rattle.basics.specs.Answers.{apart}
 use Rattle.step_in_place_v2.specs.Says.{viewIn, row as row-told, none, toldOf, told, told-row, told-apart}
 use Rattle.step_in_place_v2.specs.declared.Place.{Place}
-use Rattle.row_words.specs.Words.{badWords, doneCode, codeOf, cursorIn, cursorWords, rowWords, rowCount}
+use Rattle.row_words.specs.Words.{badWords, doneCode, codeOf, counted, cursorIn, cursorWords, rowWords, rowCount}
 use Rattle.block_words.specs.Exports.{StepsAs, StepsFlat}
+use Rattle.block_words.proofs.Starts.{step-bad}
 
 -- ---- a step that is wanted of the cursor c, and the cursor d, key buffer and row that it left
 
@@ -63,6 +64,10 @@ module _ (b ws key out row : List ℕ) where
   pub steps-no-cursor : length row ≡ rowCount → length key ≡ maxKey → cursorIn ws key ≡ refuse badWords → StepsFlat b ws key out row badWords ws key out row
   steps-no-cursor h k e =
       rw (eq-eqb (length row) rowCount h, eq-eqb (length key) maxKey k, e) (record { answer = refl; state = refl; key-bytes = refl; lent = refl; row-words = refl })
+
+  -- all of it, as `step_in` answers
+  pub steps-bad : counted row rowCount (counted key maxKey (cursorIn ws key)) ≡ refuse badWords → StepsFlat b ws key out row badWords ws key out row
+  steps-bad e = rw (step-bad ws key row (λ (c : Cursor). next c b (length out)) e) (record { answer = refl; state = refl; key-bytes = refl; lent = refl; row-words = refl })
 
   module _ (p : Place) (h : length row ≡ rowCount) (k : length key ≡ maxKey) (is : cursorIn ws key ≡ ok (viewIn p key)) where
     pub steps-asked : {code : ℕ} {ws′ key′ out′ row′ : List ℕ} → StepsAs (next (viewIn p key) b (length out)) ws key out row code ws′ key′ out′ row′

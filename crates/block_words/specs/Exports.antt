@@ -10,15 +10,12 @@ use Rattle.layout.specs.Place.{splice}
 use Rattle.layout.specs.Row.{Fields}
 use Rattle.layout.specs.Builder.{Builder, add, dataAfter, placesAfter}
 use Rattle.layout.specs.Cursor.{Cursor, Answer, found, done, Step, next, keyAfter}
+use Rattle.block_words.specs.Says.{Gain, gainIs}
 use Rattle.row_words.specs.Words.{doneCode, codeOf, setBy, counted, cursorIn, cursorWords, builderFrom, builderWords, fieldsIn, rowWords, builderCount, rowCount}
 
 -- a row that is added: the builder then, and what was offered with the key
-pub record Gain : Type 0 where
-  pub builder : Builder
-  pub fields : Fields
-
 abbrev pub gain : Builder → List ℕ → List ℕ → Key → Fields → Res Gain
-gain v bytes places key f = bind (add v (length bytes) (length places) key f) λ w. ok (record { builder = w; fields = f })
+gain v bytes places key f = bind (add v (length bytes) (length places) key f) λ w. ok (gainIs w f)
 
 pub record AddsAs (want : Res Gain) (v : Builder) (key : Key) (ws last bytes places : List ℕ) (code : ℕ) (ws′ last′ bytes′ places′ : List ℕ) : Type 0 where
   pub answer : code ≡ codeOf want

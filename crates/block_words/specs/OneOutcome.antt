@@ -16,9 +16,10 @@ use Rattle.block_iterator_v2.specs.declared.BlockIteratorV2.{BlockIteratorV2}
 use Rattle.block_words.specs.declared.OrderRead.{OrderRead}
 use Rattle.block_words.specs.declared.CursorRead.{CursorRead}
 use Rattle.block_words.specs.declared.StateRead.{StateRead}
+use Rattle.block_words.specs.declared.OfferRead.{OfferRead}
 use Rattle.row_words.specs.Words.{counted, cursorIn, rowCount}
-use Rattle.block_words.specs.Says.{saysOrdered-one, saysCursor-one, saysState-one}
-use Rattle.block_words.specs.Promise.{LoadsOrder, LoadsCursor, PutsCursor, PutsIterator, LoadsState, PutsState, MakesOver}
+use Rattle.block_words.specs.Says.{saysOrdered-one, saysCursor-one, saysState-one, saysOffer-one}
+use Rattle.block_words.specs.Promise.{LoadsOrder, LoadsCursor, PutsCursor, PutsIterator, LoadsState, PutsState, MakesOver, LoadsOffer, LoadsStep}
 use Rattle.block_words.specs.Exports.{AddsFlat, KeyLeft, StepsFlat}
 use Rattle.row_words.specs.OneOutcome.{stores-settled}
 
@@ -47,6 +48,14 @@ put-state-settled s ws r q ys zs m n = stores-settled m n
 
 pub builder-over-settled : (s : State) (last : List ℕ) (r q : BlockBuilderV2) → MakesOver s last r → MakesOver s last q → r ≡ q
 builder-over-settled s last r q m n = m ∙ sym n
+
+-- ---- what a call starts from
+
+pub offer-in-settled : (ws last fs : List ℕ) (r q : OfferRead) → LoadsOffer ws last fs r → LoadsOffer ws last fs q → r ≡ q
+offer-in-settled ws last fs r q m n = saysOffer-one last [] r q (m [] ∙ sym (n []))
+
+pub step-in-settled : (ws key row : List ℕ) (r q : CursorRead) → LoadsStep ws key row r → LoadsStep ws key row q → r ≡ q
+step-in-settled ws key row r q m n = saysCursor-one key r q (m ∙ sym n)
 
 -- ---- the exports of the crates above
 

@@ -3,11 +3,13 @@
 ghost use mathlib.Core.Path.{_≡_};
 ghost use Rattle.basics.specs.Says.{saysOrder};
 ghost use Rattle.row_words.specs.Words.{orderWord};
-ghost use Rattle.block_words.specs.Promise.{LoadsOrder, LoadsCursor, PutsCursor, PutsIterator, LoadsState, PutsState, MakesOver};
+ghost use Rattle.block_words.specs.Promise.{LoadsOrder, LoadsCursor, PutsCursor, PutsIterator, LoadsState, PutsState, MakesOver, LoadsOffer, LoadsStep};
 use basics::IterationOrder;
 use block_iterator_v2::BlockIteratorV2;
 use block_v2::BlockBuilderV2;
 use build_in_place_v2::State;
+use row_flags::RowFields;
+use row_words::FieldsRead;
 use row_words::TruthRead;
 use step_in_place_v2::Place;
 
@@ -37,6 +39,12 @@ pub enum CursorRead {
 
 pub enum StateRead {
     Is(State),
+    Bad,
+}
+
+// A builder, and the row that is offered to it.
+pub enum OfferRead {
+    Is { state: State, row: RowFields },
     Bad,
 }
 
@@ -169,4 +177,37 @@ pub fn builder_over(s: State, last_key: &[u8]) -> BlockBuilderV2
         state: s,
         last_key: key,
     }
+}
+
+// ---- what a call starts from: 254 is for all of it
+
+// The builder that a row is offered to, by its words and as many bytes as the longest key has, and the row's fields.
+pub fn offer_in(builder: &[u64], last_key: &[u8], fields: &[u64]) -> OfferRead
+    ensures { λ r. ⌜ LoadsOffer (now (builder .entry)) (now («last_key» .entry)) (now (fields .entry)) r ⌝ }
+{
+    let words = state_in(builder);
+    let StateRead::Is(state) = words else {
+        return OfferRead::Bad;
+    };
+    if last_key.len() != basics::MAX_KEY {
+        return OfferRead::Bad;
+    }
+    let loaded = row_words::fields_in(fields);
+    let FieldsRead::Is(row) = loaded else {
+        return OfferRead::Bad;
+    };
+    OfferRead::Is { state, row }
+}
+
+// The cursor that a step is made with, by its words and as many bytes as the longest key has, where a row's words are lent.
+pub fn step_in(cursor: &[u64], key: &[u8], row: &[u64]) -> CursorRead
+    ensures { λ r. ⌜ LoadsStep (now (cursor .entry)) (now (key .entry)) (now (row .entry)) r ⌝ }
+{
+    if row.len() != row_words::ROW_WORDS {
+        return CursorRead::Bad;
+    }
+    if key.len() != basics::MAX_KEY {
+        return CursorRead::Bad;
+    }
+    cursor_in(cursor)
 }

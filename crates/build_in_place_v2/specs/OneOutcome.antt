@@ -1,19 +1,31 @@
 -- Each promise admits one outcome: two results, with the buffers that they leave, that both keep it are equal.
 use Prim.Native.Nat.{ℕ}
-use mathlib.Core.Path.{_≡_, sym, _∙_}
+use mathlib.Core.Path.{_≡_, ap, ap₂, sym, _∙_}
+use mathlib.Core.Bool.{Bool}
 use mathlib.Core.List.{List, []}
 use Rattle.layout.specs.Key.{Key}
+use Rattle.basics.specs.Answers.{saysVerdict-one}
+use Rattle.basics.specs.declared.Verdict.{Verdict}
 use Rattle.row_flags.specs.declared.RowFields.{RowFields}
 use Rattle.build_in_place_v2.specs.declared.State.{State}
-use Rattle.build_in_place_v2.specs.declared.Fit.{Fit}
+use Rattle.build_in_place_v2.specs.declared.NewState.{NewState}
 use Rattle.build_in_place_v2.specs.declared.Grown.{Grown}
 use Rattle.build_in_place_v2.specs.declared.BuildAnswer.{BuildAnswer}
-use Rattle.build_in_place_v2.specs.Promise.{FitsInPlace, AddsInPlace, Finishes}
-use Rattle.build_in_place_v2.specs.Says.{saysFit-one, saysGrown-one, saysBuild-one}
+use Rattle.build_in_place_v2.specs.Promise.{MakesState, TellsStateEmpty, FitsInPlace, AddsInPlace, Finishes}
+use Rattle.build_in_place_v2.specs.Says.{stateFrom, saysGrown-one, saysBuild-one}
 
-pub would-fit-in-place-settled : (s : State) (last : List ℕ) (dataLen placesLen : ℕ) (key : Key) (value : List ℕ) (row : RowFields) (r q : Fit)
+pub new-state-settled : (size interval : ℕ) (r q : NewState) → MakesState size interval r → MakesState size interval q → r ≡ q
+new-state-settled size interval r q a b =
+    ap₂ (λ (x : State) (y : Verdict). record { state = x; answer = y })
+    (ap stateFrom (a .view [] ∙ sym (b .view [])))
+    (saysVerdict-one (r .answer) (q .answer) (a .answer ∙ sym (b .answer)))
+
+pub is-empty-state-settled : (s : State) (r q : Bool) → TellsStateEmpty s r → TellsStateEmpty s q → r ≡ q
+is-empty-state-settled s r q a b = a [] ∙ sym (b [])
+
+pub would-fit-in-place-settled : (s : State) (last : List ℕ) (dataLen placesLen : ℕ) (key : Key) (value : List ℕ) (row : RowFields) (r q : Verdict)
     → FitsInPlace s last dataLen placesLen key value row r → FitsInPlace s last dataLen placesLen key value row q → r ≡ q
-would-fit-in-place-settled s last dataLen placesLen key value row r q a b = saysFit-one r q (a ∙ sym b)
+would-fit-in-place-settled s last dataLen placesLen key value row r q a b = saysVerdict-one r q (a ∙ sym b)
 
 pub add-in-place-settled : (s : State) (last bytes places : List ℕ) (key : Key) (value : List ℕ) (row : RowFields) (r q : Grown) (ls ks ys zs os ps : List ℕ)
     → AddsInPlace s last bytes places key value row r ls ys os → AddsInPlace s last bytes places key value row q ks zs ps

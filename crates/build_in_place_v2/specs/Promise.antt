@@ -1,30 +1,44 @@
 -- What each public function promises: equations to the definitions of `layout`, that settle each number answered and each byte lent.
 use Prim.Native.Nat.{ℕ}
 use mathlib.Core.Path.{_≡_}
-use mathlib.Core.Bool.{not}
+use mathlib.Core.Bool.{Bool, not}
 use mathlib.Core.List.{List}
 use lib.Dec.{eqb}
 use lib.ListN.{length}
-use Rattle.layout.specs.Answer.{Res, ok, refuse, bind, guard}
-use Rattle.layout.specs.Builder.{Builder, wouldFit, add, dataAfter, placesAfter, build, blockAfter}
+use Rattle.layout.specs.Answer.{Res, ok, refuse, bind, guard, whether}
+use Rattle.layout.specs.Builder.{Builder, newBuilder, built, isEmpty, wouldFit, add, dataAfter, placesAfter, build, blockAfter}
 use Rattle.layout.specs.Key.{Key}
 use Rattle.layout.specs.Limits.{maxKey}
 use Rattle.layout.specs.Place.{splice}
 use Rattle.layout.specs.Row.{Fields}
+use Rattle.basics.specs.Answers.{saysVerdict}
+use Rattle.basics.specs.declared.Verdict.{Verdict}
 use Rattle.row_flags.specs.Says.{fieldsFrom}
 use Rattle.row_flags.specs.declared.RowFields.{RowFields}
 use Rattle.build_in_place_v2.specs.declared.State.{State}
-use Rattle.build_in_place_v2.specs.declared.Fit.{Fit}
+use Rattle.build_in_place_v2.specs.declared.NewState.{NewState}
 use Rattle.build_in_place_v2.specs.declared.Grown.{Grown}
 use Rattle.build_in_place_v2.specs.declared.BuildAnswer.{BuildAnswer}
-use Rattle.build_in_place_v2.specs.Says.{viewFrom, stateFrom, saysFit, saysGrown, saysBuild}
+use Rattle.build_in_place_v2.specs.Says.{viewFrom, stateFrom, saysGrown, saysBuild}
+
+-- the builder that is wanted, or beside a refusal the zero one, whatever bytes its last key lies in
+pub record MakesStateAs (want : Res Builder) (r : NewState) : Type 0 where
+  pub answer : saysVerdict (r .answer) ≡ whether want
+  pub view : (last : List ℕ) → viewFrom (r .state) last ≡ built want
+
+abbrev pub MakesState : ℕ → ℕ → NewState → Type 0
+MakesState size interval r = MakesStateAs (newBuilder size interval) r
+
+-- whatever the last key's bytes are
+abbrev pub TellsStateEmpty : State → Bool → Type 0
+TellsStateEmpty s r = (last : List ℕ) → r ≡ isEmpty (viewFrom s last)
 
 -- the builder of these numbers and of the lent bytes of its last key, which must be as many as the longest key has: 18
 abbrev pub entered : State → List ℕ → Res Builder
 entered s last = guard (not (eqb (length last) maxKey)) 18 (ok (viewFrom s last))
 
-abbrev pub FitsInPlace : State → List ℕ → ℕ → ℕ → Key → List ℕ → RowFields → Fit → Type 0
-FitsInPlace s last dataLen placesLen key value row r = saysFit r ≡ bind (entered s last) λ v. wouldFit v dataLen placesLen key (fieldsFrom row value)
+abbrev pub FitsInPlace : State → List ℕ → ℕ → ℕ → Key → List ℕ → RowFields → Verdict → Type 0
+FitsInPlace s last dataLen placesLen key value row r = saysVerdict r ≡ bind (entered s last) λ v. wouldFit v dataLen placesLen key (fieldsFrom row value)
 
 -- the lent bytes of the last key: an accepted row's key lies over their start
 abbrev pub lastAfter : Res Builder → Key → List ℕ → List ℕ

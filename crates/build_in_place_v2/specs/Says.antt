@@ -1,6 +1,6 @@
 -- A builder's numbers beside the bytes of its last key, as `layout` has them, and what each case of an answer says. No two cases say the same.
 use Prim.Native.Nat.{ℕ}
-use mathlib.Core.Path.{_≡_, refl, ap, sym}
+use mathlib.Core.Path.{_≡_, ap, sym}
 use mathlib.Core.List.{List}
 use Rattle.layout.specs.Answer.{Res, ok, refuse}
 use Rattle.layout.specs.Builder.{Builder, keptBuilder}
@@ -8,8 +8,6 @@ use Rattle.layout.specs.Laws.Answer.{ok-inj}
 use Rattle.basics.specs.Answers.{apart, refused-one}
 use Rattle.basics.specs.Number.{number}
 use Rattle.build_in_place_v2.specs.declared.State.{State}
-use Rattle.build_in_place_v2.specs.declared.Fit.{Fit}
-use Rattle.build_in_place_v2.specs.declared.Fit.the-variants.{Yes, Refused as FitRefused}
 use Rattle.build_in_place_v2.specs.declared.Grown.{Grown}
 use Rattle.build_in_place_v2.specs.declared.Grown.the-variants.{Row as GrownRow, Refused as GrownRefused}
 use Rattle.build_in_place_v2.specs.declared.BuildAnswer.{BuildAnswer}
@@ -34,10 +32,6 @@ stateFrom v =
 
 -- ---- answers
 
-abbrev pub saysFit : Fit → Res (Unit {0})
-saysFit Yes = ok tt
-saysFit (FitRefused r) = refuse (number r)
-
 abbrev pub saysGrown : Grown → Res State
 saysGrown (GrownRow s) = ok s
 saysGrown (GrownRefused r) = refuse (number r)
@@ -47,12 +41,6 @@ saysBuild (Block n) = ok n
 saysBuild (BuildRefused r) = refuse (number r)
 
 -- ---- one to one
-
-pub saysFit-one : (a b : Fit) → saysFit a ≡ saysFit b → a ≡ b
-saysFit-one Yes Yes e = refl
-saysFit-one Yes (FitRefused r) e = absurd (apart e)
-saysFit-one (FitRefused r) Yes e = absurd (apart (sym e))
-saysFit-one (FitRefused r) (FitRefused q) e = ap FitRefused (refused-one e)
 
 pub saysGrown-one : (a b : Grown) → saysGrown a ≡ saysGrown b → a ≡ b
 saysGrown-one (GrownRow s) (GrownRow t) e = ap GrownRow (ok-inj e)

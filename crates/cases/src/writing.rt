@@ -2,7 +2,7 @@
 use crate::show;
 use basics::Kind;
 use basics::Time;
-use block_v2::AddAnswer;
+use basics::Verdict;
 use block_v2::BlockBuilderV2;
 use buf_mut::Put;
 use build_in_place_v2::BuildAnswer;
@@ -33,10 +33,10 @@ pub fn rows() {
     row(0, 0, b"a", b"", fields(1));
 }
 
-fn added(answer: AddAnswer) {
+fn added(answer: Verdict) {
     match answer {
-        AddAnswer::Good => show::text(b"taken\n"),
-        AddAnswer::Refused(r) => show::refusal(r),
+        Verdict::Good => show::text(b"taken\n"),
+        Verdict::Refused(r) => show::refusal(r),
     }
 }
 

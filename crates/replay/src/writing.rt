@@ -2,11 +2,9 @@
 use crate::parse;
 use crate::show;
 use crate::words;
-use block_v2::AddAnswer;
+use basics::Verdict;
 use block_v2::BlockBuilderV2;
-use block_v2::Made;
 use build_in_place_v2::BuildAnswer;
-use build_in_place_v2::Fit;
 
 // The builder with the settings of the line. A refusal is said, as a word by itself, whatever follows.
 fn fresh(line: &[u8]) -> BlockBuilderV2 {
@@ -14,17 +12,17 @@ fn fresh(line: &[u8]) -> BlockBuilderV2 {
     let interval = parse::number(words::word(line, b' ', 2)) as usize;
     let made = BlockBuilderV2::new_with_restart_interval(block_size, interval);
     let answer = made.answer;
-    if let Made::Refused(r) = answer {
+    if let Verdict::Refused(r) = answer {
         show::refusal(r);
         show::mark(b' ');
     }
     made.builder
 }
 
-fn added(answer: AddAnswer) {
+fn added(answer: Verdict) {
     match answer {
-        AddAnswer::Good => show::mark(b'1'),
-        AddAnswer::Refused(r) => show::refusal(r),
+        Verdict::Good => show::mark(b'1'),
+        Verdict::Refused(r) => show::refusal(r),
     }
     show::mark(b' ');
 }
@@ -81,8 +79,8 @@ fn fits(row: &[u8], builder: BlockBuilderV2, data_len: usize, places_len: usize)
         &value[..v],
         parse::fields(row),
     ) {
-        Fit::Yes => show::mark(b'1'),
-        Fit::Refused(r) => show::refusal(r),
+        Verdict::Good => show::mark(b'1'),
+        Verdict::Refused(r) => show::refusal(r),
     }
 }
 

@@ -60,7 +60,7 @@ saysTruth-one (IsTruth a) BadTruth e = absurd (apart e)
 saysTruth-one BadTruth (IsTruth b) e = absurd (apart (sym e))
 saysTruth-one BadTruth BadTruth e = refl
 
-fieldsFrom-one : (v : List ℕ) (a b : RowFields) → fieldsFrom a v ≡ fieldsFrom b v → a ≡ b
+pub fieldsFrom-one : (v : List ℕ) (a b : RowFields) → fieldsFrom a v ≡ fieldsFrom b v → a ≡ b
 fieldsFrom-one v a b e =
     let k = saysKind-one (a .kind) (b .kind) (ap (λ (x : Fields). x .kind) e) in
     let t = saysTime-one (a .expire) (b .expire) (ap (λ (x : Fields). x .expire) e) in

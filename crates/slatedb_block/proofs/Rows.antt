@@ -4,21 +4,21 @@ use Prim.Native.Nat.{ℕ}
 use mathlib.Core.Path.{_≡_, refl, ap, sym, _∙_}
 use mathlib.Core.List.{List, []}
 use lib.ListN.{length}
-use borrow.Author.Tests.{eq-eqb, ne-eqb}
+use borrow.Author.Tests.{eq-eqb}
 use Rattle.layout.specs.Answer.{Res, ok, refuse, bind}
 use Rattle.layout.specs.Builder.{Builder, wouldFit}
 use Rattle.layout.specs.Limits.{maxKey}
 use Rattle.layout.specs.Row.{encodeRow, written}
 use Rattle.layout.specs.RowRead.{decodeRow}
 use Rattle.layout.specs.Laws.Answer.{ok-inj}
-use Rattle.basics.specs.Answers.{apart, yes}
+use Rattle.basics.specs.Answers.{apart, yes, no}
 use Rattle.basics.specs.Number.{number}
 use Rattle.basics.specs.declared.Refusal.{Refusal}
 use Rattle.row_encode_v2.specs.Promise.{Encodes}
 use Rattle.row_decode_v2.specs.Promise.{Decodes}
 use Rattle.row_flags.specs.Says.{fieldsFrom}
 use Rattle.row_encode_v2.specs.Says.{saysEncoded}
-use Rattle.row_decode_v2.specs.Says.{rowFrom, saysRow}
+use Rattle.row_decode_v2.specs.Says.{rowFrom, saysRow, refusalOfRow}
 use Rattle.row_encode_v2.specs.declared.Encoded.{Encoded}
 use Rattle.row_encode_v2.specs.declared.Encoded.the-variants.{Bytes, Refused as EncodedRefused}
 use Rattle.row_decode_v2.specs.declared.Row.{Row}
@@ -27,14 +27,17 @@ use Rattle.row_decode_v2.specs.declared.RowRead.{RowRead}
 use Rattle.row_decode_v2.specs.declared.RowRead.the-variants.{Read as ReadRow, Refused as RowRefused}
 use Rattle.build_in_place_v2.proofs.Writes.{entered-is}
 use Rattle.build_in_place_v2.specs.Promise.{FitsInPlace, AddsInPlace, lastAfter}
-use Rattle.build_in_place_v2.specs.Says.{stateFrom, viewFrom, saysFit, saysGrown}
-use Rattle.build_in_place_v2.specs.declared.Fit.{Fit}
-use Rattle.build_in_place_v2.specs.declared.Fit.the-variants.{Yes, Refused as FitRefused}
+use Rattle.build_in_place_v2.specs.Says.{stateFrom, viewFrom, saysGrown}
+use Rattle.basics.specs.Answers.{saysVerdict}
+use Rattle.basics.specs.declared.Verdict.{Verdict}
+use Rattle.basics.specs.declared.Verdict.the-variants.{Good, Refused}
 use Rattle.build_in_place_v2.specs.declared.Grown.{Grown}
 use Rattle.build_in_place_v2.specs.declared.Grown.the-variants.{Row as GrownRow, Refused as GrownRefused}
 use Rattle.build_in_place_v2.specs.declared.State.{State}
 use Rattle.row_words.specs.Words.{badWords, codeOf, builderFrom, builderWords, fieldsIn, rowWords, builderCount, rowCount}
-use Rattle.block_words.specs.Says.{stateIn}
+use Rattle.block_words.specs.Says.{stateIn, Gain, gainIs}
+use Rattle.block_words.specs.Promise.{offerIn}
+use Rattle.block_words.proofs.Starts.{Offers, offer-bad, offer-tells}
 use Rattle.block_words.specs.Exports.{AddsFlat}
 use Rattle.row_words.proofs.Laws.{counted-not, counted-so}
 use Rattle.row_words.specs.Flat.{sets-good, sets-refused}
@@ -74,32 +77,29 @@ module _ (s : List ℕ) (prevLen : ℕ) (row : List ℕ) where
     pub decodes-good : {r : Row} {row′ : List ℕ} → a ≡ ReadRow r → row′ ≡ rowWords (rowFrom r) → DecodesFlat s prevLen row 0 row′
     decodes-good {r} e q = sets-good (rowFrom r) (counted-so row rowCount (decodeRow s prevLen) h ∙ yes saysRow d e) q
 
-    pub decodes-refused : {x : Refusal} {code : ℕ} → a ≡ RowRefused x → code ≡ number x → DecodesFlat s prevLen row code row
-    decodes-refused {x} e q = sets-refused (counted-so row rowCount (decodeRow s prevLen) h ∙ yes saysRow d e) q
+    pub decodes-refused : {y x : Refusal} {code : ℕ} → a ≡ RowRefused y → x ≡ refusalOfRow a → code ≡ number x → DecodesFlat s prevLen row code row
+    decodes-refused {y} {x} e t q = sets-refused (counted-so row rowCount (decodeRow s prevLen) h ∙ no saysRow refusalOfRow d e refl t) q
 
 -- ---- the fit question
 
 module _ (ws last : List ℕ) (dataLen placesLen : ℕ) (key value fs : List ℕ) where
-  pub fits-short : (length ws ≡ builderCount → ⊥) → FitsFlat ws last dataLen placesLen key value fs badWords
-  fits-short h = rw (ne-eqb (length ws) builderCount h) refl
+  pub fits-bad : offerIn ws last fs value ≡ refuse badWords → FitsFlat ws last dataLen placesLen key value fs badWords
+  fits-bad e = sym (ap codeOf (offer-bad ws last fs value (λ (o : Gain). wouldFit (o .builder) dataLen placesLen key (o .fields)) e))
 
-  pub fits-no-key : length ws ≡ builderCount → (length last ≡ maxKey → ⊥) → FitsFlat ws last dataLen placesLen key value fs badWords
-  fits-no-key h k = rw (eq-eqb (length ws) builderCount h, ne-eqb (length last) maxKey k) refl
+  module _ (s : State) (f : RowFields) (a : Verdict) (e : offerIn ws last fs value ≡ ok (gainIs (viewFrom s last) (fieldsFrom f value)))
+      (p : FitsInPlace s last dataLen placesLen key value f a) where
+    o : Offers ws last fs value s f
+    o = offer-tells ws last fs value s f e
 
-  pub fits-bad : length ws ≡ builderCount → length last ≡ maxKey → fieldsIn fs value ≡ refuse badWords → FitsFlat ws last dataLen placesLen key value fs badWords
-  fits-bad h k e = rw (eq-eqb (length ws) builderCount h, eq-eqb (length last) maxKey k, e) refl
-
-  module _ (f : RowFields) (a : Fit) (h : length ws ≡ builderCount) (k : length last ≡ maxKey) (is : fieldsIn fs value ≡ ok (fieldsFrom f value))
-      (p : FitsInPlace (stateIn ws) last dataLen placesLen key value f a) where
     -- the lent bytes are as many as they must be, so none are refused for that
-    said : saysFit a ≡ wouldFit (builderFrom ws last) dataLen placesLen key (fieldsFrom f value)
-    said = rw (entered-is (stateIn ws) last k) at p
+    said : saysVerdict a ≡ wouldFit (builderFrom ws last) dataLen placesLen key (fieldsFrom f value)
+    said = rw (o .state, entered-is (stateIn ws) last (o .long)) at p
 
-    pub fits-yes : a ≡ Yes → FitsFlat ws last dataLen placesLen key value fs 0
-    fits-yes e = rw (eq-eqb (length ws) builderCount h, eq-eqb (length last) maxKey k, is) (sym (ap codeOf (yes saysFit said e)))
+    pub fits-yes : a ≡ Good → FitsFlat ws last dataLen placesLen key value fs 0
+    fits-yes z = rw (eq-eqb (length ws) builderCount (o .six), eq-eqb (length last) maxKey (o .long), o .fields) (sym (ap codeOf (yes saysVerdict said z)))
 
-    pub fits-refused : {x : Refusal} {code : ℕ} → a ≡ FitRefused x → code ≡ number x → FitsFlat ws last dataLen placesLen key value fs code
-    fits-refused {x} e q = rw (eq-eqb (length ws) builderCount h, eq-eqb (length last) maxKey k, is) (q ∙ sym (ap codeOf (yes saysFit said e)))
+    pub fits-refused : {x : Refusal} {code : ℕ} → a ≡ Refused x → code ≡ number x → FitsFlat ws last dataLen placesLen key value fs code
+    fits-refused {x} z q = rw (eq-eqb (length ws) builderCount (o .six), eq-eqb (length last) maxKey (o .long), o .fields) (q ∙ sym (ap codeOf (yes saysVerdict said z)))
 
 -- ---- adding a row in place
 

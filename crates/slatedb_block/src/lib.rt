@@ -3,33 +3,25 @@
 // the number of a refusal, 254 for words that mean nothing, which is tested first, and 255 for "done"; what else it answers goes to lent words.
 ghost use mathlib.Core.Path.{_≡_};
 ghost use lib.ListN.{length};
-ghost use Rattle.block_v2.specs.Promise.{Makes};
 ghost use Rattle.block_rows_v2.specs.Promise.{RowsFlat};
 ghost use Rattle.block_words.specs.Exports.{AddsFlat, StepsFlat};
-ghost use Rattle.block_words.specs.Says.{builderAlone, iteratorFrom};
 ghost use Rattle.row_words.specs.Words.{builderCount, cursorCount, rowCount};
 ghost use Rattle.slatedb_block.specs.Says.{PutsGrown, PutsMoved, PutsFound};
 ghost use Rattle.slatedb_block.specs.Promise.{EncodesFlat, DecodesFlat, MakesFlat, FitsFlat, EmptiesFlat, BuildsFlat, ChecksFlat, OpensFlat, TellsFlat, SeeksFlat};
+use basics::Verdict;
 use block_check_v2::Checked;
-use block_iterator_v2::BlockIteratorV2;
-use block_iterator_v2::EmptyRead;
-use block_iterator_v2::OpenAnswer;
-use block_v2::BlockBuilderV2;
-use block_v2::Made;
-use block_v2::New;
 use block_words::CursorRead;
+use block_words::OfferRead;
 use block_words::OrderRead;
 use block_words::StateRead;
 use build_in_place_v2::BuildAnswer;
-use build_in_place_v2::Fit;
 use build_in_place_v2::Grown;
-use build_in_place_v2::State;
 use row_decode_v2::RowRead;
 use row_encode_v2::Encoded;
 use row_words::FieldsRead;
 use seek_in_place_v2::Found;
+use step_in_place_v2::EmptyRead;
 use step_in_place_v2::Moved;
-use step_in_place_v2::Place;
 
 // ---- one row
 
@@ -69,26 +61,14 @@ pub extern "C" fn slatedb_decode(input: &[u8], previous_len: usize, row: &mut [u
         return block_words::BAD_WORDS;
     }
     let read = row_decode_v2::decode(input, previous_len);
-    match read {
-        RowRead::Read(r) => {
-            row_words::put_row(row, r);
-            block_words::GOOD
-        }
-        RowRead::Refused(refusal) => basics::number(refusal),
-    }
+    let RowRead::Read(r) = read else {
+        return basics::number(row_decode_v2::row_refusal(read));
+    };
+    row_words::put_row(row, r);
+    block_words::GOOD
 }
 
 // ---- building a block
-
-// The default interval goes through the constructor that has it.
-fn make(block_size: usize, restart_interval: usize) -> New
-    ensures { λ r. ⌜ Makes «block_size» «restart_interval» r ⌝ }
-{
-    if restart_interval == basics::DEFAULT_RESTART_INTERVAL {
-        return BlockBuilderV2::new(block_size);
-    }
-    BlockBuilderV2::new_with_restart_interval(block_size, restart_interval)
-}
 
 // A new builder: 254, 8.
 #[no_mangle]
@@ -102,14 +82,14 @@ pub extern "C" fn slatedb_builder_new(
     if builder.len() != block_words::BUILDER_WORDS {
         return block_words::BAD_WORDS;
     }
-    let new = make(block_size, restart_interval);
+    let new = build_in_place_v2::new_state(block_size, restart_interval);
     let answer = new.answer;
     match answer {
-        Made::Good => {
-            block_words::put_state(builder, new.builder.state);
+        Verdict::Good => {
+            block_words::put_state(builder, new.state);
             block_words::GOOD
         }
-        Made::Refused(refusal) => basics::number(refusal),
+        Verdict::Refused(refusal) => basics::number(refusal),
     }
 }
 
@@ -126,15 +106,8 @@ pub extern "C" fn slatedb_builder_would_fit(
 ) -> u8
     ensures { λ r. ⌜ FitsFlat (now (builder .entry)) (now («last_key» .entry)) «data_len» «restarts_len» (now (key .entry)) (now (value .entry)) (now (fields .entry)) r ⌝ }
 {
-    let words = block_words::state_in(builder);
-    let StateRead::Is(s) = words else {
-        return block_words::BAD_WORDS;
-    };
-    if last_key.len() != basics::MAX_KEY {
-        return block_words::BAD_WORDS;
-    }
-    let loaded = row_words::fields_in(fields);
-    let FieldsRead::Is(row) = loaded else {
+    let loaded = block_words::offer_in(builder, last_key, fields);
+    let OfferRead::Is { state: s, row } = loaded else {
         return block_words::BAD_WORDS;
     };
     let fit = build_in_place_v2::would_fit_in_place(
@@ -147,8 +120,8 @@ pub extern "C" fn slatedb_builder_would_fit(
         row,
     );
     match fit {
-        Fit::Yes => block_words::GOOD,
-        Fit::Refused(refusal) => basics::number(refusal),
+        Verdict::Good => block_words::GOOD,
+        Verdict::Refused(refusal) => basics::number(refusal),
     }
 }
 
@@ -179,29 +152,12 @@ pub extern "C" fn slatedb_builder_add(
 ) -> u8
     ensures { λ r. ⌜ AddsFlat (now (builder .entry)) (now («last_key» .entry)) (now («data» .entry)) (now (restarts .entry)) (now (key .entry)) (now (value .entry)) (now (fields .entry)) r (now (builder .exit)) (now («last_key» .exit)) (now («data» .exit)) (now (restarts .exit)) ⌝ }
 {
-    let words = block_words::state_in(builder);
-    let StateRead::Is(s) = words else {
-        return block_words::BAD_WORDS;
-    };
-    if last_key.len() != basics::MAX_KEY {
-        return block_words::BAD_WORDS;
-    }
-    let loaded = row_words::fields_in(fields);
-    let FieldsRead::Is(row) = loaded else {
+    let loaded = block_words::offer_in(builder, last_key, fields);
+    let OfferRead::Is { state: s, row } = loaded else {
         return block_words::BAD_WORDS;
     };
     let grown = build_in_place_v2::add_in_place(last_key, s, data, restarts, key, value, row);
     put_grown(builder, grown)
-}
-
-// A builder by value whose last key's bytes tell nothing here.
-fn builder_of(s: State) -> BlockBuilderV2
-    ensures { λ r. ⌜ r ≡ builderAlone s ⌝ }
-{
-    BlockBuilderV2 {
-        state: s,
-        last_key: [0; basics::MAX_KEY],
-    }
 }
 
 // Whether there is no row: 254.
@@ -213,8 +169,7 @@ pub extern "C" fn slatedb_builder_is_empty(builder: &[u64], empty: &mut u64) -> 
     let StateRead::Is(s) = words else {
         return block_words::BAD_WORDS;
     };
-    let b = builder_of(s);
-    *empty = row_words::truth_word(b.is_empty());
+    *empty = row_words::truth_word(build_in_place_v2::is_empty_state(s));
     block_words::GOOD
 }
 
@@ -232,10 +187,8 @@ pub extern "C" fn slatedb_builder_build(
     let StateRead::Is(s) = words else {
         return block_words::BAD_WORDS;
     };
-    let b = builder_of(s);
-    let built = b.build(data, restarts);
-    let answer = built.answer;
-    match answer {
+    let built = build_in_place_v2::build_in_place(s, data, restarts);
+    match built {
         BuildAnswer::Block(len) => {
             *count = len as u64;
             block_words::GOOD
@@ -273,24 +226,14 @@ pub extern "C" fn slatedb_open(block: &[u8], order: u64, cursor: &mut [u64]) -> 
     let OrderRead::Is(o) = ordered else {
         return block_words::BAD_WORDS;
     };
-    let opened = BlockIteratorV2::new(block, o);
+    let opened = step_in_place_v2::open_place(block, o);
     let answer = opened.answer;
     match answer {
-        OpenAnswer::Good => {
-            block_words::put_cursor(cursor, opened.iterator.place);
+        Verdict::Good => {
+            block_words::put_cursor(cursor, opened.place);
             block_words::GOOD
         }
-        OpenAnswer::Refused(refusal) => basics::number(refusal),
-    }
-}
-
-// A cursor by value, whose key's bytes tell nothing here.
-fn iterator_of(p: Place) -> BlockIteratorV2
-    ensures { λ r. ⌜ r ≡ iteratorFrom p ⌝ }
-{
-    BlockIteratorV2 {
-        place: p,
-        key: [0; basics::MAX_KEY],
+        Verdict::Refused(refusal) => basics::number(refusal),
     }
 }
 
@@ -303,8 +246,7 @@ pub extern "C" fn slatedb_is_empty(block: &[u8], cursor: &[u64], empty: &mut u64
     let CursorRead::Is(p) = loaded else {
         return block_words::BAD_WORDS;
     };
-    let c = iterator_of(p);
-    let read = c.is_empty(block);
+    let read = step_in_place_v2::is_empty_place(p, block);
     match read {
         EmptyRead::Is(b) => {
             *empty = row_words::truth_word(b);
@@ -343,13 +285,7 @@ fn next_words(
 ) -> u8
     ensures { λ r. ⌜ StepsFlat (now (block .entry)) (now (cursor .entry)) (now (key .entry)) (now (out .entry)) (now (row .entry)) r (now (cursor .exit)) (now (key .exit)) (now (out .exit)) (now (row .exit)) ⌝ }
 {
-    if row.len() != row_words::ROW_WORDS {
-        return block_words::BAD_WORDS;
-    }
-    if key.len() != basics::MAX_KEY {
-        return block_words::BAD_WORDS;
-    }
-    let loaded = block_words::cursor_in(cursor);
+    let loaded = block_words::step_in(cursor, key, row);
     let CursorRead::Is(p) = loaded else {
         return block_words::BAD_WORDS;
     };

@@ -17,8 +17,9 @@ use Rattle.row_decode_v2.specs.Says.{rowFrom}
 use Rattle.row_decode_v2.specs.declared.Row.{Row}
 use Rattle.row_flags.specs.declared.RowFields.{RowFields}
 use Rattle.block_v2.specs.Promise.{Adds, builderAfter}
-use Rattle.block_v2.specs.Says.{builderFrom as builderOver, viewOf as viewOfBuilder, saysAdd}
-use Rattle.block_v2.specs.declared.AddAnswer.the-variants.{Good as GoodAdd, Refused as AddRefused}
+use Rattle.block_v2.specs.Says.{builderFrom as builderOver, viewOf as viewOfBuilder}
+use Rattle.basics.specs.Answers.{saysVerdict}
+use Rattle.basics.specs.declared.Verdict.the-variants.{Good, Refused}
 use Rattle.block_v2.specs.declared.Added.{Added}
 use Rattle.block_v2.specs.declared.BlockBuilderV2.{BlockBuilderV2}
 use Rattle.step_in_place_v2.specs.Says.{viewIn}
@@ -44,19 +45,19 @@ module _ (ws last bytes places key value fs : List ℕ) (f : RowFields) (h : len
   wanted = addWanted ws last bytes places key value f
 
   module _ (r : Added) (bytes′ places′ : List ℕ) (p : Adds (builderOver (stateIn ws) last) bytes places key value f r bytes′ places′) where
-    pub adds-good : {ws′ last′ : List ℕ} → r .answer ≡ GoodAdd → ws′ ≡ builderWords (viewOfBuilder (r .builder)) → last′ ≡ r .builder .«last_key»
+    pub adds-good : {ws′ last′ : List ℕ} → r .answer ≡ Good → ws′ ≡ builderWords (viewOfBuilder (r .builder)) → last′ ≡ r .builder .«last_key»
         → AddsFlat ws last bytes places key value fs 0 ws′ last′ bytes′ places′
     adds-good e s l =
-        some wanted (yes saysAdd (p .answer) e) λ w z.
+        some wanted (yes saysVerdict (p .answer) e) λ w z.
         let whole = p .whole ∙ ap (λ (x : Res Builder). builderAfter x key (builderOver (stateIn ws) last)) z in
         adds-asked ws last bytes places key value fs f h k is
         (added wanted (builderFrom ws last) key (fieldsFrom f value) ws last bytes places bytes′ places′ (p .bytes-after) (p .places-after) w z
         (s ∙ ap (λ (x : BlockBuilderV2). builderWords (viewOfBuilder x)) whole)
         (l ∙ ap (λ (x : BlockBuilderV2). x .«last_key») whole))
 
-    pub adds-turned-down : {x : Refusal} {code : ℕ} → r .answer ≡ AddRefused x → code ≡ number x → AddsFlat ws last bytes places key value fs code ws last bytes′ places′
+    pub adds-turned-down : {x : Refusal} {code : ℕ} → r .answer ≡ Refused x → code ≡ number x → AddsFlat ws last bytes places key value fs code ws last bytes′ places′
     adds-turned-down {x} e c =
-        let z = whether-refused wanted (number x) (yes saysAdd (p .answer) e) in
+        let z = whether-refused wanted (number x) (yes saysVerdict (p .answer) e) in
         adds-asked ws last bytes places key value fs f h k is
         (unadded wanted (builderFrom ws last) key (fieldsFrom f value) ws last bytes places bytes′ places′ (p .bytes-after) (p .places-after) (number x) z c refl)
 

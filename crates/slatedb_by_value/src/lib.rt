@@ -7,13 +7,12 @@ ghost use Rattle.block_words.specs.Exports.{AddsFlat, StepsFlat};
 ghost use Rattle.block_words.specs.Says.{iteratorOver};
 ghost use Rattle.row_words.specs.Words.{builderCount};
 ghost use Rattle.slatedb_by_value.specs.Says.{PutsBuilder};
+use basics::Verdict;
 use block_iterator_v2::BlockIteratorV2;
 use block_iterator_v2::NextAnswer;
-use block_v2::AddAnswer;
 use block_v2::BlockBuilderV2;
 use block_words::CursorRead;
-use block_words::StateRead;
-use row_words::FieldsRead;
+use block_words::OfferRead;
 use step_in_place_v2::Place;
 
 // ---- building a block
@@ -40,25 +39,18 @@ pub extern "C" fn slatedb_builder_add_by_value(
 ) -> u8
     ensures { λ r. ⌜ AddsFlat (now (builder .entry)) (now («last_key» .entry)) (now («data» .entry)) (now (restarts .entry)) (now (key .entry)) (now (value .entry)) (now (fields .entry)) r (now (builder .exit)) (now («last_key» .exit)) (now («data» .exit)) (now (restarts .exit)) ⌝ }
 {
-    let words = block_words::state_in(builder);
-    let StateRead::Is(s) = words else {
-        return block_words::BAD_WORDS;
-    };
-    if last_key.len() != basics::MAX_KEY {
-        return block_words::BAD_WORDS;
-    }
-    let loaded = row_words::fields_in(fields);
-    let FieldsRead::Is(row) = loaded else {
+    let loaded = block_words::offer_in(builder, last_key, fields);
+    let OfferRead::Is { state: s, row } = loaded else {
         return block_words::BAD_WORDS;
     };
     let added = block_words::builder_over(s, last_key).add(data, restarts, key, value, row);
     let answer = added.answer;
     match answer {
-        AddAnswer::Good => {
+        Verdict::Good => {
             put_added(builder, last_key, added.builder);
             block_words::GOOD
         }
-        AddAnswer::Refused(refusal) => basics::number(refusal),
+        Verdict::Refused(refusal) => basics::number(refusal),
     }
 }
 
@@ -88,13 +80,7 @@ pub extern "C" fn slatedb_next_by_value(
 ) -> u8
     ensures { λ r. ⌜ StepsFlat (now (block .entry)) (now (cursor .entry)) (now (key .entry)) (now (out .entry)) (now (row .entry)) r (now (cursor .exit)) (now (key .exit)) (now (out .exit)) (now (row .exit)) ⌝ }
 {
-    if row.len() != row_words::ROW_WORDS {
-        return block_words::BAD_WORDS;
-    }
-    if key.len() != basics::MAX_KEY {
-        return block_words::BAD_WORDS;
-    }
-    let loaded = block_words::cursor_in(cursor);
+    let loaded = block_words::step_in(cursor, key, row);
     let CursorRead::Is(p) = loaded else {
         return block_words::BAD_WORDS;
     };

@@ -14,16 +14,16 @@ use Rattle.layout.specs.Key.{Key}
 use Rattle.layout.specs.RowRead.{RowRead}
 use Rattle.layout.specs.Cursor.{Cursor, cursorOr, openBlock, found, done, stepIs, next}
 use Rattle.layout.specs.Laws.Answer.{spend, whether-good, whether-refused}
-use Rattle.basics.specs.Answers.{yes}
+use Rattle.basics.specs.Answers.{yes, saysVerdict}
 use Rattle.basics.specs.Number.{number}
 use Rattle.basics.specs.Says.{saysOrder}
 use Rattle.basics.specs.declared.Refusal.{Refusal}
 use Rattle.basics.specs.declared.IterationOrder.{IterationOrder}
 use Rattle.block_iterator_v2.specs.Promise.{Opens}
 use Rattle.step_in_place_v2.specs.Says.{viewIn}
-use Rattle.block_iterator_v2.specs.Says.{viewOf, saysOpen}
+use Rattle.block_iterator_v2.specs.Says.{viewOf}
 use Rattle.block_iterator_v2.specs.declared.Opened.{Opened}
-use Rattle.block_iterator_v2.specs.declared.OpenAnswer.the-variants.{Good as GoodOpen, Refused as OpenRefused}
+use Rattle.basics.specs.declared.Verdict.the-variants.{Good as GoodOpen, Refused as OpenRefused}
 use Rattle.row_words.specs.Words.{badWords, doneCode, orderIn}
 use Rattle.row_words.proofs.Stores.{all-stored}
 use Rattle.slatedb_walks.specs.Walk.{amount, Walk, walkIs, withRow, walk, wrapped}
@@ -101,7 +101,7 @@ module _ (b : List ℕ) (order limit : ℕ) (sums : List ℕ) where
 
   module _ (r : Opened) (o : IterationOrder) (h : length sums ≡ 2) (is : orderIn order ≡ ok (saysOrder o)) (opens : Opens b o r) where
     opened-so : r .answer ≡ GoodOpen → openBlock b (saysOrder o) ≡ ok (viewOf (r .iterator))
-    opened-so e = whether-good (openBlock b (saysOrder o)) (viewOf (r .iterator)) (yes saysOpen (opens .answer) e) (λ a z. opens .view ∙ ap (cursorOr (saysOrder o)) z)
+    opened-so e = whether-good (openBlock b (saysOrder o)) (viewOf (r .iterator)) (yes saysVerdict (opens .answer) e) (λ a z. opens .view ∙ ap (cursorOr (saysOrder o)) z)
 
     -- what the walk from the opened cursor answers is what is told
     pub walks-told : {want : Res Walk} {code : ℕ} {sums′ : List ℕ} → r .answer ≡ GoodOpen → want ≡ bind (walk limit (viewOf (r .iterator)) b) wrapped → Tells want sums code sums′
@@ -116,4 +116,4 @@ module _ (b : List ℕ) (order limit : ℕ) (sums : List ℕ) where
         walks-told e (w ∙ ap (λ (c : Cursor). bind (walk limit c b) wrapped) same) t
 
     pub walks-not-opened : {x : Refusal} {code : ℕ} → r .answer ≡ OpenRefused x → code ≡ number x → WalksFlat b order limit sums code sums
-    walks-not-opened {x} e q = rw (eq-eqb (length sums) 2 h, is, whether-refused (openBlock b (saysOrder o)) (number x) (yes saysOpen (opens .answer) e), q) (record { answer = refl; words = refl })
+    walks-not-opened {x} e q = rw (eq-eqb (length sums) 2 h, is, whether-refused (openBlock b (saysOrder o)) (number x) (yes saysVerdict (opens .answer) e), q) (record { answer = refl; words = refl })

@@ -20,9 +20,9 @@ ghost use Rattle.slatedb_walks.specs.Says.{saysWalked};
 ghost use Rattle.slatedb_walks.specs.Promise.{Tells, WalksFlat};
 use basics::Refusal;
 use basics::ValueDeletable;
+use basics::Verdict;
 use block_iterator_v2::BlockIteratorV2;
 use block_iterator_v2::NextAnswer;
-use block_iterator_v2::OpenAnswer;
 use block_words::OrderRead;
 use region_rows_v2::Bounds;
 use row_decode_v2::Row;
@@ -286,7 +286,7 @@ fn walk_flat(block: &[u8], order: u64, limit: u64, sums: &mut [u64], moves: bool
     let opened = BlockIteratorV2::new(block, o);
     let answer = opened.answer;
     match answer {
-        OpenAnswer::Good => {
+        Verdict::Good => {
             if moves {
                 let walked = by_value(block, opened.iterator, limit);
                 return tell(walked, sums);
@@ -294,7 +294,7 @@ fn walk_flat(block: &[u8], order: u64, limit: u64, sums: &mut [u64], moves: bool
             let walked = in_place(block, opened.iterator.place, limit);
             tell(walked, sums)
         }
-        OpenAnswer::Refused(refusal) => basics::number(refusal),
+        Verdict::Refused(refusal) => basics::number(refusal),
     }
 }
 

@@ -11,6 +11,7 @@ use Rattle.layout.specs.Trailer.{Trailer as TrailerL, trailerOf, dataOf, Region
 use Rattle.layout.specs.Cursor.{Direction, Cursor, marked, found, done, Step, stepIs, pastRow, stepUp, stepBackIn, stepDown}
 use Rattle.basics.specs.Number.{number}
 use Rattle.basics.specs.Says.{saysOrder}
+use Rattle.basics.specs.declared.IterationOrder.{IterationOrder}
 use Rattle.basics.specs.declared.Refusal.{Refusal}
 use Rattle.basics.specs.declared.Refusal.the-variants.{BadState}
 use Rattle.row_decode_v2.specs.Says.{rowFrom}
@@ -36,6 +37,10 @@ refusalOfEnded (EndedRow r) = BadState
 refusalOfEnded (EndedRefused r) = r
 
 -- ---- places
+
+-- a cursor with no key
+abbrev pub fresh : IterationOrder → ℕ → ℕ → Place
+fresh order region at = record { order = order; region = region; at = at; «key_len» = 0; done = false }
 
 -- "done" sets only the mark
 abbrev pub finished : Place → Moved

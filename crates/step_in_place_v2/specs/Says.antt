@@ -1,5 +1,6 @@
 -- What a cursor is to the definitions when its key bytes lie apart, and what each case of an answer says: the values, or the number of the refusal.
 use Prim.Native.Nat.{ℕ}
+use mathlib.Core.Bool.{Bool}
 use mathlib.Core.Path.{_≡_, ap, ap₂, sym, _∙_}
 use mathlib.Core.List.{List}
 use native.Mathlib.Omega.{arith}
@@ -12,12 +13,18 @@ use Rattle.basics.specs.Number.{number}
 use Rattle.basics.specs.Says.{saysOrder, saysOrder-one}
 use Rattle.row_decode_v2.specs.Says.{rowFrom, rowFrom-one}
 use Rattle.step_in_place_v2.specs.declared.Place.{Place}
+use Rattle.step_in_place_v2.specs.declared.EmptyRead.{EmptyRead}
+use Rattle.step_in_place_v2.specs.declared.EmptyRead.the-variants.{Is, Refused as EmptyRefused}
 use Rattle.step_in_place_v2.specs.declared.Moved.{Moved}
 use Rattle.step_in_place_v2.specs.declared.Moved.the-variants.{Found, Done, Refused}
 
 -- the cursor of a place and of the bytes that its key lies in
 abbrev pub viewIn : Place → List ℕ → Cursor
 viewIn p key = keptCursor (saysOrder (p .order)) (p .region) (p .at) (p .«key_len») key (p .done)
+
+abbrev pub saysEmpty : EmptyRead → Res Bool
+saysEmpty (Is b) = ok b
+saysEmpty (EmptyRefused r) = refuse (number r)
 
 -- what a step answers beside the key, which goes to the lent buffer
 pub data Told : Type 0 where
@@ -49,6 +56,12 @@ pub viewIn-one : (p q : Place) (k l : List ℕ) → viewIn p k ≡ viewIn q l �
 viewIn-one p q k l e =
     let o = saysOrder-one (p .order) (q .order) (ap (λ (x : Cursor). x .direction) e) in
     ap (λ (x : Cursor). record { order = p .order; region = x .region; at = x .at; «key_len» = x .keyLen; done = x .mark }) e ∙ rw o
+
+pub saysEmpty-one : (a b : EmptyRead) → saysEmpty a ≡ saysEmpty b → a ≡ b
+saysEmpty-one (Is a) (Is b) e = ap Is (ok-inj e)
+saysEmpty-one (Is a) (EmptyRefused r) e = absurd (apart e)
+saysEmpty-one (EmptyRefused r) (Is a) e = absurd (apart (sym e))
+saysEmpty-one (EmptyRefused r) (EmptyRefused q) e = ap EmptyRefused (refused-one e)
 
 pub told-row : {r q : RowReadL} → _≡_ {A = Told} (row r) (row q) → r ≡ q
 told-row e = cc

@@ -1,12 +1,12 @@
--- `is_empty` answers whether the builder has no row.
--- The test of the counter is the definition's (`empty-rule`), which asks nothing else of the builder: so any state answers.
+-- `is_empty_state` answers whether the builder has no row.
+-- The test of the counter is the definition's (`empty-rule`), which asks nothing else of the builder: so any state answers, whatever its last key's bytes are.
 use Rattle.layout.specs.Laws.Building.{empty-rule}
-use Rattle.block_v2.specs.Says.{viewOf}
-use Rattle.block_v2.proofs.BlockBuilderV2.is_empty.Statement.{statement}
-use Rattle.block_v2.proofs.BlockBuilderV2.is_empty.Tie as tie
+use Rattle.build_in_place_v2.specs.Says.{viewFrom}
+use Rattle.build_in_place_v2.proofs.is_empty_state.Statement.{statement}
+use Rattle.build_in_place_v2.proofs.is_empty_state.Tie as tie
 
 returns : tie.Need-returns
-returns c = empty-rule (viewOf (c .before .args .self))
+returns c = λ last. empty-rule (viewFrom (c .before .args .s) last)
 
-pub is-empty-spec : {M : Type 1} → statement M
-is-empty-spec = tie.close (tie.spec returns)
+pub is-empty-state-spec : {M : Type 1} → statement M
+is-empty-state-spec = tie.close (tie.spec returns)

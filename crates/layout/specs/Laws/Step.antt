@@ -1,9 +1,8 @@
 -- A step that is not refused, taken apart once: which step it was (`Stepped`), and that with another key buffer it is the same but for 19. What else is said of
--- steps follows by cases: the direction is kept; a key that is given has a byte, fits what a key may have and the room for it, and is as long as its row says;
+-- steps follows by cases: a key that is given has a byte, fits what a key may have and the room for it, and is as long as its row says;
 -- "done" leaves the carried key.
-use Prim.Native.Nat.{ℕ, _+_, _-_, _≤_}
+use Prim.Native.Nat.{ℕ, _-_, _≤_}
 use mathlib.Core.Path.{_≡_, refl, ap, sym, _∙_}
-use mathlib.Core.Bool.{Bool, true, false, cond}
 use mathlib.Core.List.{List, []}
 use mathlib.Core.Logic.{⊎-elim}
 use lib.Dec.{ltb, leb, eqb}
@@ -14,7 +13,7 @@ use Rattle.layout.specs.Limits.{maxKey}
 use Rattle.layout.specs.Key.{Key}
 use Rattle.layout.specs.RowRead.{RowRead, keyLength, keyOf}
 use Rattle.layout.specs.Trailer.{Trailer, trailerOf, dataOf, Region, regionOf, rowIn}
-use Rattle.layout.specs.Cursor.{Direction, ascending, descending, Cursor, cursorIs, marked, Answer, found, done, Step, stepIs, give, pastRow, stepUp, Keyed, rowEndingAt, backPast, stepBackIn, stepDown, stepAlong, next}
+use Rattle.layout.specs.Cursor.{Direction, ascending, descending, Cursor, marked, Answer, found, done, Step, stepIs, give, pastRow, stepUp, Keyed, rowEndingAt, backPast, stepBackIn, stepDown, stepAlong, next}
 use Rattle.layout.specs.Laws.Answer.{bind-then, guard-then, cond-ok, ok-inj}
 use Rattle.layout.specs.Laws.Carry.{keyOf-length}
 use Rattle.layout.specs.Laws.Cursor.{ended}
@@ -123,23 +122,6 @@ next-tells c b room s e =
 -- with another key buffer
 pub next-again : (c : Cursor) (b : List ℕ) (room other : ℕ) (s : Step) → next c b room ≡ ok s → next c b other ≡ askedIn other s
 next-again c b room other s e = next-tells c b room s e .again other
-
--- the direction is kept
-past-heads : (c : Cursor) (g : Region) (r : RowRead) (key : Key) → pastRow c g r key .direction ≡ ascending
-past-heads c g r key = go (ltb (g .reach) (r .next))
-  where
-    go : (t : Bool) → cond t (cursorIs ascending (c .region + 1) (r .next) [] false) (cursorIs ascending (c .region) (r .next) key false) .direction ≡ ascending
-    go true = refl
-    go false = refl
-
-pub next-heads : (c : Cursor) (s : Step) (b : List ℕ) (room : ℕ) → next c b room ≡ ok s → s .cursor .direction ≡ c .direction
-next-heads c s b room e = go s (next-tells c b room s e .how)
-  where
-    go : (s : Step) → Stepped c b s → s .cursor .direction ≡ c .direction
-    go s stays = refl
-    go s ends = refl
-    go s (goes-up t g r heads p) = past-heads c g r (keyOf (dataOf b t) (c .key) r) ∙ sym heads
-    go s (goes-back t region g k p) = refl
 
 -- the key that is given
 pub record KeyedWell (room : ℕ) (r : RowRead) (key : Key) : Type 0 where

@@ -1,7 +1,5 @@
--- Building keeps its promise: what is built doesn't depend on the last key's bytes, which are not lent.
+-- Building keeps its promise: what is built of the numbers in the words, whatever the last key's bytes are, which are not lent.
 -- Each exit is one law of `Laws`.
-use mathlib.Core.Path.{ap, _∙_}
-use Rattle.block_words.specs.Says.{builderAlone}
 use Rattle.block_words.proofs.Laws.{state-none, state-counts, state-is}
 use Rattle.slatedb_block.proofs.Laws.{builds-short, builds-block, builds-refused}
 use borrow.Author.Needs.{needs}
@@ -22,17 +20,14 @@ returns c =
     let start = c .before .before .before .before .before .before in
     builds-short (start .args .builder .now) _ _ _ (state-none (start .args .builder .now) (c .before .before .state-in .ensures) (c .enum-told .given .1))
 
-builder-of-requires : tie.Need-builder-of-requires
-builder-of-requires c κs = search needs
+build-in-place-requires : tie.Need-build-in-place-requires
+build-in-place-requires c κs = search needs
 
-build-requires : tie.Need-build-requires
-build-requires c κs = search needs
+enum-known-built : tie.Need-enum-known-built
+enum-known-built c = search needs
 
-enum-known-answer : tie.Need-enum-known-answer
-enum-known-answer c = search needs
-
-enum-known-answer-2 : tie.Need-enum-known-answer-2
-enum-known-answer-2 c = search needs
+enum-known-built-2 : tie.Need-enum-known-built-2
+enum-known-built-2 c = search needs
 
 number-requires : tie.Need-number-requires
 number-requires c κs = search needs
@@ -43,11 +38,10 @@ same-length c = search needs
 returns-2 : tie.Need-returns-2
 returns-2 c =
     let after-build = c .before .before .before .before .before in
-    let words = after-build .before .before .before .before in
+    let words = after-build .before .before .before in
     let loaded = words .before .before in
     let start = loaded .before .before .before .before in
-    let made = after-build .before .before .builder-of .ensures ∙ ap builderAlone (state-is (start .args .builder .now) (loaded .state-in .ensures) (words .words .given .1)) in
-    builds-block (start .args .builder .now) _ _ _ _ _ (state-counts (start .args .builder .now) (loaded .state-in .ensures) (words .words .given .1)) (rw made at (after-build .build .ensures)) (c .before .answer .given .1)
+    builds-block (start .args .builder .now) _ _ _ _ _ (state-counts (start .args .builder .now) (loaded .state-in .ensures) (words .words .given .1)) (rw (state-is (start .args .builder .now) (loaded .state-in .ensures) (words .words .given .1)) at (after-build .build-in-place .ensures)) (c .before .built .given .1)
 
 same-length-2 : tie.Need-same-length-2
 same-length-2 c = search needs
@@ -55,11 +49,10 @@ same-length-2 c = search needs
 returns-3 : tie.Need-returns-3
 returns-3 c =
     let after-build = c .before .before .before .before .before .before in
-    let words = after-build .before .before .before .before in
+    let words = after-build .before .before .before in
     let loaded = words .before .before in
     let start = loaded .before .before .before .before in
-    let made = after-build .before .before .builder-of .ensures ∙ ap builderAlone (state-is (start .args .builder .now) (loaded .state-in .ensures) (words .words .given .1)) in
-    builds-refused (start .args .builder .now) _ _ _ _ _ (state-counts (start .args .builder .now) (loaded .state-in .ensures) (words .words .given .1)) (rw made at (after-build .build .ensures)) (c .before .before .answer2 .given .1) (c .number .ensures)
+    builds-refused (start .args .builder .now) _ _ _ _ _ (state-counts (start .args .builder .now) (loaded .state-in .ensures) (words .words .given .1)) (rw (state-is (start .args .builder .now) (loaded .state-in .ensures) (words .words .given .1)) at (after-build .build-in-place .ensures)) (c .before .before .built2 .given .1) (c .number .ensures)
 
 pub slatedb-builder-build-spec : {M : Type 1} → statement M
 slatedb-builder-build-spec =
@@ -69,10 +62,9 @@ slatedb-builder-build-spec =
     enum-known-words
     enum-told
     returns
-    builder-of-requires
-    build-requires
-    enum-known-answer
-    enum-known-answer-2
+    build-in-place-requires
+    enum-known-built
+    enum-known-built-2
     number-requires
     same-length
     returns-2

@@ -1,7 +1,6 @@
 -- `slatedb_builder_is_empty` keeps its promise: 254 for words of another number, else 0 and whether there is no row.
--- The answer doesn't depend on the last key's bytes, which are not lent: the builder is made with zeros for them, and its counter is the one in the words.
-use mathlib.Core.Path.{ap, _∙_}
-use Rattle.block_words.specs.Says.{builderAlone}
+-- The answer doesn't depend on the last key's bytes, which are not lent: `is_empty_state` tells this whatever they are, and its counter is the one in the words.
+use mathlib.Core.List.{[]}
 use Rattle.block_words.proofs.Laws.{state-none, state-counts, state-is}
 use Rattle.slatedb_block.proofs.Laws.{empties-short, empties}
 use borrow.Author.Needs.{needs}
@@ -22,22 +21,18 @@ returns c =
     let start = c .before .before .before .before in
     empties-short (start .args .builder .now) _ (state-none (start .args .builder .now) (c .before .before .state-in .ensures) (c .enum-told .given .1))
 
-builder-of-requires : tie.Need-builder-of-requires
-builder-of-requires c κs = search needs
-
-is-empty-requires : tie.Need-is-empty-requires
-is-empty-requires c κs = search needs
+is-empty-state-requires : tie.Need-is-empty-state-requires
+is-empty-state-requires c κs = search needs
 
 truth-word-requires : tie.Need-truth-word-requires
 truth-word-requires c κs = search needs
 
 returns-2 : tie.Need-returns-2
 returns-2 c =
-    let words = c .before .before .before .before in
+    let words = c .before .before .before in
     let loaded = words .before .before in
     let start = loaded .before .before in
-    let made = c .before .before .builder-of .ensures ∙ ap builderAlone (state-is (start .args .builder .now) (loaded .state-in .ensures) (words .words .given .1)) in
-    empties (start .args .builder .now) _ _ _ (state-counts (start .args .builder .now) (loaded .state-in .ensures) (words .words .given .1)) (rw made at (c .before .is-empty .ensures)) (c .truth-word .ensures)
+    empties (start .args .builder .now) _ _ _ (state-counts (start .args .builder .now) (loaded .state-in .ensures) (words .words .given .1)) (rw (state-is (start .args .builder .now) (loaded .state-in .ensures) (words .words .given .1)) at (c .before .is-empty-state .ensures [])) (c .truth-word .ensures)
 
 pub slatedb-builder-is-empty-spec : {M : Type 1} → statement M
 slatedb-builder-is-empty-spec =
@@ -47,7 +42,6 @@ slatedb-builder-is-empty-spec =
     enum-known-words
     enum-told
     returns
-    builder-of-requires
-    is-empty-requires
+    is-empty-state-requires
     truth-word-requires
     returns-2)

@@ -1,5 +1,5 @@
 -- `slatedb_builder_new` keeps its promise: the words are those of the new builder's view, and 254 or 8 leaves them as they were.
--- Their number is tested first, so that `put_state` does store, and what it stores are the numbers of the builder that `make` promised; each exit is one law of `Laws`.
+-- Their number is tested first, so that `put_state` does store, and what it stores are the numbers that `new_state` promised; each exit is one law of `Laws`.
 use Rattle.row_words.proofs.Laws.{stored}
 use Rattle.slatedb_block.proofs.Laws.{makes-short, makes-good, makes-refused}
 use borrow.Author.Needs.{needs}
@@ -9,8 +9,8 @@ use Rattle.slatedb_block.proofs.slatedb_builder_new.Tie as tie
 returns : tie.Need-returns
 returns c = makes-short (c .before .before .args .builder .now) _ _ (c .if1 .taken)
 
-make-requires : tie.Need-make-requires
-make-requires c κs = search needs
+new-state-requires : tie.Need-new-state-requires
+new-state-requires c κs = search needs
 
 enum-told : tie.Need-enum-told
 enum-told c = search needs
@@ -31,19 +31,19 @@ returns-2 : tie.Need-returns-2
 returns-2 c =
     let after-enum-told = c .before .before .before .before in
     let start = after-enum-told .before .before .before .before .before in
-    makes-good (start .args .builder .now) _ _ _ (after-enum-told .before .before .before .if1 .left) (after-enum-told .before .before .make .ensures) (after-enum-told .enum-told .given .1) (stored (after-enum-told .before .before .before .if1 .left) (c .before .before .put-state .ensures))
+    makes-good (start .args .builder .now) _ _ _ (after-enum-told .before .before .before .if1 .left) (after-enum-told .before .before .new-state .ensures) (after-enum-told .enum-told .given .1) (stored (after-enum-told .before .before .before .if1 .left) (c .before .before .put-state .ensures))
 
 returns-3 : tie.Need-returns-3
 returns-3 c =
     let after-if1 = c .before .before .before .before .before in
-    makes-refused (after-if1 .before .before .args .builder .now) _ _ _ (after-if1 .if1 .left) (c .before .before .before .before .make .ensures) (c .before .before .answer .given .1) (c .number .ensures)
+    makes-refused (after-if1 .before .before .args .builder .now) _ _ _ (after-if1 .if1 .left) (c .before .before .before .before .new-state .ensures) (c .before .before .answer .given .1) (c .number .ensures)
 
 pub slatedb-builder-new-spec : {M : Type 1} → statement M
 slatedb-builder-new-spec =
     tie.close
     (tie.spec
     returns
-    make-requires
+    new-state-requires
     enum-told
     put-state-requires
     enum-known-answer

@@ -15,28 +15,32 @@ decode-requires c κs = search needs
 enum-known-read : tie.Need-enum-known-read
 enum-known-read c = search needs
 
-put-row-requires : tie.Need-put-row-requires
-put-row-requires c κs = search needs
+enum-told : tie.Need-enum-told
+enum-told c = search needs
 
-enum-known-read-2 : tie.Need-enum-known-read-2
-enum-known-read-2 c = search needs
+row-refusal-requires : tie.Need-row-refusal-requires
+row-refusal-requires c κs = search needs
 
 number-requires : tie.Need-number-requires
 number-requires c κs = search needs
 
+returns-2 : tie.Need-returns-2
+returns-2 c =
+    let after-decode = c .before .before .before .before in
+    let after-if1 = after-decode .before in
+    decodes-refused _ _ (after-if1 .before .before .before .args .row .now) _ (after-if1 .if1 .left) (after-decode .decode .ensures) (c .before .before .enum-told .given .1) (c .before .row-refusal .ensures) (c .number .ensures)
+
+put-row-requires : tie.Need-put-row-requires
+put-row-requires c κs = search needs
+
 same-length : tie.Need-same-length
 same-length c = search needs
 
-returns-2 : tie.Need-returns-2
-returns-2 c =
+returns-3 : tie.Need-returns-3
+returns-3 c =
     let after-read = c .before .before .before .before .before in
     let start = after-read .before .before .before .before .before .before in
     decodes-good _ _ (start .args .row .now) _ (after-read .before .before .before .if1 .left) (after-read .before .before .decode .ensures) (after-read .read .given .1) (stored (after-read .before .before .before .if1 .left) (c .before .before .put-row .ensures))
-
-returns-3 : tie.Need-returns-3
-returns-3 c =
-    let after-if1 = c .before .before .before .before .before in
-    decodes-refused _ _ (after-if1 .before .before .before .args .row .now) _ (after-if1 .if1 .left) (c .before .before .before .before .decode .ensures) (c .before .before .read2 .given .1) (c .number .ensures)
 
 pub slatedb-decode-spec : {M : Type 1} → statement M
 slatedb-decode-spec =
@@ -45,9 +49,10 @@ slatedb-decode-spec =
     returns
     decode-requires
     enum-known-read
-    put-row-requires
-    enum-known-read-2
+    enum-told
+    row-refusal-requires
     number-requires
-    same-length
     returns-2
+    put-row-requires
+    same-length
     returns-3)

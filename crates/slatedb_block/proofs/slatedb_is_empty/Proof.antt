@@ -1,5 +1,5 @@
 -- `slatedb_is_empty` keeps its promise: 254 for words that are no cursor, 14, or 0 and whether no row is left.
--- The answer doesn't depend on the key's bytes, which are not lent: words are a cursor whatever bytes stand beside them, and zeros beside them answer as any others would.
+-- The answer doesn't depend on the key's bytes, which are not lent: words are a cursor whatever bytes stand beside them, and `is_empty_place` tells this whatever they are.
 use Rattle.basics.specs.Answers.{yes}
 use mathlib.Core.List.{[]}
 use Rattle.block_words.specs.Says.{saysCursor}
@@ -20,11 +20,8 @@ enum-told c = search needs
 returns : tie.Need-returns
 returns c = empty-no-cursor _ _ _ (yes (saysCursor []) (c .before .before .cursor-in .ensures []) (c .enum-told .given .1))
 
-iterator-of-requires : tie.Need-iterator-of-requires
-iterator-of-requires c κs = search needs
-
-is-empty-requires : tie.Need-is-empty-requires
-is-empty-requires c κs = search needs
+is-empty-place-requires : tie.Need-is-empty-place-requires
+is-empty-place-requires c κs = search needs
 
 enum-known-read : tie.Need-enum-known-read
 enum-known-read c = search needs
@@ -40,15 +37,15 @@ number-requires c κs = search needs
 
 returns-2 : tie.Need-returns-2
 returns-2 c =
-    let after-iterator-of = c .before .before .before .before .before in
-    let known = after-iterator-of .before .before in
-    empty-told _ _ _ (known .loaded .given .0 .0) _ (yes (saysCursor []) (known .before .before .cursor-in .ensures []) (known .loaded .given .1)) (rw (after-iterator-of .iterator-of .ensures) at (c .before .before .before .before .is-empty .ensures)) (c .before .before .read .given .1) (c .truth-word .ensures)
+    let after-is-empty-place = c .before .before .before .before in
+    let known = after-is-empty-place .before .before in
+    empty-told _ _ _ (known .loaded .given .0 .0) _ (yes (saysCursor []) (known .before .before .cursor-in .ensures []) (known .loaded .given .1)) (after-is-empty-place .is-empty-place .ensures) (c .before .before .read .given .1) (c .truth-word .ensures)
 
 returns-3 : tie.Need-returns-3
 returns-3 c =
-    let after-iterator-of = c .before .before .before .before .before in
-    let known = after-iterator-of .before .before in
-    empty-refused _ _ _ (known .loaded .given .0 .0) _ (yes (saysCursor []) (known .before .before .cursor-in .ensures []) (known .loaded .given .1)) (rw (after-iterator-of .iterator-of .ensures) at (c .before .before .before .before .is-empty .ensures)) (c .before .before .read2 .given .1) (c .number .ensures)
+    let after-is-empty-place = c .before .before .before .before in
+    let known = after-is-empty-place .before .before in
+    empty-refused _ _ _ (known .loaded .given .0 .0) _ (yes (saysCursor []) (known .before .before .cursor-in .ensures []) (known .loaded .given .1)) (after-is-empty-place .is-empty-place .ensures) (c .before .before .read2 .given .1) (c .number .ensures)
 
 pub slatedb-is-empty-spec : {M : Type 1} → statement M
 slatedb-is-empty-spec =
@@ -58,8 +55,7 @@ slatedb-is-empty-spec =
     enum-known-loaded
     enum-told
     returns
-    iterator-of-requires
-    is-empty-requires
+    is-empty-place-requires
     enum-known-read
     truth-word-requires
     enum-known-read-2

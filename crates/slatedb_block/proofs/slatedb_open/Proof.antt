@@ -1,4 +1,4 @@
--- `slatedb_open` keeps its promise: the number of words and the order first, then the cursor that `new` promised, as words.
+-- `slatedb_open` keeps its promise: the number of words and the order first, then the cursor that `open_place` promised, as words.
 -- Each exit is one law of `Laws`: the two tests are the definition's first, and the five words are stored only where the block opened, from the place of the opened cursor.
 use Rattle.basics.specs.Answers.{yes}
 use Rattle.block_words.specs.Says.{saysOrdered}
@@ -25,8 +25,8 @@ returns-2 c =
     let start = c .before .before .before .before .before .before in
     opens-no-order (start .args .block .now) (start .args .order) (start .args .cursor .now) (c .before .before .before .if1 .left) (yes saysOrdered (c .before .before .order-in .ensures) (c .enum-told .given .1))
 
-new-requires : tie.Need-new-requires
-new-requires c κs = search needs
+open-place-requires : tie.Need-open-place-requires
+open-place-requires c κs = search needs
 
 enum-told-2 : tie.Need-enum-told-2
 enum-told-2 c = search needs
@@ -48,13 +48,13 @@ returns-3 c =
     let after-enum-told2 = c .before .before .before .before in
     let after-order-in = after-enum-told2 .before .before .before .before .before .before in
     let start = after-order-in .before .before .before .before in
-    opens-good (start .args .block .now) (start .args .order) (start .args .cursor .now) _ _ (after-order-in .before .if1 .left) (yes saysOrdered (after-order-in .order-in .ensures) (after-enum-told2 .before .before .before .before .ordered .given .1)) (after-enum-told2 .before .before .new .ensures) (after-enum-told2 .enum-told2 .given .1) (stored (after-order-in .before .if1 .left) (c .before .before .put-cursor .ensures))
+    opens-good (start .args .block .now) (start .args .order) (start .args .cursor .now) _ _ (after-order-in .before .if1 .left) (yes saysOrdered (after-order-in .order-in .ensures) (after-enum-told2 .before .before .before .before .ordered .given .1)) (after-enum-told2 .before .before .open-place .ensures) (after-enum-told2 .enum-told2 .given .1) (stored (after-order-in .before .if1 .left) (c .before .before .put-cursor .ensures))
 
 returns-4 : tie.Need-returns-4
 returns-4 c =
     let after-ordered = c .before .before .before .before .before .before in
     let start = after-ordered .before .before .before .before .before .before in
-    opens-refused (start .args .block .now) (start .args .order) (start .args .cursor .now) _ _ (after-ordered .before .before .before .if1 .left) (yes saysOrdered (after-ordered .before .before .order-in .ensures) (after-ordered .ordered .given .1)) (c .before .before .before .before .new .ensures) (c .before .before .answer .given .1) (c .number .ensures)
+    opens-refused (start .args .block .now) (start .args .order) (start .args .cursor .now) _ _ (after-ordered .before .before .before .if1 .left) (yes saysOrdered (after-ordered .before .before .order-in .ensures) (after-ordered .ordered .given .1)) (c .before .before .before .before .open-place .ensures) (c .before .before .answer .given .1) (c .number .ensures)
 
 pub slatedb-open-spec : {M : Type 1} → statement M
 slatedb-open-spec =
@@ -65,7 +65,7 @@ slatedb-open-spec =
     enum-known-ordered
     enum-told
     returns-2
-    new-requires
+    open-place-requires
     enum-told-2
     put-cursor-requires
     enum-known-answer

@@ -1,4 +1,4 @@
--- `new` keeps its promise: 14, then all of 15, each refusal beside the cursor at 0 in region 0; else the cursor of the order asked.
+-- `open_place` keeps its promise: 14, then all of 15, each refusal beside the cursor at 0 in region 0; else the cursor of the order asked.
 -- Each exit is a law of the opening, over what was read on the way to it.
 use mathlib.Core.Path.{_≡_, refl, sym, _∙_}
 use native.Mathlib.Omega.{arith}
@@ -9,10 +9,10 @@ use Rattle.layout.specs.Laws.Cursor.{open-trailer, open-offsets, open-good}
 use Rattle.basics.specs.Answers.{yes, no}
 use Rattle.trailer.specs.Says.{trailerFrom, saysTrailer, saysTested, refusalOfTrailer}
 use Rattle.trailer.specs.Laws.{offsets-used}
-use Rattle.block_iterator_v2.proofs.Laws.{opens-not, opens-up, opens-down}
+use Rattle.step_in_place_v2.proofs.Opens.{opens-not, opens-up, opens-down}
 use borrow.Author.Needs.{needs}
-use Rattle.block_iterator_v2.proofs.BlockIteratorV2.new.Statement.{statement}
-use Rattle.block_iterator_v2.proofs.BlockIteratorV2.new.Tie as tie
+use Rattle.step_in_place_v2.proofs.open_place.Statement.{statement}
+use Rattle.step_in_place_v2.proofs.open_place.Tie as tie
 
 module _ (k : tie.After-known-told) where
   trailer-read : trailerOf (k .before .before .before .before .before .before .args .block .now) ≡ ok (trailerFrom (k .before .read .given .0 .0))
@@ -22,8 +22,8 @@ module _ (k : tie.After-enum-told2) where
   offsets-good : let m = k .before .before .before in allOffsets (m .before .before .before .before .before .before .args .block .now) (trailerFrom (m .before .read .given .0 .0)) ≡ ok tt
   offsets-good = sym (offsets-used _ _ (trailer-read (k .before .before .before))) ∙ yes saysTested (k .before .before .all-offsets .ensures) (k .enum-told2 .given .1)
 
-placed-requires : tie.Need-placed-requires
-placed-requires c κs = search needs
+fresh-requires : tie.Need-fresh-requires
+fresh-requires c κs = search needs
 
 trailer-of-requires : tie.Need-trailer-of-requires
 trailer-of-requires c κs = search needs
@@ -38,7 +38,7 @@ trailer-refusal-requires : tie.Need-trailer-refusal-requires
 trailer-refusal-requires c κs = search needs
 
 returns : tie.Need-returns
-returns c = opens-not _ _ _ (open-trailer _ _ (no saysTrailer refusalOfTrailer (c .before .before .before .trailer-of .ensures) (c .before .enum-told .given .1) refl (c .trailer-refusal .ensures))) (c .before .before .before .before .placed .ensures)
+returns c = opens-not _ _ _ (open-trailer _ _ (no saysTrailer refusalOfTrailer (c .before .before .before .trailer-of .ensures) (c .before .enum-told .given .1) refl (c .trailer-refusal .ensures))) (c .before .before .before .before .fresh .ensures)
 
 all-offsets-requires : tie.Need-all-offsets-requires
 all-offsets-requires c κs = search needs
@@ -50,7 +50,7 @@ returns-2 : tie.Need-returns-2
 returns-2 c =
     let k = c .before .before .before .before in
     let offsets = sym (offsets-used _ _ (trailer-read k)) ∙ yes saysTested (c .before .before .before .all-offsets .ensures) (c .before .offsets .given .1) in
-    opens-not _ _ _ (open-offsets _ _ _ (trailer-read k) offsets) (k .before .before .before .before .placed .ensures)
+    opens-not _ _ _ (open-offsets _ _ _ (trailer-read k) offsets) (k .before .before .before .before .fresh .ensures)
 
 enum-told-2 : tie.Need-enum-told-2
 enum-told-2 c = search needs
@@ -61,27 +61,27 @@ enum-told-3 c = search needs
 enum-told-4 : tie.Need-enum-told-4
 enum-told-4 c = search needs
 
-sub-placed : tie.Need-sub-placed
-sub-placed c = omega (arith, trailerOf-tells _ _ (trailer-read (c .before .before .before .before .before .before)) .1)
+sub-fresh : tie.Need-sub-fresh
+sub-fresh c = omega (arith, trailerOf-tells _ _ (trailer-read (c .before .before .before .before .before .before)) .1)
 
-placed-requires-2 : tie.Need-placed-requires-2
-placed-requires-2 c κs = search needs
+fresh-requires-2 : tie.Need-fresh-requires-2
+fresh-requires-2 c κs = search needs
 
 returns-3 : tie.Need-returns-3
 returns-3 c =
     let k = c .before .before in
-    opens-up _ _ _ _ (open-good _ _ _ (trailer-read (k .before .before .before)) (offsets-good k)) (c .enum-told3 .given .1) (k .before .before .before .before .before .before .before .placed .ensures)
+    opens-up _ _ _ _ (open-good _ _ _ (trailer-read (k .before .before .before)) (offsets-good k)) (c .enum-told3 .given .1) (k .before .before .before .before .before .before .before .fresh .ensures)
 
 returns-4 : tie.Need-returns-4
 returns-4 c =
     let k = c .before .before .before .before in
-    opens-down _ _ _ _ (open-good _ _ _ (trailer-read (k .before .before .before)) (offsets-good k)) (c .before .before .enum-told4 .given .1) (c .placed2 .ensures)
+    opens-down _ _ _ _ (open-good _ _ _ (trailer-read (k .before .before .before)) (offsets-good k)) (c .before .before .enum-told4 .given .1) (c .fresh2 .ensures)
 
-pub new-spec : {M : Type 1} → statement M
-new-spec =
+pub open-place-spec : {M : Type 1} → statement M
+open-place-spec =
     tie.close
     (tie.spec
-    placed-requires
+    fresh-requires
     trailer-of-requires
     enum-known-read
     enum-told
@@ -93,7 +93,7 @@ new-spec =
     enum-told-2
     enum-told-3
     enum-told-4
-    sub-placed
-    placed-requires-2
+    sub-fresh
+    fresh-requires-2
     returns-3
     returns-4)
