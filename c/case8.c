@@ -3,7 +3,7 @@
  * array that is lent ends where memory ends, or starts where it starts, so that a byte touched outside of it is a fault.
  */
 #define _DEFAULT_SOURCE
-#include "slatedb_by_value.h"
+#include "slatedb_compare.h"
 #include <stdio.h>
 #include <stdlib.h>
 #include <string.h>

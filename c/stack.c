@@ -3,9 +3,7 @@
  * both ways, and the lowest byte that lost its paint is looked for. The most of all runs is printed. It must be at
  * most 4 KiB for a function of slatedb_block, and 16 KiB for one of a library that is there for comparing. */
 #define _GNU_SOURCE
-#include "slatedb_by_value.h"
-#include "slatedb_parts.h"
-#include "slatedb_walks.h"
+#include "slatedb_compare.h"
 
 #include <stdio.h>
 #include <string.h>

@@ -1,14 +1,12 @@
 /* The proved libraries as a process of their own, so that they can be compared on any processor: it serves slatedb_block.h,
- * slatedb_by_value.h, slatedb_walks.h and slatedb_parts.h over standard input and output. All numbers are low byte first.
+ * slatedb_compare.h over standard input and output. All numbers are low byte first.
  *
  * A batch is its length (4 bytes) and its requests; the answer to it likewise. A request is the function's number, how many
  * arguments follow, and these: a tag, then for a number (0) its 8 bytes, for an array that is read (1) or written (2) its
  * length in bytes (4) and its bytes. An answer is the code, 1 if memory changed that is not the call's to change, else 0, and
  * all bytes of the arrays of tag 2.
  */
-#include "slatedb_by_value.h"
-#include "slatedb_parts.h"
-#include "slatedb_walks.h"
+#include "slatedb_compare.h"
 #include <stdio.h>
 #include <stdlib.h>
 #include <string.h>

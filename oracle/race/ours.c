@@ -10,8 +10,7 @@
  * Seeks, builds and the check do not depend on it: only the first one exports them, and the last one builds.
  */
 #include "peer.h"
-#include "slatedb_by_value.h"
-#include "slatedb_walks.h"
+#include "slatedb_compare.h"
 
 #include <stdlib.h>
 #include <string.h>

@@ -19,7 +19,7 @@ typedef struct {
     uint64_t seq;
 } peer_row;
 
-/* What a contender says of the rows that it read, as in slatedb_walks.h. It has to have each row's key, the
+/* What a contender says of the rows that it read, as in slatedb_compare.h. It has to have each row's key, the
  * lengths and the sequence number to say it. */
 typedef struct {
     uint64_t rows;

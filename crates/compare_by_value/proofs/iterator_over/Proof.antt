@@ -1,0 +1,22 @@
+-- A place and lent key bytes become a cursor by value.
+-- The copy goes over all bytes of the new key, so that they are the lent ones.
+use mathlib.Core.Path.{refl, ap}
+use Rattle.block_words.specs.Says.{iteratorOver}
+use Rattle.block_words.proofs.Laws.{copied-whole}
+use borrow.Author.Needs.{needs}
+use Rattle.compare_by_value.proofs.iterator_over.Statement.{statement}
+use Rattle.compare_by_value.proofs.iterator_over.Tie as tie
+
+slice-aggregate-copy-in : tie.Need-slice-aggregate-copy-in
+slice-aggregate-copy-in c = search needs
+
+copy-in-requires : tie.Need-copy-in-requires
+copy-in-requires c κs = search needs
+
+returns : tie.Need-returns
+returns c =
+    let start = c .before .before .before .before in
+    ap (iteratorOver (start .args .p)) (copied-whole (start .args .key .now) refl (start .pre) (c .before .copy-in .ensures))
+
+pub iterator-over-spec : {M : Type 1} → statement M
+iterator-over-spec = tie.close (tie.spec slice-aggregate-copy-in copy-in-requires returns)

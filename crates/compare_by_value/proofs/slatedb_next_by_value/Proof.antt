@@ -1,0 +1,189 @@
+-- A step by value keeps the promise of a step in place: the method gives back a whole cursor, whose words and key bytes are put back.
+-- Each exit is one law of `Steps` or `Laws`.
+use Prim.Native.Nat.{ℕ}
+use mathlib.Core.Bool.{Bool}
+use mathlib.Core.List.{List}
+use mathlib.Core.Path.{_≡_}
+use lib.ListN.{length}
+use Rattle.layout.specs.Answer.{ok}
+use Rattle.layout.specs.Limits.{maxKey}
+use Rattle.basics.specs.Answers.{yes}
+use Rattle.step_in_place_v2.specs.Says.{viewIn}
+use Rattle.block_iterator_v2.specs.Says.{viewOf}
+use Rattle.block_iterator_v2.specs.declared.BlockIteratorV2.{BlockIteratorV2}
+use Rattle.row_words.specs.Words.{cursorIn, cursorWords, rowCount}
+use Rattle.block_words.specs.Says.{saysCursor}
+use Rattle.block_words.specs.Promise.{PutsIterator}
+use Rattle.block_words.proofs.Laws.{cursor-counts, put-words, put-bytes}
+use Rattle.row_words.proofs.Laws.{stored}
+use Rattle.block_words.proofs.Starts.{step-tells}
+use Rattle.block_words.proofs.Steps.{steps-bad}
+use Rattle.compare_by_value.proofs.Laws.{next-found, next-done, next-refused}
+use borrow.Author.Needs.{needs}
+use Rattle.compare_by_value.proofs.slatedb_next_by_value.Statement.{statement}
+use Rattle.compare_by_value.proofs.slatedb_next_by_value.Tie as tie
+
+abbrev entry : tie.After-step-in → tie.Start
+entry k = k .before .before .before .before .before .before .before .before .before
+
+told : (k : tie.After-loaded) → let s = entry (k .before .before) .args in
+    (length (s .row .now) ≡ rowCount) × (length (s .key .now) ≡ maxKey) × (cursorIn (s .cursor .now) (s .key .now) ≡ ok (viewIn (k .loaded .given .0 .0) (s .key .now)))
+told k =
+    let s = entry (k .before .before) .args in
+    step-tells (s .cursor .now) (s .key .now) (s .row .now) _ (yes (saysCursor (s .key .now)) (k .before .before .step-in .ensures) (k .loaded .given .1))
+
+-- what is put back with the cursor
+module _ (k : tie.After-loaded) {c : BlockIteratorV2} {r : Bool} {ws′ key′ : List ℕ} (p : PutsIterator c (entry (k .before .before) .args .cursor .now) (entry (k .before .before) .args .key .now) r ws′ key′) where
+  words-put : ws′ ≡ cursorWords (viewOf c)
+  words-put = put-words c (entry (k .before .before) .args .cursor .now) (entry (k .before .before) .args .key .now) (cursor-counts _ _ _ (told k .2)) (told k .1) p
+
+  bytes-put : key′ ≡ c .key
+  bytes-put = put-bytes c (entry (k .before .before) .args .cursor .now) (entry (k .before .before) .args .key .now) (cursor-counts _ _ _ (told k .2)) (told k .1) p
+
+step-in-requires : tie.Need-step-in-requires
+step-in-requires c κs = search needs
+
+enum-known-loaded : tie.Need-enum-known-loaded
+enum-known-loaded c = search needs
+
+enum-told : tie.Need-enum-told
+enum-told c = search needs
+
+same-length : tie.Need-same-length
+same-length c = search needs
+
+same-length-2 : tie.Need-same-length-2
+same-length-2 c = search needs
+
+same-length-3 : tie.Need-same-length-3
+same-length-3 c = search needs
+
+returns : tie.Need-returns
+returns c =
+    let s = entry (c .before .before) .args in
+    steps-bad _ (s .cursor .now) (s .key .now) (s .out .now) (s .row .now) (yes (saysCursor (s .key .now)) (c .before .before .step-in .ensures) (c .enum-told .given .1))
+
+iterator-over-requires : tie.Need-iterator-over-requires
+iterator-over-requires c κs = told (c .before .before) .1
+
+next-requires : tie.Need-next-requires
+next-requires c κs = search needs
+
+enum-known-answer : tie.Need-enum-known-answer
+enum-known-answer c = search needs
+
+put-iterator-requires : tie.Need-put-iterator-requires
+put-iterator-requires c κs = search needs
+
+put-row-requires : tie.Need-put-row-requires
+put-row-requires c κs = search needs
+
+enum-told-2 : tie.Need-enum-told-2
+enum-told-2 c = search needs
+
+put-iterator-requires-2 : tie.Need-put-iterator-requires-2
+put-iterator-requires-2 c κs = search needs
+
+enum-known-answer-2 : tie.Need-enum-known-answer-2
+enum-known-answer-2 c = search needs
+
+number-requires : tie.Need-number-requires
+number-requires c κs = search needs
+
+same-length-4 : tie.Need-same-length-4
+same-length-4 c = search needs
+
+same-length-5 : tie.Need-same-length-5
+same-length-5 c = search needs
+
+same-length-6 : tie.Need-same-length-6
+same-length-6 c = search needs
+
+same-length-7 : tie.Need-same-length-7
+same-length-7 c = search needs
+
+returns-2 : tie.Need-returns-2
+returns-2 c =
+    let after-put-iterator = c .before .before .before .before .before .before .before .before in
+    let after-next = after-put-iterator .before .before .before .before .before .before .before .before in
+    let known = after-next .before .before .before .before .before in
+    let start = entry (known .before .before) in
+    let t = told known in
+    next-found _ (start .args .cursor .now) (start .args .key .now) (start .args .out .now) (start .args .row .now) _ (t .0) (t .1) (t .2) _ _ (rw (after-next .before .before .iterator-over .ensures) at (after-next .next .ensures)) (after-put-iterator .before .before .before .before .answer .given .1) (words-put known (after-put-iterator .put-iterator .ensures)) (bytes-put known (after-put-iterator .put-iterator .ensures)) (stored (t .0) (c .before .before .put-row .ensures))
+
+same-length-8 : tie.Need-same-length-8
+same-length-8 c = search needs
+
+same-length-9 : tie.Need-same-length-9
+same-length-9 c = search needs
+
+same-length-10 : tie.Need-same-length-10
+same-length-10 c = search needs
+
+same-length-11 : tie.Need-same-length-11
+same-length-11 c = search needs
+
+returns-3 : tie.Need-returns-3
+returns-3 c =
+    let after-put-iterator2 = c .before .before .before .before in
+    let after-next = after-put-iterator2 .before .before .before .before .before .before .before in
+    let known = after-next .before .before .before .before .before in
+    let start = entry (known .before .before) in
+    let t = told known in
+    next-done _ (start .args .cursor .now) (start .args .key .now) (start .args .out .now) (start .args .row .now) _ (t .0) (t .1) (t .2) _ _ (rw (after-next .before .before .iterator-over .ensures) at (after-next .next .ensures)) (after-put-iterator2 .before .before .before .enum-told2 .given .1) (words-put known (after-put-iterator2 .put-iterator2 .ensures)) (bytes-put known (after-put-iterator2 .put-iterator2 .ensures))
+
+same-length-12 : tie.Need-same-length-12
+same-length-12 c = search needs
+
+same-length-13 : tie.Need-same-length-13
+same-length-13 c = search needs
+
+same-length-14 : tie.Need-same-length-14
+same-length-14 c = search needs
+
+same-length-15 : tie.Need-same-length-15
+same-length-15 c = search needs
+
+returns-4 : tie.Need-returns-4
+returns-4 c =
+    let after-next = c .before .before .before .before .before .before in
+    let known = after-next .before .before .before .before .before in
+    let start = entry (known .before .before) in
+    let t = told known in
+    next-refused _ (start .args .cursor .now) (start .args .key .now) (start .args .out .now) (start .args .row .now) _ (t .0) (t .1) (t .2) _ _ (rw (after-next .before .before .iterator-over .ensures) at (after-next .next .ensures)) (c .before .before .answer2 .given .1) (c .number .ensures)
+
+pub slatedb-next-by-value-spec : {M : Type 1} → statement M
+slatedb-next-by-value-spec =
+    tie.close
+    (tie.spec
+    step-in-requires
+    enum-known-loaded
+    enum-told
+    same-length
+    same-length-2
+    same-length-3
+    returns
+    iterator-over-requires
+    next-requires
+    enum-known-answer
+    put-iterator-requires
+    put-row-requires
+    enum-told-2
+    put-iterator-requires-2
+    enum-known-answer-2
+    number-requires
+    same-length-4
+    same-length-5
+    same-length-6
+    same-length-7
+    returns-2
+    same-length-8
+    same-length-9
+    same-length-10
+    same-length-11
+    returns-3
+    same-length-12
+    same-length-13
+    same-length-14
+    same-length-15
+    returns-4)

@@ -1,0 +1,59 @@
+-- A varint read keeps its promise: the number of words first, then the number and the place that `decode_varint` promised.
+-- Each exit is one law.
+use Rattle.compare_parts.proofs.Laws.{reads-short, reads-good, reads-refused}
+use borrow.Author.Needs.{needs}
+use Rattle.compare_parts.proofs.slatedb_varint_get.Statement.{statement}
+use Rattle.compare_parts.proofs.slatedb_varint_get.Tie as tie
+
+returns : tie.Need-returns
+returns c = reads-short _ _ (c .before .before .before .args .words .now) (c .if1 .taken)
+
+decode-varint-requires : tie.Need-decode-varint-requires
+decode-varint-requires c κs = search needs
+
+enum-known-read : tie.Need-enum-known-read
+enum-known-read c = search needs
+
+cast-words : tie.Need-cast-words
+cast-words c = search needs
+
+slice-write-words : tie.Need-slice-write-words
+slice-write-words c = search needs
+
+slice-write-words-2 : tie.Need-slice-write-words-2
+slice-write-words-2 c = search needs
+
+enum-known-read-2 : tie.Need-enum-known-read-2
+enum-known-read-2 c = search needs
+
+number-requires : tie.Need-number-requires
+number-requires c κs = search needs
+
+same-length : tie.Need-same-length
+same-length c = search needs
+
+returns-2 : tie.Need-returns-2
+returns-2 c =
+    let tested = c .before .before .before .before in
+    reads-good _ _ (tested .before .before .before .args .words .now) _ (tested .if1 .left) (c .before .before .before .decode-varint .ensures) (c .before .read .given .1)
+
+returns-3 : tie.Need-returns-3
+returns-3 c =
+    let tested = c .before .before .before .before .before in
+    reads-refused _ _ (tested .before .before .before .args .words .now) _ (tested .if1 .left) (c .before .before .before .before .decode-varint .ensures) (c .before .before .read2 .given .1) (c .number .ensures)
+
+pub slatedb-varint-get-spec : {M : Type 1} → statement M
+slatedb-varint-get-spec =
+    tie.close
+    (tie.spec
+    returns
+    decode-varint-requires
+    enum-known-read
+    cast-words
+    slice-write-words
+    slice-write-words-2
+    enum-known-read-2
+    number-requires
+    same-length
+    returns-2
+    returns-3)

@@ -1,0 +1,101 @@
+-- Both walks keep the promise: the number of words and the order first, then the walk from the cursor that `new` promised, or from its place, told as it ended.
+-- Each exit is one law; an opened cursor carries no key, so that zeros do for its bytes.
+use Rattle.basics.specs.Answers.{yes}
+use Rattle.block_words.specs.Says.{saysOrdered}
+use Rattle.compare_walks.proofs.Laws.{walks-short, walks-no-order, walks-told, walks-told-in-place, walks-not-opened}
+use borrow.Author.Needs.{needs}
+use Rattle.compare_walks.proofs.walk_flat.Statement.{statement}
+use Rattle.compare_walks.proofs.walk_flat.Tie as tie
+
+returns : tie.Need-returns
+returns c =
+    let start = c .before .before .before in
+    walks-short (start .args .block .now) (start .args .order) (start .args .limit) (start .args .sums .now) (c .if1 .taken)
+
+order-in-requires : tie.Need-order-in-requires
+order-in-requires c κs = search needs
+
+enum-known-ordered : tie.Need-enum-known-ordered
+enum-known-ordered c = search needs
+
+enum-told : tie.Need-enum-told
+enum-told c = search needs
+
+returns-2 : tie.Need-returns-2
+returns-2 c =
+    let start = c .before .before .before .before .before .before in
+    walks-no-order (start .args .block .now) (start .args .order) (start .args .limit) (start .args .sums .now) (c .before .before .before .if1 .left) (yes saysOrdered (c .before .before .order-in .ensures) (c .enum-told .given .1))
+
+new-requires : tie.Need-new-requires
+new-requires c κs = search needs
+
+enum-told-2 : tie.Need-enum-told-2
+enum-told-2 c = search needs
+
+by-value-requires : tie.Need-by-value-requires
+by-value-requires c κs = search needs
+
+tell-requires : tie.Need-tell-requires
+tell-requires c κs = search needs
+
+same-length : tie.Need-same-length
+same-length c = search needs
+
+returns-3 : tie.Need-returns-3
+returns-3 c =
+    let opened = c .before .before .before .before .before .before .before in
+    let known = opened .before .before in
+    let start = known .before .before .before .before .before .before in
+    walks-told (start .args .block .now) (start .args .order) (start .args .limit) (start .args .sums .now) _ _ (known .before .before .before .if1 .left) (yes saysOrdered (known .before .before .order-in .ensures) (known .ordered .given .1)) (opened .new .ensures) (c .before .before .before .before .before .before .enum-told2 .given .1) (c .before .before .before .before .by-value .ensures) (c .before .before .tell .ensures)
+
+in-place-requires : tie.Need-in-place-requires
+in-place-requires c κs = search needs
+
+tell-requires-2 : tie.Need-tell-requires-2
+tell-requires-2 c κs = search needs
+
+enum-known-answer : tie.Need-enum-known-answer
+enum-known-answer c = search needs
+
+number-requires : tie.Need-number-requires
+number-requires c κs = search needs
+
+same-length-2 : tie.Need-same-length-2
+same-length-2 c = search needs
+
+returns-4 : tie.Need-returns-4
+returns-4 c =
+    let opened = c .before .before .before .before .before .before .before .before in
+    let known = opened .before .before in
+    let start = known .before .before .before .before .before .before in
+    walks-told-in-place (start .args .block .now) (start .args .order) (start .args .limit) (start .args .sums .now) _ _ (known .before .before .before .if1 .left) (yes saysOrdered (known .before .before .order-in .ensures) (known .ordered .given .1)) (opened .new .ensures) (c .before .before .before .before .before .before .enum-told2 .given .1) (c .before .before .before .before .in-place .ensures) (c .before .before .tell2 .ensures)
+
+returns-5 : tie.Need-returns-5
+returns-5 c =
+    let opened = c .before .before .before .before in
+    let known = opened .before .before in
+    let start = known .before .before .before .before .before .before in
+    walks-not-opened (start .args .block .now) (start .args .order) (start .args .limit) (start .args .sums .now) _ _ (known .before .before .before .if1 .left) (yes saysOrdered (known .before .before .order-in .ensures) (known .ordered .given .1)) (opened .new .ensures) (c .before .before .answer .given .1) (c .number .ensures)
+
+pub walk-flat-spec : {M : Type 1} → statement M
+walk-flat-spec =
+    tie.close
+    (tie.spec
+    returns
+    order-in-requires
+    enum-known-ordered
+    enum-told
+    returns-2
+    new-requires
+    enum-told-2
+    by-value-requires
+    tell-requires
+    same-length
+    returns-3
+    in-place-requires
+    tell-requires-2
+    enum-known-answer
+    number-requires
+    same-length-2
+    returns-4
+    returns-5)
