@@ -1,14 +1,14 @@
 -- What a call left in words and bytes is, to the next call, the cursor or the builder that it left: so the demands, which hand on cursors and builders, hold of a
 -- chain of calls over lent words. The words of a cursor, and of a builder, read back as it where the bytes beside them begin with its key; and each call that
 -- leaves one leaves such bytes.
-use Prim.Native.Nat.{ℕ, _≤_}
+use Prim.Native.Nat.{ℕ}
 use mathlib.Core.Bool.{Bool, true, false}
 use mathlib.Core.Path.{_≡_, refl, ap, sym, _∙_}
 use mathlib.Core.List.{List, [], _∷_}
 use native.Mathlib.Omega.{arith}
 use lib.ListN.{length, take}
 use Rattle.layout.specs.Answer.{ok}
-use Rattle.layout.specs.Builder.{Builder, grown, add}
+use Rattle.layout.specs.Builder.{Builder, add}
 use Rattle.layout.specs.Cursor.{Direction, ascending, descending, Cursor, Step}
 use Rattle.layout.specs.Key.{Key}
 use Rattle.layout.specs.Limits.{maxKey}
@@ -16,7 +16,8 @@ use Rattle.layout.specs.Laws.Made.{add-tells}
 use Rattle.layout.specs.Laws.Splice.{key-over}
 use Rattle.layout.specs.Place.{splice}
 use Rattle.row_words.specs.Words.{orderWord, truthWord, cursorIn, cursorWords, builderFrom, builderWords}
-use Rattle.block_words.specs.Exports.{Gain, AddsAs, StepsAs}
+use Rattle.block_words.specs.Says.{Gain}
+use Rattle.block_words.specs.Exports.{AddsAs, StepsAs}
 
 -- ---- a cursor
 
