@@ -43,7 +43,7 @@ same-length c = search needs
 
 returns-3 : tie.Need-returns-3
 returns-3 c =
-    let opened = c .before .before .before .before .before .before .before in
+    let opened = c .before .before .before .before .before .before .before .before in
     let known = opened .before .before in
     let start = known .before .before .before .before .before .before in
     walks-told (start .args .block .now) (start .args .order) (start .args .limit) (start .args .sums .now) _ _ (known .before .before .before .if1 .left) (yes saysOrdered (known .before .before .order-in .ensures) (known .ordered .given .1)) (opened .new .ensures) (c .before .before .before .before .before .before .enum-told2 .given .1) (c .before .before .before .before .by-value .ensures) (c .before .before .tell .ensures)
