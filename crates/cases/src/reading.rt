@@ -90,8 +90,8 @@ fn all_seeks(block: &[u8]) {
     both_ways(block, b"");
 }
 
-// Two of five rows, the second with the key b.
-fn two_rows(
+// Two of the five rows: one with this key, then one with the key b.
+fn row_then_b(
     builder: BlockBuilderV2,
     data: &mut [u8],
     restarts: &mut [u16],
@@ -109,8 +109,8 @@ pub fn seeks() {
     let mut data = [0u8; 72];
     let mut restarts = [0u16; 3];
     let fresh = BlockBuilderV2::new_with_restart_interval(4096, 2).builder;
-    let two = two_rows(fresh, &mut data, &mut restarts, b"a", 0, 1);
-    let four = two_rows(two, &mut data, &mut restarts, b"b", 2, 3);
+    let two = row_then_b(fresh, &mut data, &mut restarts, b"a", 0, 1);
+    let four = row_then_b(two, &mut data, &mut restarts, b"b", 2, 3);
     let five = add(four, &mut data, &mut restarts, b"c", b"", 4);
     built(five, &mut data, &restarts);
     checked(&data);

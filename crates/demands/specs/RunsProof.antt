@@ -27,38 +27,6 @@ use Rattle.layout.specs.Laws.Step.{next-again}
 
 -- ---- the builder
 
--- a build in the middle leaves the rows
-made-finish : (n : ℕ) (rs : List Row) (b : Builder) (bytes places : List ℕ) (k : ℕ) → Made n rs b bytes places → build b (length bytes) (length places) ≡ ok k
-    → Made n rs b (blockAfter (ok k) b bytes places) places
-unfolding build
-made-finish n rs b bytes places k m e =
-    bind-then (stateTests b (length bytes) (length places)) _ k e λ u s e₁.
-    guard-then (eqb (b .rows) 0) 7 _ k e₁ λ t₁ e₂.
-    guard-then (ltb (length bytes) (presentSize b)) 6 _ k e₂ λ t₂ e₃.
-    let w : List ℕ = trailer (take (b .restarts) places) in
-    let long : length (trailer (take (b .restarts) places)) ≡ 2 * b .restarts + 2 =
-    ap (λ (x : List ℕ). length (trailer x)) (m .places-are) ∙ length-trailer (offsets n rs) ∙ omega (arith, m .restarts-are) in
-    let fits : b .used + length (trailer (take (b .restarts) places)) ≤ length bytes = omega (arith, ltb-false (length bytes) (presentSize b) t₂) in
-    let same : length (splice bytes (b .used) (trailer (take (b .restarts) places))) ≡ length bytes = length-splice bytes (b .used) (trailer (take (b .restarts) places)) fits in
-    record {
-      interval-is = m .interval-is;
-      block = m .block;
-      some = m .some;
-      few = m .few;
-      used-is = m .used-is;
-      restarts-are = m .restarts-are;
-      rows-are = m .rows-are;
-      lastLen-is = m .lastLen-is;
-      last-is = m .last-is;
-      in-data = omega (arith, m .in-data);
-      in-places = m .in-places;
-      bytes-are = take-splice bytes (b .used) (trailer (take (b .restarts) places)) fits ∙ m .bytes-are;
-      places-are = m .places-are;
-      room = λ h. omega (arith, m .room h);
-      rows-ok = m .rows-ok;
-      offsets-fit = m .offsets-fit;
-    }
-
 -- buffers that begin alike hold the same rows
 made-longer : (n : ℕ) (rs : List Row) (h : Lending) (bytes places : List ℕ) → Made n rs (h .builder) (h .bytes) (h .places) → BeginAlike h bytes places → Made n rs (h .builder) bytes places
 made-longer n rs h bytes places m a =
@@ -80,6 +48,26 @@ made-longer n rs h bytes places m a =
       rows-ok = m .rows-ok;
       offsets-fit = m .offsets-fit;
     }
+
+-- a build in the middle leaves the rows: the buffer that it leaves begins alike
+made-finish : (n : ℕ) (rs : List Row) (b : Builder) (bytes places : List ℕ) (k : ℕ) → Made n rs b bytes places → build b (length bytes) (length places) ≡ ok k
+    → Made n rs b (blockAfter (ok k) b bytes places) places
+unfolding build
+made-finish n rs b bytes places k m e =
+    bind-then (stateTests b (length bytes) (length places)) _ k e λ u s e₁.
+    guard-then (eqb (b .rows) 0) 7 _ k e₁ λ t₁ e₂.
+    guard-then (ltb (length bytes) (presentSize b)) 6 _ k e₂ λ t₂ e₃.
+    let long : length (trailer (take (b .restarts) places)) ≡ 2 * b .restarts + 2 =
+    ap (λ (x : List ℕ). length (trailer x)) (m .places-are) ∙ length-trailer (offsets n rs) ∙ omega (arith, m .restarts-are) in
+    let fits : b .used + length (trailer (take (b .restarts) places)) ≤ length bytes = omega (arith, ltb-false (length bytes) (presentSize b) t₂) in
+    let same : length (splice bytes (b .used) (trailer (take (b .restarts) places))) ≡ length bytes = length-splice bytes (b .used) (trailer (take (b .restarts) places)) fits in
+    made-longer n rs (lending b bytes places) (splice bytes (b .used) (trailer (take (b .restarts) places))) places m
+    (record {
+      no-fewer-bytes = omega (arith, same);
+      no-fewer-places = omega arith;
+      same-bytes = take-splice bytes (b .used) (trailer (take (b .restarts) places)) fits;
+      same-places = refl;
+    })
 
 pub made-after : (n : ℕ) (rs : List Row) (h : Lending) (c : Call) → Made n rs (h .builder) (h .bytes) (h .places) → TypedCall h c
     → Made n (rs ++ accepted h c) (after h c .builder) (after h c .bytes) (after h c .places)
