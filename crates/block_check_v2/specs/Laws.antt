@@ -9,13 +9,13 @@ use lib.Dec.{ltb, eqb}
 use lib.ListN.{length, take, drop}
 use lib.Seq.{take-add, drop-at, length-take-le}
 use borrow.Author.Tests.{lt-ltb, le-ltb}
-use Rattle.layout.specs.Answer.{ok, refuse}
+use Rattle.layout.specs.Res.{ok, refuse}
 use Rattle.layout.specs.Key.{below}
 use Rattle.layout.specs.Limits.{maxKey}
 use Rattle.layout.specs.Place.{splice}
 use Rattle.layout.specs.RowRead.{RowRead, keyLength}
 use Rattle.layout.specs.Trailer.{Trailer, trailerOf, dataOf, Region, regionOf, allOffsets, rowIn}
-use Rattle.layout.specs.Laws.Answer.{ltb-cases, ok-inj}
+use Rattle.layout.specs.Laws.Res.{ltb-cases, ok-inj}
 use Rattle.layout.specs.Laws.Carry.{suffixOf, suffix-fits, carries-on}
 use Rattle.layout.specs.Laws.Check.{Checking, checking-start, checking-over, checking-no, checking-more, row-region, row-no, row-falls, row-passed}
 use Rattle.layout.specs.Laws.Tells.{RowEnds, row-shares, rowIn-ends}

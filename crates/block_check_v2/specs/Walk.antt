@@ -2,7 +2,7 @@
 use Prim.Native.Nat.{ℕ, _≤_, _<_}
 use mathlib.Core.Path.{_≡_}
 use mathlib.Core.List.{List, []}
-use Rattle.layout.specs.Answer.{Res, refuse}
+use Rattle.layout.specs.Res.{Res, refuse}
 use Rattle.layout.specs.Check.{passedIs, checkFrom}
 use Rattle.layout.specs.Key.{noRank}
 use Rattle.layout.specs.Trailer.{Trailer, offsetAt}

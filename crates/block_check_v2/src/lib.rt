@@ -4,14 +4,14 @@
 // suffixes of their keys.
 ghost use mathlib.Core.Path.{_≡_};
 ghost use Prim.Native.Nat.{_<_};
-ghost use Rattle.layout.specs.Answer.{ok};
+ghost use Rattle.layout.specs.Res.{ok};
 ghost use Rattle.layout.specs.Trailer.{trailerOf};
 ghost use Rattle.trailer.specs.Says.{trailerFrom};
 ghost use Rattle.block_check_v2.specs.Walk.{Stands, Leaves};
 ghost use Rattle.block_check_v2.specs.Promise.{Checks};
 use basics::Refusal;
+use basics::Verdict;
 use trailer::RegionRead;
-use trailer::Tested;
 use trailer::Trailer;
 use trailer::TrailerRead;
 
@@ -86,7 +86,7 @@ pub fn check(block: &[u8]) -> Checked
         return Checked::Refused(trailer::trailer_refusal(trailer));
     };
     let tested = trailer::all_offsets(block, t);
-    if let Tested::Refused(refusal) = tested {
+    if let Verdict::Refused(refusal) = tested {
         return Checked::Refused(refusal);
     }
     let size = t.size;

@@ -4,7 +4,7 @@ use Prim.Native.Nat.{ℕ}
 use mathlib.Core.Path.{_≡_}
 use mathlib.Core.List.{List}
 use lib.ListN.{length, replicate}
-use Rattle.layout.specs.Answer.{Res, ok, refuse, bind, whether}
+use Rattle.layout.specs.Res.{Res, ok, refuse, bind, whether}
 use Rattle.layout.specs.Limits.{maxKey}
 use Rattle.layout.specs.Cursor.{cursorOr, openBlock, Step, next, cursorAfter, keyAfter, isEmpty}
 use Rattle.layout.specs.Seek.{Sought as SoughtL, seek, soughtAfter}

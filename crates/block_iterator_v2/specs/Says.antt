@@ -3,9 +3,9 @@ use Prim.Native.Nat.{ℕ}
 use mathlib.Core.Bool.{true, false}
 use mathlib.Core.List.{List}
 use mathlib.Core.Path.{_≡_, refl, ap, ap₂, sym}
-use Rattle.layout.specs.Answer.{Res, ok, refuse}
+use Rattle.layout.specs.Res.{Res, ok, refuse}
 use Rattle.layout.specs.Cursor.{Cursor}
-use Rattle.layout.specs.Laws.Answer.{ok-inj}
+use Rattle.layout.specs.Laws.Res.{ok-inj}
 use Rattle.basics.specs.Answers.{apart, refused-one}
 use Rattle.basics.specs.Number.{number}
 use Rattle.row_decode_v2.specs.Says.{rowFrom, rowFrom-one}

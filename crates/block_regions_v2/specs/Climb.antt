@@ -11,13 +11,13 @@ use lib.Dec.{eqb, ltb}
 use lib.ListN.{length, getD}
 use lib.Seq.{getD-take}
 use borrow.Author.Tests.{lt-ltb, le-ltb}
-use Rattle.layout.specs.Answer.{Res, ok, refuse}
+use Rattle.layout.specs.Res.{Res, ok, refuse}
 use Rattle.layout.specs.Key.{Key, below, common}
 use Rattle.layout.specs.RowRead.{RowRead, keyLength, keyOf}
 use Rattle.layout.specs.Plain.{RowSpan, spanOf}
 use Rattle.layout.specs.Trailer.{Region, rowIn}
 use Rattle.layout.specs.Seek.{Stop, stopIs, walkRegion}
-use Rattle.layout.specs.Laws.Answer.{spend, ltb-cases, ok-inj}
+use Rattle.layout.specs.Laws.Res.{spend, ltb-cases, ok-inj}
 use Rattle.layout.specs.Laws.Carry.{suffixOf, keyOf-length}
 use Rattle.layout.specs.Laws.Key.{common-right}
 use Rattle.layout.specs.Laws.Match.{common-none, match-take, matchAfter, belowAfter, match-is, below-is}

@@ -10,7 +10,7 @@ use lib.ListN.{length, take, drop, length-drop, length-append}
 use lib.Seq.{take-take, take-append-le, take-append-add, take-all, length-take-le}
 use borrow.Author.Tests.{lt-ltb, le-ltb, le-leb, lt-leb, eq-eqb, ne-eqb}
 use Rattle.layout.specs.Key.{Key}
-use Rattle.layout.specs.Laws.Answer.{ltb-cases, eqb-cases}
+use Rattle.layout.specs.Laws.Res.{ltb-cases, eqb-cases}
 use Rattle.block_regions_v2.specs.declared.Known.{Known}
 
 abbrev pub knownIs : ℕ → ℕ → ℕ → ℕ → Known

@@ -11,7 +11,7 @@ use lib.Dec.{eqb, ltb}
 use lib.ListN.{length, take, drop, length-take}
 use lib.Seq.{length-take-le, take-all}
 use borrow.Author.Tests.{lt-ltb, le-ltb, le-leb, lt-leb}
-use Rattle.layout.specs.Answer.{Res, ok, refuse, bind, guard}
+use Rattle.layout.specs.Res.{Res, ok, refuse, bind, guard}
 use Rattle.layout.specs.Limits.{maxKey}
 use Rattle.layout.specs.Key.{Key, below}
 use Rattle.layout.specs.Place.{splice}
@@ -20,7 +20,7 @@ use Rattle.layout.specs.RowRead.{RowRead, keyLength, keyOf}
 use Rattle.layout.specs.Trailer.{Trailer, trailerOf, dataOf, Region, regionOf, rowIn}
 use Rattle.layout.specs.Cursor.{Cursor, Keyed, keyed, rowEndingAt, found, stepIs, backPast, stepBackIn}
 use Rattle.layout.specs.Seek.{Stop, stopIs, walkRegion, lastAtOrBelow}
-use Rattle.layout.specs.Laws.Answer.{bind-then, ok-inj, cond-ok, ltb-cases, clash}
+use Rattle.layout.specs.Laws.Res.{bind-then, ok-inj, cond-ok, ltb-cases, clash}
 use Rattle.layout.specs.Laws.Carry.{keyOf-length}
 use Rattle.layout.specs.Laws.Cursor.{ended, back-no, back-short, back-found}
 use Rattle.layout.specs.Laws.Match.{matchAfter, aboveAfter}

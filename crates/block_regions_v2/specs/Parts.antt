@@ -7,14 +7,14 @@ use native.Mathlib.Omega.{arith}
 use lib.Dec.{eqb}
 use lib.ListN.{length}
 use borrow.Author.Tests.{lt-ltb, le-ltb}
-use Rattle.layout.specs.Answer.{Res, ok, refuse}
+use Rattle.layout.specs.Res.{Res, ok, refuse}
 use Rattle.layout.specs.Key.{Key}
 use Rattle.layout.specs.RowRead.{RowRead, keyLength, keyOf}
 use Rattle.layout.specs.Plain.{RowSpan, spanOf}
 use Rattle.layout.specs.Trailer.{Region, rowIn}
 use Rattle.layout.specs.Cursor.{Keyed, keyed, rowEndingAt}
 use Rattle.layout.specs.Seek.{stopIs, walkRegion}
-use Rattle.layout.specs.Laws.Answer.{spend}
+use Rattle.layout.specs.Laws.Res.{spend}
 use Rattle.layout.specs.Laws.Carry.{keyOf-length}
 use Rattle.layout.specs.Laws.Plain.{span-row}
 use Rattle.layout.specs.Laws.Tells.{row-shares, rowIn-ends}

@@ -3,7 +3,7 @@ use Prim.Native.Nat.{ℕ}
 use mathlib.Core.Path.{_≡_}
 use mathlib.Core.List.{List}
 use lib.ListN.{length}
-use Rattle.layout.specs.Answer.{Res, ok, bind}
+use Rattle.layout.specs.Res.{Res, ok, bind}
 use Rattle.layout.specs.Cursor.{Keyed}
 use Rattle.layout.specs.Laws.MatchWalk.{haltOf}
 use Rattle.trailer.specs.Says.{regionFrom}

@@ -10,13 +10,13 @@ use lib.Dec.{eqb, leb}
 use lib.ListN.{length, take, drop, getD, length-append, length-take, List·getD-append}
 use lib.Seq.{getD-take, getD-append-add, ext-getD, length-take-le, take-all}
 use borrow.Author.Tests.{le-leb, lt-leb}
-use Rattle.layout.specs.Answer.{ok}
+use Rattle.layout.specs.Res.{ok}
 use Rattle.layout.specs.Place.{splice}
 use Rattle.layout.specs.Key.{Key}
 use Rattle.layout.specs.RowRead.{RowRead, keyOf}
 use Rattle.layout.specs.Plain.{RowSpan, spanIs, spanOf}
 use Rattle.layout.specs.Trailer.{Region, rowIn}
-use Rattle.layout.specs.Laws.Answer.{ltb-cases}
+use Rattle.layout.specs.Laws.Res.{ltb-cases}
 use Rattle.layout.specs.Laws.Carry.{suffixOf, keyOf-length}
 use Rattle.layout.specs.Laws.MatchWalk.{spanSuffix}
 use Rattle.layout.specs.Laws.Splice.{length-splice}

@@ -1,7 +1,7 @@
 -- Where a walk starts, for a trailer that a caller hands in with any numbers: 18 unless they are the block's. Then the rules' own search, and its count.
 use Prim.Native.Nat.{ℕ, _-_}
 use mathlib.Core.List.{List}
-use Rattle.layout.specs.Answer.{Res, ok, bind}
+use Rattle.layout.specs.Res.{Res, ok, bind}
 use Rattle.layout.specs.Key.{Key}
 use Rattle.layout.specs.Trailer.{Trailer}
 use Rattle.layout.specs.Seek.{Found, searchRestarts, startDown}

@@ -2,14 +2,14 @@
 -- the rules' search by themselves: how a restart's key stands to the target, and the run with the count that it carries.
 use Prim.Native.Nat.{ℕ}
 use mathlib.Core.List.{List}
-use Rattle.layout.specs.Answer.{Res, ok, refuse, bind}
+use Rattle.layout.specs.Res.{Res, ok, refuse, bind}
 use Rattle.layout.specs.Key.{Key, Ordering, compare}
 use Rattle.layout.specs.Trailer.{Trailer}
 use Rattle.layout.specs.Seek.{Found as FoundL, foundIs, restartKey, lastEqual}
 use Rattle.basics.specs.Number.{number}
 use Rattle.keys.specs.Says.{saysOrdering}
 use Rattle.basics.specs.declared.Refusal.{Refusal}
-use Rattle.basics.specs.declared.Refusal.the-variants.{BadTrailer}
+use Rattle.basics.specs.declared.Refusal.the-variants.{BadState}
 use Rattle.row_decode_v2.specs.declared.KeyRead.{KeyRead}
 use Rattle.row_decode_v2.specs.declared.KeyRead.the-variants.{Read as ReadKey, Refused as KeyRefused}
 use Rattle.block_restarts_v2.specs.declared.Start.{Start}
@@ -20,7 +20,7 @@ use Rattle.block_restarts_v2.specs.declared.Compared.the-variants.{Is, R
 use Rattle.block_restarts_v2.specs.Handed.{startIs}
 
 abbrev pub refusalOfKey : KeyRead → Refusal
-refusalOfKey (ReadKey k) = BadTrailer
+refusalOfKey (ReadKey k) = BadState
 refusalOfKey (KeyRefused r) = r
 
 abbrev pub saysCompared : Compared → Res Ordering
@@ -28,7 +28,7 @@ saysCompared (Is o) = ok (saysOrdering o)
 saysCompared (ComparedRefused r) = refuse (number r)
 
 abbrev pub refusalOfCompared : Compared → Refusal
-refusalOfCompared (Is o) = BadTrailer
+refusalOfCompared (Is o) = BadState
 refusalOfCompared (ComparedRefused r) = r
 
 abbrev pub saysSearch : Search → Res FoundL
@@ -36,7 +36,7 @@ saysSearch (Found place reads) = ok (foundIs place reads)
 saysSearch (SearchRefused r) = refuse (number r)
 
 abbrev pub refusalOfSearch : Search → Refusal
-refusalOfSearch (Found place reads) = BadTrailer
+refusalOfSearch (Found place reads) = BadState
 refusalOfSearch (SearchRefused r) = r
 
 -- what both `restartBelow` and `startDown` ask of a restart's key

@@ -12,13 +12,13 @@ use lib.ListN.{length, take, drop-of-length-le}
 use lib.Seq.{length-take-le}
 use borrow.Author.Tests.{eq-eqb, ne-eqb}
 use borrow.Rule.Slice.PartMut.{midOf, putMid, mid-len, put-same}
-use Rattle.layout.specs.Answer.{Res, ok, refuse}
+use Rattle.layout.specs.Res.{Res, ok, refuse}
 use Rattle.layout.specs.Limits.{maxKey}
 use Rattle.layout.specs.Place.{splice}
 use Rattle.layout.specs.Row.{Time, Absent, At}
 use Rattle.layout.specs.RowRead.{Held, holds, gone, merges, RowRead, keyLength}
 use Rattle.layout.specs.Cursor.{Cursor, done, Step, stepIs, Keyed, next}
-use Rattle.layout.specs.Laws.Answer.{ok-inj, ltb-cases, eqb-cases}
+use Rattle.layout.specs.Laws.Res.{ok-inj, ltb-cases, eqb-cases}
 use Rattle.layout.specs.Laws.Splice.{Wrote, wrote-rest, splice-lent, splice-none}
 use Rattle.basics.specs.Answers.{apart}
 use Rattle.basics.specs.Number.{number}
@@ -147,7 +147,7 @@ all-given {keys₀ = keys₀} {rows₀ = rows₀} g most key h v = gives-rows ke
 pub done-stays : (b : List ℕ) (room : ℕ) (p q : Place) (key key′ : List ℕ) → length key ≡ maxKey → next (viewIn p key) b room ≡ ok (stepIs (viewIn q key′) done) → viewIn p key′ ≡ viewIn p key
 done-stays b room p q key key′ k e =
     let w = next-given (viewIn p key) (stepIs (viewIn q key′) done) b room (λ few. length-take-le (p .«key_len») key (omega (arith, few, k))) e in
-    ap (λ (l : List ℕ). record { direction = saysOrder (p .order); region = p .region; at = p .at; keyLen = p .«key_len»; key = l; mark = p .done }) (ap (λ (m : ℕ). take m key′) (sym (w .0)) ∙ w .1)
+    ap (λ (l : List ℕ). record { order = saysOrder (p .order); region = p .region; at = p .at; keyLen = p .«key_len»; key = l; done = p .done }) (ap (λ (m : ℕ). take m key′) (sym (w .0)) ∙ w .1)
 
 -- ---- the call
 

@@ -10,7 +10,7 @@ use lib.ListN.{length, take, drop, length-append, length-drop}
 use lib.Seq.{take-add, take-take, take-append-le, drop-drop, length-take-le}
 use borrow.Author.Tests.{ltb-false, eqb-true}
 use borrow.Rule.Slice.PartMut.{midOf, putMid, mid-len}
-use Rattle.layout.specs.Answer.{ok}
+use Rattle.layout.specs.Res.{ok}
 use Rattle.layout.specs.Limits.{maxKey}
 use Rattle.layout.specs.Place.{splice}
 use Rattle.layout.specs.Plain.{plainAt}

@@ -10,13 +10,13 @@ use lib.Dec.{eqb}
 use lib.ListN.{length, take, drop, length-drop}
 use lib.Seq.{length-take-le}
 use borrow.Author.Tests.{eq-eqb, eqb-true, not-false}
-use Rattle.layout.specs.Answer.{Res, ok, refuse, bind, guard}
+use Rattle.layout.specs.Res.{Res, ok, refuse, bind, guard}
 use Rattle.layout.specs.Key.{Key}
 use Rattle.layout.specs.Limits.{maxKey}
 use Rattle.layout.specs.Place.{splice}
 use Rattle.layout.specs.RowRead.{RowRead}
 use Rattle.layout.specs.Cursor.{Direction, ascending, descending, Cursor, Answer, found, done, Step, stepIs, Keyed, next}
-use Rattle.layout.specs.Laws.Answer.{bind-then, guard-then, ok-inj, eqb-cases}
+use Rattle.layout.specs.Laws.Res.{bind-then, guard-then, ok-inj, eqb-cases}
 use Rattle.layout.specs.Laws.Splice.{length-splice, splice-none}
 use Rattle.row_words.specs.Words.{badWords, counted, wordAt, oneOf, truthIn, truthWord, orderIn, orderWord, cursorFrom, cursorIn, cursorWords, rowWords, cursorCount, rowCount}
 use Rattle.block_words.specs.Exports.{StepsAs, StepsFlat}
@@ -91,10 +91,10 @@ loaded ws key c e =
 
 stored-in : (d : Cursor) (key : List ℕ) → take (d .keyLen) key ≡ d .key → cursorIn (cursorWords d) key ≡ ok d
 unfolding cursorIn
-stored-in d key e = go (d .direction) (d .mark)
+stored-in d key e = go (d .order) (d .done)
   where
     go : (x : Direction) (m : Bool)
-        → cursorIn (orderWord x ∷ d .region ∷ d .at ∷ d .keyLen ∷ truthWord m ∷ []) key ≡ ok (record { direction = x; region = d .region; at = d .at; keyLen = d .keyLen; key = d .key; mark = m })
+        → cursorIn (orderWord x ∷ d .region ∷ d .at ∷ d .keyLen ∷ truthWord m ∷ []) key ≡ ok (record { order = x; region = d .region; at = d .at; keyLen = d .keyLen; key = d .key; done = m })
     go ascending true = rw e
     go ascending false = rw e
     go descending true = rw e

@@ -4,7 +4,7 @@ use Prim.Native.Nat.{ℕ}
 use mathlib.Core.Path.{_≡_, sym, _∙_}
 use mathlib.Core.List.{List}
 use lib.ListN.{length}
-use Rattle.layout.specs.Answer.{Res, bind}
+use Rattle.layout.specs.Res.{Res, bind}
 use Rattle.layout.specs.Limits.{maxKey}
 use Rattle.row_words.specs.Words.{counted, cursorIn}
 use Rattle.block_words.specs.OneOutcome.{SameKey, same-key}

@@ -4,7 +4,7 @@ use mathlib.Core.Path.{_≡_, ap₂, sym, _∙_}
 use mathlib.Core.Bool.{Bool}
 use mathlib.Core.List.{List}
 use lib.ListN.{length}
-use Rattle.layout.specs.Answer.{refuse}
+use Rattle.layout.specs.Res.{refuse}
 use Rattle.layout.specs.Builder.{Builder, add}
 use Rattle.layout.specs.Key.{Key}
 use Rattle.layout.specs.Limits.{defaultInterval}

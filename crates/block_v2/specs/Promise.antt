@@ -4,8 +4,8 @@ use mathlib.Core.Path.{_≡_}
 use mathlib.Core.Bool.{Bool}
 use mathlib.Core.List.{List}
 use lib.ListN.{length}
-use Rattle.layout.specs.Answer.{Res, ok, refuse, whether}
-use Rattle.layout.specs.Builder.{Builder, newBuilder, built, isEmpty, wouldFit, add, stateAfter, dataAfter, placesAfter, build, blockAfter}
+use Rattle.layout.specs.Res.{Res, ok, refuse, whether}
+use Rattle.layout.specs.Builder.{Builder, newBuilder, built, hasNoRows, wouldFit, add, stateAfter, dataAfter, placesAfter, build, blockAfter}
 use Rattle.layout.specs.Key.{Key}
 use Rattle.layout.specs.Place.{splice}
 use Rattle.layout.specs.Row.{Fields}
@@ -49,7 +49,7 @@ Adds self bytes places key value row r bytes′ places′ =
     AddsAs (add (viewOf self) (length bytes) (length places) key (fieldsFrom row value)) self bytes places key (fieldsFrom row value) r bytes′ places′
 
 abbrev pub Empties : BlockBuilderV2 → Bool → Type 0
-Empties self r = r ≡ isEmpty (viewOf self)
+Empties self r = r ≡ hasNoRows (viewOf self)
 
 pub record BuildsAs (want : Res ℕ) (self : BlockBuilderV2) (bytes places : List ℕ) (r : Built) (bytes′ : List ℕ) : Type 0 where
   pub answer : saysBuild (r .answer) ≡ want

@@ -8,10 +8,10 @@ use lib.Dec.{eqb}
 use lib.ListN.{length, drop-of-length-le, replicate}
 use native.Mathlib.Omega.{arith}
 use borrow.Author.Tests.{eq-eqb, ne-eqb, eqb-true, not-false, le-ltb}
-use Rattle.layout.specs.Answer.{ok, refuse}
+use Rattle.layout.specs.Res.{ok, refuse}
 use Rattle.layout.specs.Cursor.{Direction, Cursor}
 use Rattle.layout.specs.Limits.{maxKey}
-use Rattle.layout.specs.Laws.Answer.{guard-then, ok-inj}
+use Rattle.layout.specs.Laws.Res.{guard-then, ok-inj}
 use Rattle.layout.specs.Place.{splice, afterPut}
 use Rattle.buf_mut.specs.Promise.{Puts}
 use Rattle.buf_mut.specs.declared.Put.{Put}

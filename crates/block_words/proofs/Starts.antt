@@ -7,10 +7,10 @@ use mathlib.Core.List.{List}
 use lib.Dec.{eqb}
 use lib.ListN.{length}
 use borrow.Author.Tests.{eqb-true, not-false}
-use Rattle.layout.specs.Answer.{Res, ok, refuse, bind, guard}
+use Rattle.layout.specs.Res.{Res, ok, refuse, bind, guard}
 use Rattle.layout.specs.Cursor.{Cursor}
 use Rattle.layout.specs.Limits.{maxKey}
-use Rattle.layout.specs.Laws.Answer.{bind-then, guard-then, ok-inj}
+use Rattle.layout.specs.Laws.Res.{bind-then, guard-then, ok-inj}
 use Rattle.row_flags.specs.Says.{fieldsFrom}
 use Rattle.row_flags.specs.declared.RowFields.{RowFields}
 use Rattle.build_in_place_v2.specs.Says.{viewFrom, stateFrom}

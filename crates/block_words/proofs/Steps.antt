@@ -5,11 +5,11 @@ use mathlib.Core.Path.{_≡_, refl, ap, subst, sym, _∙_}
 use mathlib.Core.List.{List}
 use lib.ListN.{length, take}
 use borrow.Author.Tests.{eq-eqb, ne-eqb}
-use Rattle.layout.specs.Answer.{Res, ok, refuse, bind}
+use Rattle.layout.specs.Res.{Res, ok, refuse, bind}
 use Rattle.layout.specs.Cursor.{Cursor, Answer, found, done, Step, stepIs, next, cursorAfter, keyAfter}
 use Rattle.layout.specs.Limits.{maxKey}
 use Rattle.layout.specs.RowRead.{RowRead as RowReadL}
-use Rattle.layout.specs.Laws.Answer.{ok-inj}
+use Rattle.layout.specs.Laws.Res.{ok-inj}
 use Rattle.basics.specs.Answers.{apart}
 use Rattle.step_in_place_v2.specs.Says.{viewIn, row as row-told, none, toldOf, told, told-row, told-apart}
 use Rattle.step_in_place_v2.specs.declared.Place.{Place}

@@ -7,7 +7,7 @@ use mathlib.Core.Path.{_≡_, refl, ap, sym, _∙_}
 use mathlib.Core.List.{List, [], _∷_}
 use native.Mathlib.Omega.{arith}
 use lib.ListN.{length, take}
-use Rattle.layout.specs.Answer.{ok}
+use Rattle.layout.specs.Res.{ok}
 use Rattle.layout.specs.Builder.{Builder, add}
 use Rattle.layout.specs.Cursor.{Direction, ascending, descending, Cursor, Step}
 use Rattle.layout.specs.Key.{Key}
@@ -22,7 +22,7 @@ use Rattle.block_words.specs.Exports.{AddsAs, StepsAs}
 -- ---- a cursor
 
 parts : (d : Direction) (region at keyLen : ℕ) (m : Bool) (key : List ℕ)
-    → cursorIn (orderWord d ∷ region ∷ at ∷ keyLen ∷ truthWord m ∷ []) key ≡ ok (record { direction = d; region = region; at = at; keyLen = keyLen; key = take keyLen key; mark = m })
+    → cursorIn (orderWord d ∷ region ∷ at ∷ keyLen ∷ truthWord m ∷ []) key ≡ ok (record { order = d; region = region; at = at; keyLen = keyLen; key = take keyLen key; done = m })
 unfolding cursorIn
 parts ascending region at keyLen true key = refl
 parts ascending region at keyLen false key = refl
@@ -31,8 +31,8 @@ parts descending region at keyLen false key = refl
 
 pub cursor-again : (c : Cursor) (key : List ℕ) → take (c .keyLen) key ≡ c .key → cursorIn (cursorWords c) key ≡ ok c
 cursor-again c key h =
-    parts (c .direction) (c .region) (c .at) (c .keyLen) (c .mark) key
-    ∙ ap (λ (k : List ℕ). ok (record { direction = c .direction; region = c .region; at = c .at; keyLen = c .keyLen; key = k; mark = c .mark })) h
+    parts (c .order) (c .region) (c .at) (c .keyLen) (c .done) key
+    ∙ ap (λ (k : List ℕ). ok (record { order = c .order; region = c .region; at = c .at; keyLen = c .keyLen; key = k; done = c .done })) h
 
 -- after a step that found a row or said "done", the next call reads the cursor that the step left
 pub step-again : (s : Step) (ws key out row : List ℕ) (code : ℕ) (ws′ key′ out′ row′ : List ℕ) → StepsAs (ok s) ws key out row code ws′ key′ out′ row′ → cursorIn ws′ key′ ≡ ok (s .cursor)
@@ -40,9 +40,9 @@ step-again s ws key out row code ws′ key′ out′ row′ h = rw (h .state) (c
 
 -- ---- a builder
 
-pub builder-again : (v : Builder) (last : List ℕ) → take (v .lastLen) last ≡ v .last → builderFrom (builderWords v) last ≡ v
+pub builder-again : (v : Builder) (last : List ℕ) → take (v .lastKeyLen) last ≡ v .lastKey → builderFrom (builderWords v) last ≡ v
 builder-again v last h =
-    ap (λ (k : List ℕ). record { size = v .size; interval = v .interval; used = v .used; restarts = v .restarts; rows = v .rows; lastLen = v .lastLen; last = k }) h
+    ap (λ (k : List ℕ). record { blockSize = v .blockSize; restartInterval = v .restartInterval; used = v .used; restarts = v .restarts; counter = v .counter; lastKeyLen = v .lastKeyLen; lastKey = k }) h
 
 -- after a row was added, the next call reads the builder that has it
 pub add-again : (g : Gain) (v : Builder) (key : Key) (dataLen placesLen : ℕ) (ws last bytes places : List ℕ) (code : ℕ) (ws′ last′ bytes′ places′ : List ℕ)
@@ -51,5 +51,5 @@ pub add-again : (g : Gain) (v : Builder) (key : Key) (dataLen placesLen : ℕ) (
 add-again g v key dataLen placesLen ws last bytes places code ws′ last′ bytes′ places′ e long h =
     let a = add-tells v dataLen placesLen key (g .fields) (g .builder) e in
     let over : take (length key) (splice last 0 key) ≡ key = key-over last key (omega (arith, a .key-fits)) in
-    let same : take (g .builder .lastLen) (splice last 0 key) ≡ g .builder .last = rw (sym (a .is)) over in
+    let same : take (g .builder .lastKeyLen) (splice last 0 key) ≡ g .builder .lastKey = rw (sym (a .is)) over in
     rw (h .state, h .last-after) (builder-again (g .builder) (splice last 0 key) same)

@@ -2,11 +2,11 @@
 use Prim.Native.Nat.{ℕ}
 use mathlib.Core.List.{List, []}
 use mathlib.Core.Path.{_≡_, refl, ap, ap₂, sym}
-use Rattle.layout.specs.Answer.{Res, ok, refuse}
+use Rattle.layout.specs.Res.{Res, ok, refuse}
 use Rattle.layout.specs.Builder.{Builder}
 use Rattle.layout.specs.Cursor.{Direction, Cursor}
 use Rattle.layout.specs.Row.{Fields}
-use Rattle.layout.specs.Laws.Answer.{ok-inj}
+use Rattle.layout.specs.Laws.Res.{ok-inj}
 use Rattle.block_iterator_v2.specs.declared.BlockIteratorV2.{BlockIteratorV2}
 use Rattle.build_in_place_v2.specs.declared.State.{State}
 use Rattle.build_in_place_v2.specs.Says.{viewFrom, stateFrom}

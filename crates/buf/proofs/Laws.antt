@@ -7,7 +7,7 @@ use lib.ListN.{length, take, drop, length-drop}
 use lib.Seq.{take-take, length-take-le}
 use Rattle.layout.specs.Fixed.{unbig}
 use Rattle.layout.specs.Place.{NumAt}
-use Rattle.layout.specs.Laws.Answer.{ok-inj}
+use Rattle.layout.specs.Laws.Res.{ok-inj}
 use Rattle.layout.specs.Laws.Place.{fourAt, fixedAt-eight}
 use Rattle.layout.specs.Laws.Plain.{fixedAt-is}
 use Rattle.buf.specs.Promise.{orZero, ReadsEight}

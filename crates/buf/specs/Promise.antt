@@ -2,7 +2,7 @@
 use Prim.Native.Nat.{ℕ}
 use mathlib.Core.Path.{_≡_}
 use mathlib.Core.List.{List}
-use Rattle.layout.specs.Answer.{Res, ok, refuse}
+use Rattle.layout.specs.Res.{Res, ok, refuse}
 use Rattle.layout.specs.Place.{NumAt, fixedAt, signedAt}
 use Rattle.basics.specs.declared.Refusal.{Refusal}
 use Rattle.buf.specs.declared.WordRead.{WordRead}

@@ -1,12 +1,12 @@
 -- What each case of an answer says: the values, or the number of the refusal. No two cases say the same.
 use mathlib.Core.Path.{_≡_, ap, sym}
-use Rattle.layout.specs.Answer.{Res, ok, refuse}
+use Rattle.layout.specs.Res.{Res, ok, refuse}
 use Rattle.layout.specs.Place.{NumAt, numAt, SignedAt, signed}
-use Rattle.layout.specs.Laws.Answer.{ok-inj}
+use Rattle.layout.specs.Laws.Res.{ok-inj}
 use Rattle.basics.specs.Answers.{apart, refused-one}
 use Rattle.basics.specs.Number.{number}
 use Rattle.basics.specs.declared.Refusal.{Refusal}
-use Rattle.basics.specs.declared.Refusal.the-variants.{InputEnds}
+use Rattle.basics.specs.declared.Refusal.the-variants.{BadState}
 use Rattle.buf.specs.declared.WordRead.{WordRead}
 use Rattle.buf.specs.declared.WordRead.the-variants.{Word, Refused as WordRefused}
 use Rattle.buf.specs.declared.SignedRead.{SignedRead}
@@ -23,11 +23,11 @@ saysSigned (SignedRefused r) = refuse (number r)
 -- ---- what is taken out of an answer; the other case is never asked
 
 abbrev pub refusalOfWord : WordRead → Refusal
-refusalOfWord (Word v n) = InputEnds
+refusalOfWord (Word v n) = BadState
 refusalOfWord (WordRefused r) = r
 
 abbrev pub refusalOfSigned : SignedRead → Refusal
-refusalOfSigned (SignedNumber v n) = InputEnds
+refusalOfSigned (SignedNumber v n) = BadState
 refusalOfSigned (SignedRefused r) = r
 
 -- ---- one to one

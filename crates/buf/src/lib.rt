@@ -83,7 +83,7 @@ pub fn word_refusal(a: WordRead) -> Refusal
 {
     match a {
         WordRead::Refused(refusal) => refusal,
-        WordRead::Word { value: _, next: _ } => Refusal::InputEnds,
+        WordRead::Word { value: _, next: _ } => Refusal::BadState,
     }
 }
 
@@ -92,6 +92,6 @@ pub fn signed_refusal(a: SignedRead) -> Refusal
 {
     match a {
         SignedRead::Refused(refusal) => refusal,
-        SignedRead::Number { value: _, next: _ } => Refusal::InputEnds,
+        SignedRead::Number { value: _, next: _ } => Refusal::BadState,
     }
 }

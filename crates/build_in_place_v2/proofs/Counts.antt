@@ -11,7 +11,7 @@ use lib.Dec.{leb, eqb}
 use borrow.Author.Tests.{eq-eqb, ne-eqb, eqb-true, leb-true, leb-false}
 use Rattle.layout.specs.Block.{isRestart}
 use Rattle.layout.specs.Builder.{restartsOf}
-use Rattle.layout.specs.Laws.Answer.{eqb-cases, bool-cases}
+use Rattle.layout.specs.Laws.Res.{eqb-cases, bool-cases}
 
 -- no product here wraps
 pub product-small : {a b : ℕ} → a ≤ 5042 → b ≤ 1024 → a * b ≤ 5163008

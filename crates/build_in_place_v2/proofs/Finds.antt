@@ -3,7 +3,7 @@ use Prim.Native.Nat.{ℕ, _<_}
 use mathlib.Core.Path.{_≡_, ap, sym, subst, _∙_}
 use mathlib.Core.Bool.{Bool, false}
 use native.Mathlib.Omega.{arith}
-use Rattle.layout.specs.Answer.{Res, ok, refuse}
+use Rattle.layout.specs.Res.{Res, ok, refuse}
 use Rattle.basics.specs.Answers.{apart}
 use Rattle.basics.specs.Number.{number}
 use Rattle.basics.specs.declared.Refusal.{Refusal}

@@ -9,13 +9,13 @@ use native.Mathlib.Omega.{arith}
 use lib.Dec.{ltb, leb, eqb}
 use lib.ListN.{length, drop}
 use borrow.Author.Tests.{ltb-true, leb-true, leb-false}
-use Rattle.layout.specs.Answer.{Res, ok, refuse, bind, guard}
+use Rattle.layout.specs.Res.{Res, ok, refuse, bind, guard}
 use Rattle.layout.specs.Block.{shareOf}
 use Rattle.layout.specs.Builder.{Builder, restartsOf, stateTests, atRestart, nextRow, grownSize, fits, wouldFit, grown, add}
 use Rattle.layout.specs.Key.{Key}
 use Rattle.layout.specs.Limits.{maxKey, maxBlock, maxInterval, maxOffset, maxRestarts}
 use Rattle.layout.specs.Row.{Fields, valueOf, ifSo, present, rowBytes, keptLength, lengthTests}
-use Rattle.layout.specs.Laws.Answer.{handed, ok-inj, eqb-cases, bool-cases}
+use Rattle.layout.specs.Laws.Res.{handed, ok-inj, eqb-cases, bool-cases}
 use Rattle.layout.specs.Laws.Block.{shares-is}
 use Rattle.layout.specs.Laws.Builder.{state-good, state-tells, fits-empty, fits-room, fits-not, fit-state, fit-lengths, fit-no, fit-yes, add-no, add-far, add-short, add-places, add-restart, add-plain}
 use Rattle.layout.specs.Laws.Building.{laidRow-bytes, rowBytes-most}
@@ -34,9 +34,9 @@ module _ (counter used : ℕ) {n : ℕ} (e : n ≡ cond (eqb counter 0) used 0) 
   stray-some h k = ⊎-elim (λ t. let q : n ≡ used = rw (t .0) at e in let z = k (t .1) in absurd (omega arith)) (λ t. let q : n ≡ 0 = rw (t .0) at e in absurd (omega arith)) (eqb-cases counter 0)
 
 -- a state that no test refuses
-pub state-passed : (b : Builder) (dataLen placesLen : ℕ) → b .size ≤ maxBlock → (b .interval ≡ 0 → ⊥) → b .interval ≤ maxInterval → b .used ≤ dataLen
-    → b .restarts ≤ placesLen → b .restarts ≤ maxRestarts → b .restarts ≡ restartsOf (b .rows) (b .interval) → 12 * b .rows ≤ b .used → (b .rows ≡ 0 → b .used ≡ 0)
-    → b .lastLen ≤ maxKey → stateTests b dataLen placesLen ≡ ok tt
+pub state-passed : (b : Builder) (dataLen placesLen : ℕ) → b .blockSize ≤ maxBlock → (b .restartInterval ≡ 0 → ⊥) → b .restartInterval ≤ maxInterval → b .used ≤ dataLen
+    → b .restarts ≤ placesLen → b .restarts ≤ maxRestarts → b .restarts ≡ restartsOf (b .counter) (b .restartInterval) → 12 * b .counter ≤ b .used → (b .counter ≡ 0 → b .used ≡ 0)
+    → b .lastKeyLen ≤ maxKey → stateTests b dataLen placesLen ≡ ok tt
 state-passed b dataLen placesLen block some few in-data in-places allowed counted rows no-rows last-fits =
     state-good b dataLen placesLen
     (record {
@@ -68,7 +68,7 @@ share-fits restart before key e = omega (arith, shares-is restart before key .ow
 pub record Measured (b : Builder) (dataLen placesLen : ℕ) (key : Key) (f : Fields) (shared : ℕ) (restart : Bool) (size : Res ℕ) : Type 0 where
   pub state : stateTests b dataLen placesLen ≡ ok tt
   pub mark : restart ≡ atRestart b
-  pub share : shared ≡ shareOf restart (b .last) key
+  pub share : shared ≡ shareOf restart (b .lastKey) key
   pub size-is : sizeOf shared (drop shared key) f ≡ size
 
 module _ (b : Builder) (dataLen placesLen : ℕ) (key : Key) (f : Fields) where
@@ -76,12 +76,12 @@ module _ (b : Builder) (dataLen placesLen : ℕ) (key : Key) (f : Fields) where
   plan-state e = handed _ (fit-state b dataLen placesLen key f e)
 
   module _ {shared : ℕ} {restart : Bool} {size : Res ℕ} (m : Measured b dataLen placesLen key f shared restart size) where
-    share-is : shared ≡ shareOf (atRestart b) (b .last) key
-    share-is = m .share ∙ ap (λ (t : Bool). shareOf t (b .last) key) (m .mark)
+    share-is : shared ≡ shareOf (atRestart b) (b .lastKey) key
+    share-is = m .share ∙ ap (λ (t : Bool). shareOf t (b .lastKey) key) (m .mark)
 
     -- share and suffix make the key
     whole : shared + length (drop shared key) ≡ length key
-    whole = rw share-is (shares-is (atRestart b) (b .last) key .whole)
+    whole = rw share-is (shares-is (atRestart b) (b .lastKey) key .whole)
 
     pub plan-unsized : {n : ℕ} → size ≡ refuse n → refuse n ≡ fitted b dataLen placesLen key f
     plan-unsized q =
@@ -102,7 +102,7 @@ module _ (b : Builder) (dataLen placesLen : ℕ) (key : Key) (f : Fields) where
       pub size-small : n ≤ 66599
       size-small = omega (arith, bytes-are, rowBytes-most shared (drop shared key) f, tells .key-small, tells .value-small, length-kept (f .kind) (f .val))
 
-      pub plan-past : b .size < b .used → refuse 4 ≡ fitted b dataLen placesLen key f
+      pub plan-past : b .blockSize < b .used → refuse 4 ≡ fitted b dataLen placesLen key f
       plan-past h =
           let o = state-tells b dataLen placesLen tt (m .state) in
           handed _ (fit-no b dataLen placesLen key f (m .state) tested (fits-not b key f (λ z. absurd (omega (arith, o .no-rows z))) (omega arith)))
@@ -110,18 +110,18 @@ module _ (b : Builder) (dataLen placesLen : ℕ) (key : Key) (f : Fields) where
       module _ {present over : ℕ} (now : present ≡ b .used + 2 * b .restarts + 2) (more : over ≡ ifSo restart 2) where
         grown-is : present + n + over ≡ grownSize b key f
         grown-is =
-            let row : rowBytes shared (drop shared key) f ≡ nextRow b key f = rw share-is (laidRow-bytes (b .last) key (atRestart b) f) in
+            let row : rowBytes shared (drop shared key) f ≡ nextRow b key f = rw share-is (laidRow-bytes (b .lastKey) key (atRestart b) f) in
             omega (arith, bytes-are ∙ ap length row, more ∙ ap (λ (t : Bool). ifSo t 2) (m .mark))
 
-        module _ {room : Bool} (e : room ≡ (eqb (b .rows) 0 || leb (present + n + over) (b .size))) where
+        module _ {room : Bool} (e : room ≡ (eqb (b .counter) 0 || leb (present + n + over) (b .blockSize))) where
           fits-is : fits b key f ≡ room
           fits-is =
               ⊎-elim (λ z. fits-empty b key f (z .1) ∙ sym (rw (z .0) at e))
-              (λ z. let q : room ≡ leb (present + n + over) (b .size) = rw (z .0) at e in
-              ⊎-elim (λ k. fits-room b key f (z .1) (rw (← grown-is) (leb-true (present + n + over) (b .size) k)) ∙ sym (q ∙ k))
-              (λ k. fits-not b key f (z .1) (rw (← grown-is) (leb-false (present + n + over) (b .size) k)) ∙ sym (q ∙ k))
-              (bool-cases (leb (present + n + over) (b .size))))
-              (eqb-cases (b .rows) 0)
+              (λ z. let q : room ≡ leb (present + n + over) (b .blockSize) = rw (z .0) at e in
+              ⊎-elim (λ k. fits-room b key f (z .1) (rw (← grown-is) (leb-true (present + n + over) (b .blockSize) k)) ∙ sym (q ∙ k))
+              (λ k. fits-not b key f (z .1) (rw (← grown-is) (leb-false (present + n + over) (b .blockSize) k)) ∙ sym (q ∙ k))
+              (bool-cases (leb (present + n + over) (b .blockSize))))
+              (eqb-cases (b .counter) 0)
 
           pub plan-fits : room ≡ true → ok (planIs shared (present + n + over) restart) ≡ fitted b dataLen placesLen key f
           plan-fits t = rw (fit-yes b dataLen placesLen key f (m .state) tested (fits-is ∙ t), grown-is, share-is, m .mark)

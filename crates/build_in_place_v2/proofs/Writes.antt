@@ -11,7 +11,7 @@ use lib.ListN.{length, take, drop, set, length-take, length-drop}
 use lib.Seq.{take-all, length-take-le}
 use borrow.Author.Tests.{eq-eqb, ne-eqb}
 use borrow.Rule.Slice.PartMut.{midOf, putMid, mid-len}
-use Rattle.layout.specs.Answer.{Res, ok, refuse, bind}
+use Rattle.layout.specs.Res.{Res, ok, refuse, bind}
 use Rattle.layout.specs.Block.{trailer}
 use Rattle.layout.specs.Builder.{Builder, fresh, newBuilder, stateTests, atRestart, nextRow, presentSize, wouldFit, grown, add, build}
 use Rattle.layout.specs.Key.{Key}
@@ -19,7 +19,7 @@ use Rattle.layout.specs.Limits.{maxKey, maxOffset}
 use Rattle.layout.specs.Place.{splice}
 use Rattle.layout.specs.Row.{Fields, ifSo, rowBytes, valueOf, lengthTests, encodeRow}
 use Rattle.layout.specs.RowRead.{mayShare}
-use Rattle.layout.specs.Laws.Answer.{ok-inj}
+use Rattle.layout.specs.Laws.Res.{ok-inj}
 use Rattle.layout.specs.Laws.Block.{shares-is}
 use Rattle.layout.specs.Laws.Builder.{StateOk, state-tells, build-state, build-none, build-short, build-good}
 use Rattle.layout.specs.Laws.Building.{laidRow-bytes, fit-tells, add-fit}

@@ -4,7 +4,7 @@ use mathlib.Core.Path.{_≡_}
 use mathlib.Core.Bool.{Bool, cond}
 use mathlib.Core.List.{List, [], _∷_, _++_}
 use lib.ListN.{length, drop, set}
-use Rattle.layout.specs.Answer.{Res, ok, refuse, bind, guard}
+use Rattle.layout.specs.Res.{Res, ok, refuse, bind, guard}
 use Rattle.layout.specs.Block.{shareOf}
 use Rattle.layout.specs.Builder.{Builder, stateTests, atRestart, nextRow, grownSize, wouldFit, grown, add}
 use Rattle.layout.specs.Fixed.{big}
@@ -14,7 +14,7 @@ use Rattle.layout.specs.Row.{Fields, valueOf, rowBytes, lengthTests}
 use Rattle.layout.specs.Varint.{varint}
 use Rattle.basics.specs.Number.{number}
 use Rattle.basics.specs.declared.Refusal.{Refusal}
-use Rattle.basics.specs.declared.Refusal.the-variants.{EmptyKey}
+use Rattle.basics.specs.declared.Refusal.the-variants.{BadState}
 use Rattle.row_flags.specs.Says.{fieldsFrom}
 use Rattle.row_flags.specs.declared.RowFields.{RowFields}
 use Rattle.row_size_v2.specs.Promise.{Sizes}
@@ -45,7 +45,7 @@ planIs shared size restart = record { shared = shared; size = size; restart = re
 
 -- the share of the next row, the size of the block with it, and whether it is a restart
 abbrev pub planOf : Builder → Key → Fields → Plan
-planOf b key f = planIs (shareOf (atRestart b) (b .last) key) (grownSize b key f) (atRestart b)
+planOf b key f = planIs (shareOf (atRestart b) (b .lastKey) key) (grownSize b key f) (atRestart b)
 
 abbrev pub fitted : Builder → ℕ → ℕ → Key → Fields → Res Plan
 fitted b dataLen placesLen key f = bind (wouldFit b dataLen placesLen key f) λ _. ok (planOf b key f)
@@ -63,7 +63,7 @@ Plans want row valueLen r = (value : List ℕ) → length value ≡ valueLen →
 
 -- the refusal of an answer that is one
 abbrev pub plannedRefusal : Planned → Refusal
-plannedRefusal (PlannedRow shared size restart) = EmptyKey
+plannedRefusal (PlannedRow shared size restart) = BadState
 plannedRefusal (PlannedRefused r) = r
 
 abbrev pub foundIs : ℕ → ℕ → Bool → Found
@@ -79,7 +79,7 @@ Finds want row valueLen r = (value : List ℕ) → length value ≡ valueLen →
 
 -- a row that passed all tests of adding, with the share and the mark that were found for it
 pub record Tested (b : Builder) (bytes places : List ℕ) (key : Key) (f : Fields) (shared : ℕ) (restart : Bool) : Type 0 where
-  pub share-is : shared ≡ shareOf (atRestart b) (b .last) key
+  pub share-is : shared ≡ shareOf (atRestart b) (b .lastKey) key
   pub mark-is : restart ≡ atRestart b
   pub passed : add b (length bytes) (length places) key f ≡ ok (grown b key f)
 

@@ -5,8 +5,8 @@ use mathlib.Core.Bool.{Bool, not}
 use mathlib.Core.List.{List}
 use lib.Dec.{eqb}
 use lib.ListN.{length}
-use Rattle.layout.specs.Answer.{Res, ok, refuse, bind, guard, whether}
-use Rattle.layout.specs.Builder.{Builder, newBuilder, built, isEmpty, wouldFit, add, dataAfter, placesAfter, build, blockAfter}
+use Rattle.layout.specs.Res.{Res, ok, refuse, bind, guard, whether}
+use Rattle.layout.specs.Builder.{Builder, newBuilder, built, hasNoRows, wouldFit, add, dataAfter, placesAfter, build, blockAfter}
 use Rattle.layout.specs.Key.{Key}
 use Rattle.layout.specs.Limits.{maxKey}
 use Rattle.layout.specs.Place.{splice}
@@ -31,7 +31,7 @@ MakesState size interval r = MakesStateAs (newBuilder size interval) r
 
 -- whatever the last key's bytes are
 abbrev pub TellsStateEmpty : State → Bool → Type 0
-TellsStateEmpty s r = (last : List ℕ) → r ≡ isEmpty (viewFrom s last)
+TellsStateEmpty s r = (last : List ℕ) → r ≡ hasNoRows (viewFrom s last)
 
 -- the builder of these numbers and of the lent bytes of its last key, which must be as many as the longest key has: 18
 abbrev pub entered : State → List ℕ → Res Builder

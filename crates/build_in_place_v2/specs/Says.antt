@@ -2,9 +2,10 @@
 use Prim.Native.Nat.{ℕ}
 use mathlib.Core.Path.{_≡_, ap, sym}
 use mathlib.Core.List.{List}
-use Rattle.layout.specs.Answer.{Res, ok, refuse}
-use Rattle.layout.specs.Builder.{Builder, keptBuilder}
-use Rattle.layout.specs.Laws.Answer.{ok-inj}
+use lib.ListN.{take}
+use Rattle.layout.specs.Res.{Res, ok, refuse}
+use Rattle.layout.specs.Builder.{Builder}
+use Rattle.layout.specs.Laws.Res.{ok-inj}
 use Rattle.basics.specs.Answers.{apart, refused-one}
 use Rattle.basics.specs.Number.{number}
 use Rattle.build_in_place_v2.specs.declared.State.{State}
@@ -17,17 +18,26 @@ use Rattle.build_in_place_v2.specs.declared.BuildAnswer.the-variants.{Bl
 
 -- the builder of these numbers and of the bytes that its last key lies in
 abbrev pub viewFrom : State → List ℕ → Builder
-viewFrom s last = keptBuilder (s .«block_size») (s .«restart_interval») (s .used) (s .restarts) (s .counter) (s .«last_key_len») last
+viewFrom s last =
+    record {
+      blockSize = s .«block_size»;
+      restartInterval = s .«restart_interval»;
+      used = s .used;
+      restarts = s .restarts;
+      counter = s .counter;
+      lastKeyLen = s .«last_key_len»;
+      lastKey = take (s .«last_key_len») last;
+    }
 
 abbrev pub stateFrom : Builder → State
 stateFrom v =
     record {
-      «block_size» = v .size;
-      «restart_interval» = v .interval;
+      «block_size» = v .blockSize;
+      «restart_interval» = v .restartInterval;
       used = v .used;
       restarts = v .restarts;
-      counter = v .rows;
-      «last_key_len» = v .lastLen;
+      counter = v .counter;
+      «last_key_len» = v .lastKeyLen;
     }
 
 -- ---- answers

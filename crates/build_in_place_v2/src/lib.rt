@@ -518,7 +518,7 @@ fn planned_refusal(planned: Planned) -> Refusal
 {
     match planned {
         Planned::Refused(refusal) => refusal,
-        Planned::Row { .. } => Refusal::EmptyKey,
+        Planned::Row { .. } => Refusal::BadState,
     }
 }
 

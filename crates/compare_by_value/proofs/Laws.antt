@@ -4,11 +4,11 @@ use Prim.Native.Nat.{ℕ}
 use mathlib.Core.Path.{_≡_, refl, ap, sym, _∙_}
 use mathlib.Core.List.{List}
 use lib.ListN.{length, take}
-use Rattle.layout.specs.Answer.{Res, ok, refuse, whether}
+use Rattle.layout.specs.Res.{Res, ok, refuse, whether}
 use Rattle.layout.specs.Builder.{Builder}
 use Rattle.layout.specs.Cursor.{next}
 use Rattle.layout.specs.Limits.{maxKey}
-use Rattle.layout.specs.Laws.Answer.{whether-refused}
+use Rattle.layout.specs.Laws.Res.{whether-refused}
 use Rattle.basics.specs.Answers.{apart, yes}
 use Rattle.basics.specs.Number.{number}
 use Rattle.basics.specs.declared.Refusal.{Refusal}

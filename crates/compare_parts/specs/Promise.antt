@@ -3,7 +3,7 @@ use Prim.Native.Nat.{ℕ}
 use mathlib.Core.Path.{_≡_}
 use mathlib.Core.List.{List, [], _∷_}
 use lib.ListN.{length}
-use Rattle.layout.specs.Answer.{bind}
+use Rattle.layout.specs.Res.{bind}
 use Rattle.layout.specs.Place.{NumAt, varintAt, putAt, afterPut}
 use Rattle.layout.specs.RowRead.{KeyRead, readKey}
 use Rattle.layout.specs.Varint.{varint}

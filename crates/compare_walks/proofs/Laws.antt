@@ -8,12 +8,12 @@ use native.Mathlib.Omega.{arith}
 use lib.ListN.{length, take, getD, set, replicate}
 use lib.Seq.{length-take-le, getD-take}
 use borrow.Author.Tests.{eq-eqb, ne-eqb}
-use Rattle.layout.specs.Answer.{Res, ok, refuse, bind}
+use Rattle.layout.specs.Res.{Res, ok, refuse, bind}
 use Rattle.layout.specs.Limits.{maxKey}
 use Rattle.layout.specs.Key.{Key}
 use Rattle.layout.specs.RowRead.{RowRead}
 use Rattle.layout.specs.Cursor.{Cursor, cursorOr, openBlock, found, done, stepIs, next}
-use Rattle.layout.specs.Laws.Answer.{spend, whether-good, whether-refused}
+use Rattle.layout.specs.Laws.Res.{spend, whether-good, whether-refused}
 use Rattle.basics.specs.Answers.{yes, saysVerdict}
 use Rattle.basics.specs.Number.{number}
 use Rattle.basics.specs.Says.{saysOrder}

@@ -4,7 +4,7 @@ use Prim.Native.Nat.{ℕ, _+_, _-_, _%_, _^_, _<_, _≤_}
 use mathlib.Core.Path.{_≡_}
 use mathlib.Core.List.{List}
 use lib.ListN.{length, take, drop}
-use Rattle.layout.specs.Answer.{Res, ok, bind}
+use Rattle.layout.specs.Res.{Res, ok, bind}
 use Rattle.layout.specs.Cursor.{Cursor}
 use Rattle.layout.specs.Fixed.{unbig}
 use Rattle.layout.specs.Key.{Key}

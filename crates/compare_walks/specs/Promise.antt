@@ -2,7 +2,7 @@
 use Prim.Native.Nat.{ℕ}
 use mathlib.Core.Path.{_≡_}
 use mathlib.Core.List.{List}
-use Rattle.layout.specs.Answer.{Res}
+use Rattle.layout.specs.Res.{Res}
 use Rattle.compare_walks.specs.Walk.{Walk, walkBlock, walkCode, sumsAfter}
 
 -- a walk that is wanted: the code, and the words that it leaves

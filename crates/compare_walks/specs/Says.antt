@@ -1,5 +1,5 @@
 -- What each case of a private answer says to the definitions.
-use Rattle.layout.specs.Answer.{Res, ok, refuse}
+use Rattle.layout.specs.Res.{Res, ok, refuse}
 use Rattle.basics.specs.Number.{number}
 use Rattle.compare_walks.specs.declared.Walked.{Walked}
 use Rattle.compare_walks.specs.declared.Walked.the-variants.{Ended, Refused}

@@ -5,7 +5,7 @@
 ghost use mathlib.Core.Path.{_≡_};
 ghost use Prim.Native.Nat.{_≤_, _+_, _%_, _^_};
 ghost use lib.ListN.{length, take, replicate};
-ghost use Rattle.layout.specs.Answer.{bind};
+ghost use Rattle.layout.specs.Res.{bind};
 ghost use Rattle.layout.specs.Limits.{maxKey};
 ghost use Rattle.basics.specs.Says.{saysHeld};
 ghost use Rattle.row_decode_v2.specs.Says.{rowFrom};

@@ -8,7 +8,7 @@ use mathlib.Core.List.{List}
 use native.Mathlib.Nat.{zero-add}
 use native.Mathlib.Omega.{arith}
 use lib.ListN.{length, take, drop}
-use Rattle.layout.specs.Answer.{ok, refuse}
+use Rattle.layout.specs.Res.{ok, refuse}
 use Rattle.layout.specs.Key.{Key}
 use Rattle.layout.specs.Row.{Fields, encodeRow, written, restoreKey}
 use Rattle.layout.specs.RowRead.{RowRead}
@@ -25,7 +25,7 @@ pub refused-step : (c : Cursor) (b out : List ℕ) (n : ℕ) → next c b (lengt
     → (cursorAfter (next c b (length out)) c ≡ c) × (keyAfter (next c b (length out)) out ≡ out)
 refused-step c b out n e = rw e (refl, refl)
 
-pub refused-seek : (c : Cursor) (b : List ℕ) (target : Key) (n : ℕ) → seek (c .direction) b target ≡ refuse n → soughtAfter (seek (c .direction) b target) c ≡ c
+pub refused-seek : (c : Cursor) (b : List ℕ) (target : Key) (n : ℕ) → seek (c .order) b target ≡ refuse n → soughtAfter (seek (c .order) b target) c ≡ c
 refused-seek c b target n e = rw e
 
 module _ (b : Builder) (bytes places : List ℕ) (n : ℕ) where
@@ -65,8 +65,8 @@ module _ (d : Direction) (region at keyLen : ℕ) (mark : Bool) (array₁ array�
   stale-bytes-empty = ap (λ (c : Cursor). isEmpty c b) one
 
   -- a seek takes only the direction; one that is refused gives back the cursor that came, which carries the same
-  pub stale-bytes-seek : (target : Key) → soughtAfter (seek (c₁ .direction) b target) c₁ ≡ soughtAfter (seek (c₂ .direction) b target) c₂
-  stale-bytes-seek target = ap (λ (c : Cursor). soughtAfter (seek (c .direction) b target) c) one
+  pub stale-bytes-seek : (target : Key) → soughtAfter (seek (c₁ .order) b target) c₁ ≡ soughtAfter (seek (c₂ .order) b target) c₂
+  stale-bytes-seek target = ap (λ (c : Cursor). soughtAfter (seek (c .order) b target) c) one
 
 -- the key bytes that a step gives stand at the start of the lent buffer, whatever it held; its other bytes stay
 pub given-bytes : (c : Cursor) (b out : List ℕ) (moved : Cursor) (r : RowRead) (key : Key) → length (c .key) ≡ c .keyLen → next c b (length out) ≡ ok (stepIs moved (found r key))

@@ -8,7 +8,7 @@ use mathlib.Core.Path.{_≡_, ap, sym, _∙_}
 use mathlib.Core.Bool.{true, false}
 use mathlib.Core.List.{List, []}
 use lib.ListN.{length, getD}
-use Rattle.layout.specs.Answer.{ok}
+use Rattle.layout.specs.Res.{ok}
 use Rattle.layout.specs.Limits.{maxKey, maxRestarts}
 use Rattle.layout.specs.Key.{Key, below, noRank, Rising, firstAtOrAbove, firstAbove}
 use Rattle.layout.specs.Row.{Fields, Row, encodeRow, Typed}
@@ -22,7 +22,7 @@ use Rattle.demands.specs.Rows.{DecodesBack, Rows, BothWays, SoughtUp, So
 use Rattle.demands.specs.RunsProof.{walks-first}
 use Rattle.demands.specs.Proof3.{encode-tells, ran-laid}
 use Rattle.demands.specs.Proof2.{decodes-back, rows-walked, accepted-rows, rows-room, sought-up, sought-down, first-splits, last-splits, retry-present, retry-absent, restarts-few, laid-accepted, accepted-laid}
-use Rattle.layout.specs.Laws.Answer.{ok-inj}
+use Rattle.layout.specs.Laws.Res.{ok-inj}
 use Rattle.demands.specs.Laws.Accept.{check-accepts, accepts-check}
 
 -- A row that was encoded decodes, whatever bytes follow, to what was encoded, and ends where it ended; its full key is the shared bytes of the previous key, then the suffix.

@@ -7,7 +7,7 @@ use Prim.Native.Nat.{ℕ, _≤_}
 use mathlib.Core.Path.{_≡_}
 use mathlib.Core.List.{List, [], _++_, map}
 use lib.ListN.{length}
-use Rattle.layout.specs.Answer.{ok}
+use Rattle.layout.specs.Res.{ok}
 use Rattle.layout.specs.Limits.{maxKey}
 use Rattle.layout.specs.Row.{Fields, Row, encodeRow, SameRow, Typed, plainRow}
 use Rattle.layout.specs.RowRead.{RowRead, decodeRow}

@@ -10,7 +10,7 @@ use lib.Count.{leadingZeros}
 use lib.Dec.{ltb}
 use lib.IntN.{ℤ, negsuc}
 use lib.ListN.{length, take, drop, replicate, getD}
-use Rattle.layout.specs.Answer.{Res, ok, refuse}
+use Rattle.layout.specs.Res.{Res, ok, refuse}
 use Rattle.layout.specs.Limits.{maxKey, maxRestarts}
 use Rattle.layout.specs.Varint.{varint, varintIn, readVarint, readVarintIn}
 use Rattle.layout.specs.Fixed.{big, unbig, bits, unbits}
@@ -31,7 +31,7 @@ use Rattle.demands.specs.Rows.{DecodesBack, Rows, BothWays, SoughtUp, So
 use Rattle.demands.specs.Demand1.{refused-step, refused-seek, refused-add, refused-build, refused-encode, refused-restore, given-bytes, stale-bytes-tell-nothing, stale-bytes-empty, stale-bytes-seek, stale-bytes-fit, stale-bytes-add, stale-bytes-build}
 use Rattle.demands.specs.Demand2.{decode-encode, check-exact, has-rows, room-enough, walk-any-buffers, first-at-or-above, last-at-or-below, walk-steps, seek-ascending-lands, seek-descending-lands, retry-found, restarts-at-most, finished-accepted}
 use Rattle.demands.specs.Demand3.{run-finishes, blocks-differ, keys-fit, reads-forwards, reads-backwards, reads-any-buffers, row-begins-no-other, read-begins-no-other}
-use Rattle.layout.specs.Laws.Answer.{ltb-cases, clash}
+use Rattle.layout.specs.Laws.Res.{ltb-cases, clash}
 use Rattle.demands.specs.Laws.Refusals.{seek-never-18}
 
 -- ---- case 2, by a run

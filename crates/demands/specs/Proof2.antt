@@ -11,7 +11,7 @@ use native.Mathlib.Numerals.{add-one}
 use lib.ListN.{length, take, drop, getD, length-append, length-drop, length-map, drop-of-length-le}
 use lib.Seq.{getD-drop}
 use borrow.Author.Tests.{eq-eqb}
-use Rattle.layout.specs.Answer.{Res, ok}
+use Rattle.layout.specs.Res.{Res, ok}
 use Rattle.layout.specs.Limits.{maxKey, maxRestarts}
 use Rattle.layout.specs.Key.{Key, below, leading, isBelow, notAbove, firstAtOrAbove, firstAbove, rankIs, noRank, Rising}
 use Rattle.layout.specs.Row.{Fields, Row, rowBytes, Typed, plainRow}
@@ -26,7 +26,7 @@ use Rattle.demands.specs.Runs.{RoomFor, backwards, Walks, stands, gives,
 use Rattle.demands.specs.Rows.{DecodesBack, Rows, BothWays, offeredRanks, SoughtUp, SoughtDown, FoundFirst}
 use Rattle.demands.specs.RunsProof.{walks-before, walks-after}
 use Rattle.demands.specs.Proof3.{Encoded, encoded-fields}
-use Rattle.layout.specs.Laws.Answer.{ok-inj, ltb-cases, bool-cases, clash}
+use Rattle.layout.specs.Laws.Res.{ok-inj, ltb-cases, bool-cases, clash}
 use Rattle.layout.specs.Laws.Key.{AtMost, at-most-refl, at-most-trans, at-most-antisym, below-false, le-below}
 use Rattle.layout.specs.Laws.Row.{placesOf, readRow-law, placesOf-fields, placesOf-key}
 use Rattle.layout.specs.Laws.Tells.{readRow-ends, restart-least}
@@ -117,7 +117,7 @@ module _ (b : List ℕ) (n : ℕ) (t : Trailer) (rows : List Keyed) (q : Rows b 
     where
       go : (c : Cursor) (x : Res Cursor) → x ≡ ok c → LandsUp b t target rows x
           → WalksAll b room c (drop (leading (isBelow target) (keysOf rows)) rows)
-          × (((leading (isBelow target) (keysOf rows) < length rows) × (c .mark ≡ false)) ⊎ ((leading (isBelow target) (keysOf rows) ≡ length rows) × (c ≡ doneUp t)))
+          × (((leading (isBelow target) (keysOf rows) < length rows) × (c .done ≡ false)) ⊎ ((leading (isBelow target) (keysOf rows) ≡ length rows) × (c ≡ doneUp t)))
       go c x e (lands d h l) =
           let same : d ≡ c = ok-inj e in
           rw (← same) (walks-before b t room d (drop (leading (isBelow target) (keysOf rows)) rows) l (room-drop room (leading (isBelow target) (keysOf rows)) rows f), inl (h, l .stands .unmarked))
@@ -132,7 +132,7 @@ module _ (b : List ℕ) (n : ℕ) (t : Trailer) (rows : List Keyed) (q : Rows b 
     where
       go : (c : Cursor) (x : Res Cursor) → x ≡ ok c → LandsDown b t target rows x
           → WalksAll b room c (backwards (take (leading (notAbove target) (keysOf rows)) rows))
-          × (((0 < leading (notAbove target) (keysOf rows)) × (c .mark ≡ false)) ⊎ ((leading (notAbove target) (keysOf rows) ≡ 0) × (c ≡ doneDown)))
+          × (((0 < leading (notAbove target) (keysOf rows)) × (c .done ≡ false)) ⊎ ((leading (notAbove target) (keysOf rows) ≡ 0) × (c ≡ doneDown)))
       go c x e (lands-down d h l) =
           let same : d ≡ c = ok-inj e in
           rw (← same)

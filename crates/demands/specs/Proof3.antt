@@ -8,7 +8,7 @@ use native.Mathlib.Omega.{arith}
 use lib.Dec.{ltb}
 use lib.ListN.{length, take, length-append}
 use borrow.Author.Tests.{le-ltb, ltb-false}
-use Rattle.layout.specs.Answer.{ok}
+use Rattle.layout.specs.Res.{ok}
 use Rattle.layout.specs.Limits.{maxKey, maxValue}
 use Rattle.layout.specs.Row.{Fields, Row, valueOf, rowBytes, keyLengthTests, lengthTests, encodeRow, SameRow, Typed, plainRow}
 use Rattle.layout.specs.RowRead.{RowRead, rowAt, readRow, decodeRow, keyLength}
@@ -19,7 +19,7 @@ use Rattle.layout.specs.Cursor.{ascending, descending, opened, openBlock, Keyed
 use Rattle.demands.specs.Reads.{regionsRows, Reads, allRows, AllOf, contentOf}
 use Rattle.demands.specs.Runs.{Lending, Call, Ran, Finishes, RoomFor, backwards, WalksAll, KeysFit}
 use Rattle.demands.specs.RunsProof.{made-ran, finishes-some, made-finishes, walks-before, walks-after}
-use Rattle.layout.specs.Laws.Answer.{bind-then, guard-then, ok-inj}
+use Rattle.layout.specs.Laws.Res.{bind-then, guard-then, ok-inj}
 use Rattle.layout.specs.Laws.Row.{FieldsOk, KeyOk, prefix-free}
 use Rattle.layout.specs.Laws.Tells.{keyLengthTests-tells}
 use Rattle.demands.specs.Laws.Local.{readRow-local}

@@ -5,7 +5,7 @@ use mathlib.Core.Bool.{cond}
 use mathlib.Core.List.{List, [], _∷_, _++_, map}
 use lib.Dec.{ltb}
 use lib.ListN.{length}
-use Rattle.layout.specs.Answer.{Res, ok, bind}
+use Rattle.layout.specs.Res.{Res, ok, bind}
 use Rattle.layout.specs.Key.{Key, Rank, rankIs, noRank, Rising}
 use Rattle.layout.specs.Row.{Row}
 use Rattle.layout.specs.RowRead.{keyOf, fieldsOf}

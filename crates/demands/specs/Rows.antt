@@ -5,7 +5,7 @@ use mathlib.Core.Bool.{false}
 use mathlib.Core.List.{List, [], _∷_, _++_, map}
 use mathlib.Core.Logic.{_⊎_}
 use lib.ListN.{length, take, drop, getD}
-use Rattle.layout.specs.Answer.{ok}
+use Rattle.layout.specs.Res.{ok}
 use Rattle.layout.specs.Key.{Key, Rank, rankIs, noRank, Rising, firstAtOrAbove, firstAbove}
 use Rattle.layout.specs.Row.{Fields, Row, plain}
 use Rattle.layout.specs.RowRead.{RowRead, decodeRow, keyOf, fieldsOf}
@@ -55,7 +55,7 @@ pub record SoughtUp (b : List ℕ) (t : Trailer) (target : Key) (rows : List Key
   pub is : seek ascending b target ≡ ok (soughtIs c reads)
   pub walked : WalksAll b room c (drop (firstAtOrAbove target (keysOf rows)) rows)
   pub over :
-      ((firstAtOrAbove target (keysOf rows) < length rows) × (c .mark ≡ false))
+      ((firstAtOrAbove target (keysOf rows) < length rows) × (c .done ≡ false))
       ⊎ ((firstAtOrAbove target (keysOf rows) ≡ length rows) × (c ≡ doneUp t))
 
 -- descending: the rows walked after the seek are those before the first above the target, the last of them first; it says "done" exactly when there is none
@@ -65,7 +65,7 @@ pub record SoughtDown (b : List ℕ) (t : Trailer) (target : Key) (rows : List K
   pub is : seek descending b target ≡ ok (soughtIs c reads)
   pub walked : WalksAll b room c (backwards (take (firstAbove target (keysOf rows)) rows))
   pub over :
-      ((0 < firstAbove target (keysOf rows)) × (c .mark ≡ false))
+      ((0 < firstAbove target (keysOf rows)) × (c .done ≡ false))
       ⊎ ((firstAbove target (keysOf rows) ≡ 0) × (c ≡ doneDown))
 
 -- the row that the step after the seek gives has the target as its key, and no row before it has

@@ -3,7 +3,7 @@ use Prim.Native.Nat.{ℕ, _≤_}
 use mathlib.Core.Path.{_≡_}
 use mathlib.Core.List.{List, [], _∷_, _++_}
 use lib.ListN.{length, take}
-use Rattle.layout.specs.Answer.{Res, ok, refuse}
+use Rattle.layout.specs.Res.{Res, ok, refuse}
 use Rattle.layout.specs.Row.{Row, Typed}
 use Rattle.layout.specs.RowRead.{keyLength}
 use Rattle.layout.specs.Builder.{Builder, newBuilder, add, stateAfter, dataAfter, placesAfter, build, blockAfter}

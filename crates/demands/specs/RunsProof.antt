@@ -8,7 +8,7 @@ use native.Mathlib.Omega.{arith}
 use lib.Dec.{ltb, eqb}
 use lib.ListN.{length, take, length-append}
 use borrow.Author.Tests.{ltb-false, eqb-false}
-use Rattle.layout.specs.Answer.{Res, ok, refuse}
+use Rattle.layout.specs.Res.{Res, ok, refuse}
 use Rattle.layout.specs.Place.{splice}
 use Rattle.layout.specs.Row.{Row}
 use Rattle.layout.specs.RowRead.{keyLength}
@@ -17,7 +17,7 @@ use Rattle.layout.specs.Trailer.{Trailer}
 use Rattle.layout.specs.Builder.{Builder, stateTests, presentSize, build, blockAfter}
 use Rattle.layout.specs.Cursor.{Cursor, marked, Keyed, found, done, stepIs}
 use Rattle.demands.specs.Runs.{Lending, lending, Call, offer, would-fit, is-empty, finish, lend-on, addTo, buildOf, after, taken, accepted, run, rowsOf, BeginAlike, TypedCall, TypedCalls, Ran, Finishes, Walks, stands, gives, EndsDone, RoomFor, backwards, WalksAll, stepsGive, GivesFirst}
-use Rattle.layout.specs.Laws.Answer.{bind-then, guard-then, ltb-cases}
+use Rattle.layout.specs.Laws.Res.{bind-then, guard-then, ltb-cases}
 use Rattle.layout.specs.Laws.Splice.{length-splice, take-splice}
 use Rattle.layout.specs.Laws.Trailer.{length-trailer}
 use Rattle.demands.specs.Laws.Ascend.{Before, before-gives, before-done, marked-stays}
@@ -55,7 +55,7 @@ made-finish : (n : ℕ) (rs : List Row) (b : Builder) (bytes places : List ℕ) 
 unfolding build
 made-finish n rs b bytes places k m e =
     bind-then (stateTests b (length bytes) (length places)) _ k e λ u s e₁.
-    guard-then (eqb (b .rows) 0) 7 _ k e₁ λ t₁ e₂.
+    guard-then (eqb (b .counter) 0) 7 _ k e₁ λ t₁ e₂.
     guard-then (ltb (length bytes) (presentSize b)) 6 _ k e₂ λ t₂ e₃.
     let long : length (trailer (take (b .restarts) places)) ≡ 2 * b .restarts + 2 =
     ap (λ (x : List ℕ). length (trailer x)) (m .places-are) ∙ length-trailer (offsets n rs) ∙ omega (arith, m .restarts-are) in
@@ -102,8 +102,8 @@ pub finishes-some : (n : ℕ) (rows : List Row) (h : Lending) (block : List ℕ)
 unfolding build
 finishes-some n rows h block m f =
     bind-then (stateTests (h .builder) (length (h .bytes)) (length (h .places))) _ (f .n) (f .answers) λ u s e₁.
-    guard-then (eqb (h .builder .rows) 0) 7 _ (f .n) e₁ λ t e₂.
-    let ne = eqb-false (h .builder .rows) 0 t in
+    guard-then (eqb (h .builder .counter) 0) 7 _ (f .n) e₁ λ t e₂.
+    let ne = eqb-false (h .builder .counter) 0 t in
     omega (arith, ne, m .rows-are)
 
 -- after an accepted row, build answers the block of the accepted rows

@@ -5,7 +5,7 @@ use mathlib.Core.List.{List, []}
 use lib.Dec.{ltb, leb, eqb}
 use lib.ListN.{length, take, set}
 use Rattle.layout.specs.Bytes.{Bytes}
-use Rattle.layout.specs.Answer.{Res, ok, refuse, bind, _when_else_}
+use Rattle.layout.specs.Res.{Res, ok, refuse, bind, _when_else_}
 use Rattle.layout.specs.Limits.{maxKey, maxBlock, maxInterval, maxOffset, maxRestarts, leastRow}
 use Rattle.layout.specs.Place.{splice}
 use Rattle.layout.specs.Key.{Key}
@@ -13,21 +13,21 @@ use Rattle.layout.specs.Row.{Fields, valueOf, ifSo, lengthTests}
 use Rattle.layout.specs.Block.{isRestart, laidRow, trailer}
 
 pub record Builder : Type 0 where
-  pub size : ℕ
-  pub interval : ℕ
+  pub blockSize : ℕ
+  pub restartInterval : ℕ
   pub used : ℕ
   pub restarts : ℕ
-  pub rows : ℕ
-  pub lastLen : ℕ
-  pub last : Key
+  pub counter : ℕ
+  pub lastKeyLen : ℕ
+  pub lastKey : Key
 
 -- a builder as it is kept, its last key at the start of an array: the bytes past the key's length tell nothing, and are cut off here
 abbrev pub keptBuilder : ℕ → ℕ → ℕ → ℕ → ℕ → ℕ → Bytes → Builder
 keptBuilder size interval used restarts rows lastLen array =
-    record { size = size; interval = interval; used = used; restarts = restarts; rows = rows; lastLen = lastLen; last = take lastLen array }
+    record { blockSize = size; restartInterval = interval; used = used; restarts = restarts; counter = rows; lastKeyLen = lastLen; lastKey = take lastLen array }
 
 abbrev pub fresh : ℕ → ℕ → Builder
-fresh size interval = record { size = size; interval = interval; used = 0; restarts = 0; rows = 0; lastLen = 0; last = [] }
+fresh size interval = record { blockSize = size; restartInterval = interval; used = 0; restarts = 0; counter = 0; lastKeyLen = 0; lastKey = [] }
 
 -- block size or interval outside its limits: 8
 unfoldable pub newBuilder : ℕ → ℕ → Res Builder
@@ -42,8 +42,8 @@ abbrev pub built : Res Builder → Builder
 built (ok b) = b
 built (refuse n) = fresh 0 1
 
-unfoldable pub isEmpty : Builder → Bool
-isEmpty b = eqb (b .rows) 0
+unfoldable pub hasNoRows : Builder → Bool
+hasNoRows b = eqb (b .counter) 0
 
 -- ---- state 18, over a data buffer and a restart buffer of these lengths
 
@@ -53,25 +53,25 @@ restartsOf rows interval = (rows + (interval - 1)) / interval
 
 unfoldable pub stateTests : Builder → ℕ → ℕ → Res (Unit {0})
 stateTests b dataLen placesLen =
-    18 when ltb maxBlock (b .size) else
-    18 when eqb (b .interval) 0 else
-    18 when ltb maxInterval (b .interval) else
+    18 when ltb maxBlock (b .blockSize) else
+    18 when eqb (b .restartInterval) 0 else
+    18 when ltb maxInterval (b .restartInterval) else
     18 when ltb dataLen (b .used) else
     18 when ltb placesLen (b .restarts) else
     18 when ltb maxRestarts (b .restarts) else
-    18 when not (eqb (b .restarts) (restartsOf (b .rows) (b .interval))) else
-    18 when ltb (b .used) (leastRow * b .rows) else
-    18 when eqb (b .rows) 0 && ltb 0 (b .used) else
-    18 when ltb maxKey (b .lastLen) else
+    18 when not (eqb (b .restarts) (restartsOf (b .counter) (b .restartInterval))) else
+    18 when ltb (b .used) (leastRow * b .counter) else
+    18 when eqb (b .counter) 0 && ltb 0 (b .used) else
+    18 when ltb maxKey (b .lastKeyLen) else
     ok tt
 
 -- ---- the fit question: 18, 1, 2, 3, 4
 
 abbrev pub atRestart : Builder → Bool
-atRestart b = isRestart (b .interval) (b .rows)
+atRestart b = isRestart (b .restartInterval) (b .counter)
 
 abbrev pub nextRow : Builder → Key → Fields → Bytes
-nextRow b key f = laidRow (atRestart b) (b .last) key f
+nextRow b key f = laidRow (atRestart b) (b .lastKey) key f
 
 abbrev pub presentSize : Builder → ℕ
 presentSize b = b .used + 2 * b .restarts + 2
@@ -82,7 +82,7 @@ grownSize b key f = presentSize b + length (nextRow b key f) + ifSo (atRestart b
 
 -- an empty builder accepts a first row of any allowed size
 unfoldable pub fits : Builder → Key → Fields → Bool
-fits b key f = eqb (b .rows) 0 || leb (grownSize b key f) (b .size)
+fits b key f = eqb (b .counter) 0 || leb (grownSize b key f) (b .blockSize)
 
 unfoldable pub wouldFit : Builder → ℕ → ℕ → Key → Fields → Res (Unit {0})
 wouldFit b dataLen placesLen key f =
@@ -96,13 +96,13 @@ wouldFit b dataLen placesLen key f =
 abbrev pub grown : Builder → Key → Fields → Builder
 grown b key f =
     record {
-      size = b .size;
-      interval = b .interval;
+      blockSize = b .blockSize;
+      restartInterval = b .restartInterval;
       used = b .used + length (nextRow b key f);
       restarts = b .restarts + ifSo (atRestart b) 1;
-      rows = b .rows + 1;
-      lastLen = length key;
-      last = key;
+      counter = b .counter + 1;
+      lastKeyLen = length key;
+      lastKey = key;
     }
 
 unfoldable pub add : Builder → ℕ → ℕ → Key → Fields → Res Builder
@@ -131,7 +131,7 @@ placesAfter (refuse n) b places = places
 unfoldable pub build : Builder → ℕ → ℕ → Res ℕ
 build b dataLen placesLen =
     bind (stateTests b dataLen placesLen) λ _.
-    7 when eqb (b .rows) 0 else
+    7 when eqb (b .counter) 0 else
     6 when ltb dataLen (presentSize b) else
     ok (presentSize b)
 

@@ -6,7 +6,7 @@ use mathlib.Core.List.{List, [], _∷_, _++_}
 use lib.Count.{leadingZeros}
 use lib.Dec.{eqb}
 use lib.ListN.{length, take, replicate}
-use Rattle.layout.specs.Answer.{Res, ok, refuse, bind}
+use Rattle.layout.specs.Res.{Res, ok, refuse, bind}
 use Rattle.layout.specs.Limits.{maxKey}
 use Rattle.layout.specs.Varint.{varint, varintIn, varintLength, Num, num, readVarint, readVarintIn}
 use Rattle.layout.specs.Fixed.{big, unbig, bits, unbits}
@@ -99,7 +99,7 @@ landed d b target =
     bind (trailerOf b) λ t.
     bind (seek d b target) λ s.
     bind (next (s .cursor) b maxKey) λ a.
-    landedBy (rowStarts 9 (opened ascending t) b) (s .reads) (s .cursor .mark) (a .answer)
+    landedBy (rowStarts 9 (opened ascending t) b) (s .reads) (s .cursor .done) (a .answer)
 
 -- ---- the cases
 

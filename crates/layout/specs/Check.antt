@@ -4,7 +4,7 @@ use mathlib.Core.Bool.{cond, not}
 use lib.Dec.{ltb}
 use lib.ListN.{length}
 use Rattle.layout.specs.Bytes.{Bytes}
-use Rattle.layout.specs.Answer.{Res, ok, bind, _when_else_}
+use Rattle.layout.specs.Res.{Res, ok, bind, _when_else_}
 use Rattle.layout.specs.Key.{Key, Rank, rankIs, noRank, mayFollow}
 use Rattle.layout.specs.RowRead.{RowRead, keyOf}
 use Rattle.layout.specs.Trailer.{Trailer, trailerOf, dataOf, Region, regionOf, allOffsets, rowIn}

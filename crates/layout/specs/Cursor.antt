@@ -5,7 +5,7 @@ use mathlib.Core.List.{[]}
 use lib.Dec.{ltb, leb, eqb}
 use lib.ListN.{length, take}
 use Rattle.layout.specs.Bytes.{Bytes}
-use Rattle.layout.specs.Answer.{Res, ok, refuse, bind, _when_else_}
+use Rattle.layout.specs.Res.{Res, ok, refuse, bind, _when_else_}
 use Rattle.layout.specs.Limits.{maxKey}
 use Rattle.layout.specs.Place.{splice}
 use Rattle.layout.specs.Key.{Key}
@@ -16,22 +16,22 @@ pub data Direction : Type 0 where
   ascending descending : Direction
 
 pub record Cursor : Type 0 where
-  pub direction : Direction
+  pub order : Direction
   pub region : ℕ
   pub at : ℕ
   pub keyLen : ℕ
   pub key : Key
-  pub mark : Bool
+  pub done : Bool
 
 -- a cursor as it is kept, its key at the start of an array: the bytes past the key's length tell nothing, and are cut off here
 abbrev pub keptCursor : Direction → ℕ → ℕ → ℕ → Bytes → Bool → Cursor
-keptCursor d region at keyLen array mark = record { direction = d; region = region; at = at; keyLen = keyLen; key = take keyLen array; mark = mark }
+keptCursor d region at keyLen array mark = record { order = d; region = region; at = at; keyLen = keyLen; key = take keyLen array; done = mark }
 
 abbrev pub cursorIs : Direction → ℕ → ℕ → Key → Bool → Cursor
-cursorIs d region at key mark = record { direction = d; region = region; at = at; keyLen = length key; key = key; mark = mark }
+cursorIs d region at key mark = record { order = d; region = region; at = at; keyLen = length key; key = key; done = mark }
 
 abbrev pub marked : Cursor → Cursor
-marked c = record { direction = c .direction; region = c .region; at = c .at; keyLen = c .keyLen; key = c .key; mark = true }
+marked c = record { order = c .order; region = c .region; at = c .at; keyLen = c .keyLen; key = c .key; done = true }
 
 -- ---- opening tests 14 and all of 15
 
@@ -101,7 +101,7 @@ rowEndingAt (suc left) d g stop at before =
 
 -- back past a row: the key is neither used nor changed
 abbrev pub backPast : Cursor → ℕ → RowRead → Cursor
-backPast c region r = record { direction = c .direction; region = region; at = r .start; keyLen = c .keyLen; key = c .key; mark = c .mark }
+backPast c region r = record { order = c .order; region = region; at = r .start; keyLen = c .keyLen; key = c .key; done = c .done }
 
 unfoldable pub stepBackIn : Cursor → Bytes → Trailer → ℕ → ℕ → Region → Res Step
 stepBackIn c b t room region g =
@@ -129,8 +129,8 @@ next c b room =
     bind (trailerOf b) λ t.
     18 when leb (t .count) (c .region) else
     18 when ltb maxKey (c .keyLen) else
-    cond (c .mark) (ok (stepIs c done))
-    (stepAlong (c .direction) c b t room)
+    cond (c .done) (ok (stepIs c done))
+    (stepAlong (c .order) c b t room)
 
 -- what a step gives back, and the lent key buffer after it: its other bytes stay
 abbrev pub cursorAfter : Res Step → Cursor → Cursor
@@ -148,8 +148,8 @@ keyAfter (refuse n) out = out
 -- ---- `is_empty`: 14 only
 
 abbrev pub exhausted : Direction → Cursor → Trailer → Bool
-exhausted ascending c t = c .mark || leb (t .size) (c .at)
-exhausted descending c t = c .mark
+exhausted ascending c t = c .done || leb (t .size) (c .at)
+exhausted descending c t = c .done
 
 unfoldable pub isEmpty : Cursor → Bytes → Res Bool
-isEmpty c b = bind (trailerOf b) λ t. ok (exhausted (c .direction) c t)
+isEmpty c b = bind (trailerOf b) λ t. ok (exhausted (c .order) c t)

@@ -1,4 +1,4 @@
-pub mod Answer
+pub mod Res
 pub mod Varint
 pub mod Fixed
 pub mod Place

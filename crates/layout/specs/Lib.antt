@@ -1,5 +1,5 @@
 pub mod Bytes
-pub mod Answer
+pub mod Res
 pub mod Limits
 pub mod Varint
 pub mod Fixed

@@ -6,7 +6,7 @@ use lib.Dec.{ltb}
 use lib.IntN.{ℤ}
 use lib.ListN.{length, take, drop}
 use Rattle.layout.specs.Bytes.{Bytes}
-use Rattle.layout.specs.Answer.{Res, ok, bind, _when_else_}
+use Rattle.layout.specs.Res.{Res, ok, bind, _when_else_}
 use Rattle.layout.specs.Varint.{readVarint, Num}
 use Rattle.layout.specs.Fixed.{unbig, unbits}
 

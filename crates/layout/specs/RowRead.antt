@@ -5,7 +5,7 @@ use mathlib.Core.List.{[], _++_}
 use lib.Dec.{ltb, eqb}
 use lib.ListN.{length, take, drop, getD}
 use Rattle.layout.specs.Bytes.{Bytes}
-use Rattle.layout.specs.Answer.{Res, ok, bind, _when_else_}
+use Rattle.layout.specs.Res.{Res, ok, bind, _when_else_}
 use Rattle.layout.specs.Limits.{maxValue}
 use Rattle.layout.specs.Place.{varintAt, fixedAt, signedAt}
 use Rattle.layout.specs.Key.{Key}

@@ -5,7 +5,7 @@ use mathlib.Core.List.{[]}
 use lib.Dec.{ltb}
 use lib.ListN.{length}
 use Rattle.layout.specs.Bytes.{Bytes}
-use Rattle.layout.specs.Answer.{Res, ok, refuse, bind}
+use Rattle.layout.specs.Res.{Res, ok, refuse, bind}
 use Rattle.layout.specs.Key.{Key, below, same}
 use Rattle.layout.specs.RowRead.{readKey, keyOf, joined}
 use Rattle.layout.specs.Trailer.{Trailer, trailerOf, dataOf, Region, regionOf, rowIn}

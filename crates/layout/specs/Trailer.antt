@@ -4,7 +4,7 @@ use mathlib.Core.Bool.{cond}
 use lib.Dec.{ltb, leb, eqb}
 use lib.ListN.{length, take, drop}
 use Rattle.layout.specs.Bytes.{Bytes}
-use Rattle.layout.specs.Answer.{Res, ok, _when_else_}
+use Rattle.layout.specs.Res.{Res, ok, _when_else_}
 use Rattle.layout.specs.Fixed.{unbig}
 use Rattle.layout.specs.RowRead.{RowRead, readRow}
 

@@ -5,7 +5,7 @@ use mathlib.Core.List.{[], _∷_}
 use lib.Count.{leadingZeros}
 use lib.Dec.{ltb, eqb}
 use Rattle.layout.specs.Bytes.{Bytes}
-use Rattle.layout.specs.Answer.{Res, ok, refuse, bind}
+use Rattle.layout.specs.Res.{Res, ok, refuse, bind}
 
 -- ---- the writer uses the fewest bytes; `room` more may follow the first
 

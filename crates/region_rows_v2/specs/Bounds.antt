@@ -6,11 +6,11 @@ use mathlib.Core.List.{List}
 use native.Mathlib.Omega.{arith}
 use lib.Dec.{ltb, leb}
 use borrow.Author.Tests.{lt-ltb, le-ltb, le-leb, lt-leb, ltb-false, leb-false}
-use Rattle.layout.specs.Answer.{Res, ok, refuse, bind, guard}
+use Rattle.layout.specs.Res.{Res, ok, refuse, bind, guard}
 use Rattle.layout.specs.Limits.{maxKey}
 use Rattle.layout.specs.Trailer.{Trailer, trailerIs, trailerOf, Region, regionIs, regionOf}
 use Rattle.layout.specs.Cursor.{Direction, ascending, descending, Cursor}
-use Rattle.layout.specs.Laws.Answer.{bind-then, guard-then, ok-inj}
+use Rattle.layout.specs.Laws.Res.{bind-then, guard-then, ok-inj}
 use Rattle.trailer.specs.Says.{regionFrom}
 use Rattle.region_rows_v2.specs.declared.Bounds.{Bounds}
 
@@ -30,7 +30,7 @@ stretchFrom b = stretchIs (b .size) (regionFrom (b .region))
 -- the numbers of the refusals do not matter: a step answers
 unfoldable pub goesOn : Cursor → List ℕ → Res Stretch
 goesOn c b =
-    guard (c .mark) 18
+    guard (c .done) 18
     (bind (trailerOf b) λ t.
     guard (leb (t .count) (c .region)) 18
     (guard (ltb maxKey (c .keyLen)) 18
@@ -47,20 +47,20 @@ orNone (ok s) = s
 orNone (refuse n) = noStretch
 
 abbrev pub stretchOf : Cursor → List ℕ → Stretch
-stretchOf c b = orNone (goesAlong (c .direction) c b)
+stretchOf c b = orNone (goesAlong (c .order) c b)
 
 -- ---- each way through the tests; answer on the left
 
 module _ (c : Cursor) (b : List ℕ) where
-  pub none-down : c .direction ≡ descending → noStretch ≡ stretchOf c b
+  pub none-down : c .order ≡ descending → noStretch ≡ stretchOf c b
   none-down e = rw e
 
-  module _ (up : c .direction ≡ ascending) where
-    pub none-marked : c .mark ≡ true → noStretch ≡ stretchOf c b
+  module _ (up : c .order ≡ ascending) where
+    pub none-marked : c .done ≡ true → noStretch ≡ stretchOf c b
     unfolding goesOn
     none-marked m = rw (up, m)
 
-    module _ (m : c .mark ≡ false) where
+    module _ (m : c .done ≡ false) where
       pub none-trailer : {n : ℕ} → trailerOf b ≡ refuse n → noStretch ≡ stretchOf c b
       unfolding goesOn
       none-trailer e = rw (up, m, e)
@@ -94,8 +94,8 @@ module _ (c : Cursor) (b : List ℕ) where
 -- a cursor that goes on in the region g of a block with `size` bytes of rows
 pub record Inside (b : List ℕ) (size : ℕ) (g : Region) (c : Cursor) : Type 0 where
   pub count : ℕ
-  pub heads : c .direction ≡ ascending
-  pub unmarked : c .mark ≡ false
+  pub heads : c .order ≡ ascending
+  pub unmarked : c .done ≡ false
   pub read : trailerOf b ≡ ok (trailerIs count size)
   pub counted : c .region < count
   pub few : c .keyLen ≤ maxKey
@@ -104,11 +104,11 @@ pub record Inside (b : List ℕ) (size : ℕ) (g : Region) (c : Cursor) : Type 0
 
 pub stretch-inside : (c : Cursor) (b : List ℕ) {s : Stretch} → s ≡ stretchOf c b → (s .region .end ≡ 0 → ⊥) → Inside b (s .size) (s .region) c
 unfolding goesOn
-stretch-inside c b {s} e z = along (c .direction) refl (goesAlong (c .direction) c b) refl e
+stretch-inside c b {s} e z = along (c .order) refl (goesAlong (c .order) c b) refl e
   where
-    up : c .direction ≡ ascending → goesOn c b ≡ ok s → Inside b (s .size) (s .region) c
+    up : c .order ≡ ascending → goesOn c b ≡ ok s → Inside b (s .size) (s .region) c
     up d q =
-        guard-then (c .mark) 18 _ s q λ m q.
+        guard-then (c .done) 18 _ s q λ m q.
         bind-then (trailerOf b) _ s q λ t e₁ q.
         guard-then (leb (t .count) (c .region)) 18 _ s q λ h q.
         guard-then (ltb maxKey (c .keyLen)) 18 _ s q λ k q.
@@ -117,7 +117,7 @@ stretch-inside c b {s} e z = along (c .direction) refl (goesAlong (c .direction)
         rw (← ok-inj q)
         (record { count = t .count; heads = d; unmarked = m; read = e₁; counted = leb-false (t .count) (c .region) h; few = ltb-false maxKey (c .keyLen) k; bounds = e₂; from = ltb-false (c .at) (g .start) w })
 
-    along : (d : Direction) → c .direction ≡ d → (x : Res Stretch) → goesAlong d c b ≡ x → s ≡ orNone x → Inside b (s .size) (s .region) c
+    along : (d : Direction) → c .order ≡ d → (x : Res Stretch) → goesAlong d c b ≡ x → s ≡ orNone x → Inside b (s .size) (s .region) c
     along ascending d (ok y) q i = up d (q ∙ ap ok (sym i))
     along descending d (ok y) q i = absurd (let w : _≡_ {A = ℕ} 0 1 = cc in omega arith)
     along d e (refuse n) q i = absurd (z (ap (λ (x : Stretch). x .region .end) i))

@@ -1,8 +1,8 @@
 // The report on one block, from a zero tally.
 use basics::Refusal;
+use basics::Verdict;
 use libc::STDOUT_FILENO;
 use tally::Tally;
-use tally::TallyAnswer;
 
 const MOST_BLOCK: usize = 65536;
 
@@ -39,7 +39,7 @@ pub fn report(block: &[u8]) {
     let r = tally::tallied_block(zero, block);
     let answer = r.answer;
     match answer {
-        TallyAnswer::Good => counts(r.tally),
-        TallyAnswer::Refused(refusal) => refused(refusal),
+        Verdict::Good => counts(r.tally),
+        Verdict::Refused(refusal) => refused(refusal),
     }
 }

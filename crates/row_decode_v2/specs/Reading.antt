@@ -1,12 +1,12 @@
 -- What the answers of the parts of a read say, and the refusal that each hands on: where an answer is none, it does not matter which.
 use Prim.Native.Nat.{ℕ}
-use Rattle.layout.specs.Answer.{Res, ok, refuse}
+use Rattle.layout.specs.Res.{Res, ok, refuse}
 use Rattle.layout.specs.RowRead.{Lengths, lengthsIs, Held, heldAs, Body as BodyL, bodyIs}
 use Rattle.basics.specs.Number.{number}
 use Rattle.basics.specs.Says.{saysKind, saysHeld}
 use Rattle.basics.specs.declared.Kind.{Kind}
 use Rattle.basics.specs.declared.Refusal.{Refusal}
-use Rattle.basics.specs.declared.Refusal.the-variants.{InputEnds}
+use Rattle.basics.specs.declared.Refusal.the-variants.{BadState}
 use Rattle.utils.specs.declared.VarintRead.{VarintRead}
 use Rattle.utils.specs.declared.VarintRead.the-variants.{Number as VarintNumber, Refused as VarintRefused}
 use Rattle.row_flags.specs.Says.{flagsFrom}
@@ -20,7 +20,7 @@ use Rattle.row_decode_v2.specs.declared.BodyRead.{BodyRead}
 use Rattle.row_decode_v2.specs.declared.BodyRead.the-variants.{Read as ReadBody, Refused as BodyRefused}
 
 abbrev pub refusalOfVarint : VarintRead → Refusal
-refusalOfVarint (VarintNumber v n) = InputEnds
+refusalOfVarint (VarintNumber v n) = BadState
 refusalOfVarint (VarintRefused r) = r
 
 -- ---- the lengths, and the key's
@@ -30,7 +30,7 @@ saysLengths (ReadLengths s u v n) = ok (lengthsIs s u v n)
 saysLengths (LengthsRefused r) = refuse (number r)
 
 abbrev pub refusalOfLengths : LengthsRead → Refusal
-refusalOfLengths (ReadLengths s u v n) = InputEnds
+refusalOfLengths (ReadLengths s u v n) = BadState
 refusalOfLengths (LengthsRefused r) = r
 
 abbrev pub lengthsFrom : Head → Lengths
@@ -41,7 +41,7 @@ saysHead (ReadHead h) = ok (lengthsFrom h)
 saysHead (HeadRefused r) = refuse (number r)
 
 abbrev pub refusalOfHead : HeadRead → Refusal
-refusalOfHead (ReadHead h) = InputEnds
+refusalOfHead (ReadHead h) = BadState
 refusalOfHead (HeadRefused r) = r
 
 -- ---- value, seq and flags
@@ -57,5 +57,5 @@ saysBody (ReadBody b) = ok (bodyFrom b)
 saysBody (BodyRefused r) = refuse (number r)
 
 abbrev pub refusalOfBody : BodyRead → Refusal
-refusalOfBody (ReadBody b) = InputEnds
+refusalOfBody (ReadBody b) = BadState
 refusalOfBody (BodyRefused r) = r

@@ -1,13 +1,13 @@
 -- What each case of a read's answer says: places and values, or the number of the refusal. No two cases say the same.
 use mathlib.Core.Path.{_≡_, ap, sym, _∙_}
-use Rattle.layout.specs.Answer.{Res, ok, refuse}
+use Rattle.layout.specs.Res.{Res, ok, refuse}
 use Rattle.layout.specs.RowRead.{RowRead as RowReadL, KeyRead as KeyReadL}
-use Rattle.layout.specs.Laws.Answer.{ok-inj}
+use Rattle.layout.specs.Laws.Res.{ok-inj}
 use Rattle.basics.specs.Answers.{apart, refused-one}
 use Rattle.basics.specs.Number.{number}
 use Rattle.basics.specs.Says.{saysTime, saysHeld, saysHeld-one, saysTime-one}
 use Rattle.basics.specs.declared.Refusal.{Refusal}
-use Rattle.basics.specs.declared.Refusal.the-variants.{InputEnds}
+use Rattle.basics.specs.declared.Refusal.the-variants.{BadState}
 use Rattle.basics.specs.declared.Time.{Time}
 use Rattle.basics.specs.declared.ValueDeletable.{ValueDeletable}
 use Rattle.row_decode_v2.specs.declared.Row.{Row}
@@ -44,7 +44,7 @@ saysKey (KeyRefused r) = refuse (number r)
 
 -- what is taken out of an answer; the other case is never asked
 abbrev pub refusalOfRow : RowRead → Refusal
-refusalOfRow (ReadRow r) = InputEnds
+refusalOfRow (ReadRow r) = BadState
 refusalOfRow (RowRefused r) = r
 
 -- ---- one to one

@@ -303,7 +303,7 @@ pub fn row_refusal(a: RowRead) -> Refusal
 {
     match a {
         RowRead::Refused(refusal) => refusal,
-        RowRead::Read(_) => Refusal::InputEnds,
+        RowRead::Read(_) => Refusal::BadState,
     }
 }
 
@@ -312,7 +312,7 @@ fn varint_refusal(a: VarintRead) -> Refusal
 {
     match a {
         VarintRead::Refused(refusal) => refusal,
-        VarintRead::Number { value: _, next: _ } => Refusal::InputEnds,
+        VarintRead::Number { value: _, next: _ } => Refusal::BadState,
     }
 }
 
@@ -326,7 +326,7 @@ fn lengths_refusal(a: LengthsRead) -> Refusal
             unshared: _,
             value_len: _,
             suffix_at: _,
-        } => Refusal::InputEnds,
+        } => Refusal::BadState,
     }
 }
 
@@ -335,7 +335,7 @@ fn head_refusal(a: HeadRead) -> Refusal
 {
     match a {
         HeadRead::Refused(refusal) => refusal,
-        HeadRead::Read(_) => Refusal::InputEnds,
+        HeadRead::Read(_) => Refusal::BadState,
     }
 }
 
@@ -344,6 +344,6 @@ fn body_refusal(a: BodyRead) -> Refusal
 {
     match a {
         BodyRead::Refused(refusal) => refusal,
-        BodyRead::Read(_) => Refusal::InputEnds,
+        BodyRead::Read(_) => Refusal::BadState,
     }
 }

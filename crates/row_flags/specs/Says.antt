@@ -2,15 +2,15 @@
 use mathlib.Core.Path.{_≡_, ap, sym, _∙_}
 use mathlib.Core.List.{List}
 use Prim.Native.Nat.{ℕ}
-use Rattle.layout.specs.Answer.{Res, ok, refuse}
+use Rattle.layout.specs.Res.{Res, ok, refuse}
 use Rattle.layout.specs.Row.{Fields}
 use Rattle.layout.specs.RowRead.{Flags, flagsIs, Times as TimesL, timesIs}
-use Rattle.layout.specs.Laws.Answer.{ok-inj}
+use Rattle.layout.specs.Laws.Res.{ok-inj}
 use Rattle.basics.specs.Answers.{apart, refused-one}
 use Rattle.basics.specs.Number.{number}
 use Rattle.basics.specs.Says.{saysKind, saysTime, saysKind-one, saysTime-one}
 use Rattle.basics.specs.declared.Refusal.{Refusal}
-use Rattle.basics.specs.declared.Refusal.the-variants.{InputEnds}
+use Rattle.basics.specs.declared.Refusal.the-variants.{BadState}
 use Rattle.row_flags.specs.declared.RowFields.{RowFields}
 use Rattle.row_flags.specs.declared.RowFlags.{RowFlags}
 use Rattle.row_flags.specs.declared.FlagsRead.{FlagsRead}
@@ -40,11 +40,11 @@ saysTimes (TimesRefused r) = refuse (number r)
 -- ---- what is taken out of an answer; the other case is never asked
 
 abbrev pub refusalOfFlags : FlagsRead → Refusal
-refusalOfFlags (ReadFlags f) = InputEnds
+refusalOfFlags (ReadFlags f) = BadState
 refusalOfFlags (FlagsRefused r) = r
 
 abbrev pub refusalOfTimes : TimesRead → Refusal
-refusalOfTimes (ReadTimes t) = InputEnds
+refusalOfTimes (ReadTimes t) = BadState
 refusalOfTimes (TimesRefused r) = r
 
 -- ---- one to one

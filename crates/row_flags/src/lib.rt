@@ -209,7 +209,7 @@ pub fn flags_refusal(a: FlagsRead) -> Refusal
 {
     match a {
         FlagsRead::Refused(refusal) => refusal,
-        FlagsRead::Read(_) => Refusal::InputEnds,
+        FlagsRead::Read(_) => Refusal::BadState,
     }
 }
 
@@ -218,7 +218,7 @@ fn time_refusal(a: TimeRead) -> Refusal
 {
     match a {
         TimeRead::Refused(refusal) => refusal,
-        TimeRead::Read { time: _, next: _ } => Refusal::InputEnds,
+        TimeRead::Read { time: _, next: _ } => Refusal::BadState,
     }
 }
 
@@ -227,6 +227,6 @@ pub fn times_refusal(a: TimesRead) -> Refusal
 {
     match a {
         TimesRead::Refused(refusal) => refusal,
-        TimesRead::Read(_) => Refusal::InputEnds,
+        TimesRead::Read(_) => Refusal::BadState,
     }
 }

@@ -7,7 +7,7 @@ use mathlib.Core.List.{List, _++_}
 use native.Mathlib.Nat.{zero-add}
 use native.Mathlib.Omega.{arith}
 use lib.ListN.{length, length-append}
-use Rattle.layout.specs.Answer.{Res, ok, refuse, bind}
+use Rattle.layout.specs.Res.{Res, ok, refuse, bind}
 use Rattle.layout.specs.Limits.{maxKey, maxValue}
 use Rattle.layout.specs.Row.{Kind, keptLength, ifSo, keyLengthTests, sizeAlone}
 use Rattle.layout.specs.Varint.{varintLength}

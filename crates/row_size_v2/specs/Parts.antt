@@ -1,6 +1,6 @@
 -- What the private function `key_len` answers: the length of a key that passed its tests.
 use Prim.Native.Nat.{ℕ}
-use Rattle.layout.specs.Answer.{Res, ok, bind}
+use Rattle.layout.specs.Res.{Res, ok, bind}
 use Rattle.layout.specs.Row.{keyLengthTests}
 
 abbrev pub keyLength : ℕ → Res ℕ

@@ -1,12 +1,12 @@
 -- What each case of an answer says: a count of bytes, or the number of the refusal. No two cases say the same.
 use Prim.Native.Nat.{ℕ}
 use mathlib.Core.Path.{_≡_, ap, sym}
-use Rattle.layout.specs.Answer.{Res, ok, refuse}
-use Rattle.layout.specs.Laws.Answer.{ok-inj}
+use Rattle.layout.specs.Res.{Res, ok, refuse}
+use Rattle.layout.specs.Laws.Res.{ok-inj}
 use Rattle.basics.specs.Answers.{apart, refused-one}
 use Rattle.basics.specs.Number.{number}
 use Rattle.basics.specs.declared.Refusal.{Refusal}
-use Rattle.basics.specs.declared.Refusal.the-variants.{EmptyKey}
+use Rattle.basics.specs.declared.Refusal.the-variants.{BadState}
 use Rattle.row_size_v2.specs.declared.Sized.{Sized}
 use Rattle.row_size_v2.specs.declared.Sized.the-variants.{Bytes as SizedBytes, Refused as SizedRefused}
 use Rattle.row_size_v2.specs.declared.Restored.{Restored}
@@ -23,7 +23,7 @@ saysRestored (RestoredRefused r) = refuse (number r)
 -- ---- what is taken out of an answer; the other case is never asked
 
 abbrev pub sizedRefusal : Sized → Refusal
-sizedRefusal (SizedBytes n) = EmptyKey
+sizedRefusal (SizedBytes n) = BadState
 sizedRefusal (SizedRefused r) = r
 
 -- ---- one to one

@@ -24,7 +24,7 @@ pub fn size_refusal(size: Sized) -> Refusal
 {
     match size {
         Sized::Refused(refusal) => refusal,
-        Sized::Bytes(_) => Refusal::EmptyKey,
+        Sized::Bytes(_) => Refusal::BadState,
     }
 }
 

@@ -5,13 +5,13 @@ use mathlib.Core.Path.{_≡_, ap, sym, _∙_}
 use mathlib.Core.List.{List}
 use native.Mathlib.Omega.{arith}
 use lib.ListN.{length, take, drop}
-use Rattle.layout.specs.Answer.{ok}
+use Rattle.layout.specs.Res.{ok}
 use Rattle.layout.specs.Fixed.{unbig}
 use Rattle.layout.specs.Place.{NumAt, numAt, fixedAt}
 use Rattle.layout.specs.Plain.{Plain, plainAt}
 use Rattle.layout.specs.Row.{Absent}
 use Rattle.layout.specs.RowRead.{RowRead, readRow, mayShare, holds}
-use Rattle.layout.specs.Laws.Answer.{ok-inj}
+use Rattle.layout.specs.Laws.Res.{ok-inj}
 use Rattle.layout.specs.Laws.Plain.{PlainTells, plainAt-tells, plain-seq, plain-read}
 
 -- a plain row with this seq

@@ -3,7 +3,7 @@ use Prim.Native.Nat.{ℕ}
 use mathlib.Core.Path.{_≡_, refl, ap, sym, _∙_}
 use mathlib.Core.Bool.{Bool}
 use mathlib.Core.List.{List}
-use Rattle.layout.specs.Answer.{Res, ok, refuse}
+use Rattle.layout.specs.Res.{Res, ok, refuse}
 use Rattle.layout.specs.Plain.{RowSpan, spanOf}
 use Rattle.layout.specs.RowRead.{RowRead, readRow}
 use Rattle.layout.specs.Laws.Plain.{span-row, span-no}

@@ -8,7 +8,7 @@ use mathlib.Core.List.{List, [], _∷_}
 use lib.IntN.{ℤ}
 use lib.ListN.{length, set}
 use borrow.Author.Tests.{ne-eqb}
-use Rattle.layout.specs.Answer.{ok, refuse}
+use Rattle.layout.specs.Res.{ok, refuse}
 use Rattle.layout.specs.Fixed.{bits, unbits}
 use Rattle.layout.specs.Row.{Kind as KindL, value, tombstone, Time as TimeL, Absent as absent, At as at-time}
 use Rattle.basics.specs.Says.{saysKind, saysTime, saysHeld}

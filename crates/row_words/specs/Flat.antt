@@ -2,7 +2,7 @@
 use Prim.Native.Nat.{ℕ}
 use mathlib.Core.Path.{_≡_, refl, sym, _∙_}
 use mathlib.Core.List.{List}
-use Rattle.layout.specs.Answer.{Res, ok, refuse}
+use Rattle.layout.specs.Res.{Res, ok, refuse}
 use Rattle.row_words.specs.Words.{codeOf, setBy}
 
 pub record Sets {A : Type 0} (want : Res A) (words : A → List ℕ) (ws : List ℕ) (code : ℕ) (ws′ : List ℕ) : Type 0 where

@@ -3,9 +3,9 @@ use Prim.Native.Nat.{ℕ}
 use mathlib.Core.Bool.{Bool}
 use mathlib.Core.List.{List}
 use mathlib.Core.Path.{_≡_, refl, ap, sym, _∙_}
-use Rattle.layout.specs.Answer.{Res, ok, refuse}
+use Rattle.layout.specs.Res.{Res, ok, refuse}
 use Rattle.layout.specs.Fixed.{bits}
-use Rattle.layout.specs.Laws.Answer.{ok-inj}
+use Rattle.layout.specs.Laws.Res.{ok-inj}
 use Rattle.layout.specs.Row.{Kind as KindL, Time as TimeL, Fields}
 use Rattle.basics.specs.Answers.{apart}
 use Rattle.basics.specs.Says.{saysKind, saysTime, saysKind-one, saysTime-one}

@@ -3,14 +3,14 @@ use Prim.Native.Nat.{ℕ}
 use mathlib.Core.Bool.{Bool, true, false, cond, not}
 use mathlib.Core.List.{List, [], _∷_}
 use lib.Dec.{eqb}
-use lib.ListN.{length, getD}
-use Rattle.layout.specs.Answer.{Res, ok, refuse, bind, guard}
+use lib.ListN.{length, getD, take}
+use Rattle.layout.specs.Res.{Res, ok, refuse, bind, guard}
 use Rattle.layout.specs.Key.{Key}
 use Rattle.layout.specs.Fixed.{bits, unbits}
 use Rattle.layout.specs.Row.{Kind, value, tombstone, merge, Time, Absent, At, Fields}
 use Rattle.layout.specs.RowRead.{RowRead, Held, holds, gone, merges}
-use Rattle.layout.specs.Builder.{Builder, keptBuilder}
-use Rattle.layout.specs.Cursor.{Direction, ascending, descending, Cursor, keptCursor}
+use Rattle.layout.specs.Builder.{Builder}
+use Rattle.layout.specs.Cursor.{Direction, ascending, descending, Cursor}
 
 -- ---- codes: 0, a refusal's number, and two of the interface's own
 
@@ -71,7 +71,8 @@ orderWord ascending = 0
 orderWord descending = 1
 
 abbrev pub cursorFrom : List ℕ → Key → Direction → Bool → Cursor
-cursorFrom ws key d m = keptCursor d (wordAt ws 1) (wordAt ws 2) (wordAt ws 3) key m
+cursorFrom ws key d m =
+    record { order = d; region = wordAt ws 1; at = wordAt ws 2; keyLen = wordAt ws 3; key = take (wordAt ws 3) key; done = m }
 
 unfoldable pub cursorIn : List ℕ → Key → Res Cursor
 cursorIn ws key =
@@ -81,18 +82,27 @@ cursorIn ws key =
     ok (cursorFrom ws key d m))
 
 abbrev pub cursorWords : Cursor → List ℕ
-cursorWords c = orderWord (c .direction) ∷ c .region ∷ c .at ∷ c .keyLen ∷ truthWord (c .mark) ∷ []
+cursorWords c = orderWord (c .order) ∷ c .region ∷ c .at ∷ c .keyLen ∷ truthWord (c .done) ∷ []
 
--- ---- a builder: settings, bytes and places in use, rows, length of the last key; the last key's bytes stand beside them
+-- ---- a builder: settings, bytes and places in use, its count of rows, length of the last key; the last key's bytes stand beside them
 
 abbrev pub builderFrom : List ℕ → Key → Builder
-builderFrom ws last = keptBuilder (wordAt ws 0) (wordAt ws 1) (wordAt ws 2) (wordAt ws 3) (wordAt ws 4) (wordAt ws 5) last
+builderFrom ws last =
+    record {
+      blockSize = wordAt ws 0;
+      restartInterval = wordAt ws 1;
+      used = wordAt ws 2;
+      restarts = wordAt ws 3;
+      counter = wordAt ws 4;
+      lastKeyLen = wordAt ws 5;
+      lastKey = take (wordAt ws 5) last;
+    }
 
 abbrev pub builderIn : List ℕ → Key → Res Builder
 builderIn ws last = counted ws builderCount (ok (builderFrom ws last))
 
 abbrev pub builderWords : Builder → List ℕ
-builderWords v = v .size ∷ v .interval ∷ v .used ∷ v .restarts ∷ v .rows ∷ v .lastLen ∷ []
+builderWords v = v .blockSize ∷ v .restartInterval ∷ v .used ∷ v .restarts ∷ v .counter ∷ v .lastKeyLen ∷ []
 
 -- ---- a row that is offered: kind, seq, and two times, each with a word that says whether there is one
 

@@ -7,7 +7,7 @@ use mathlib.Core.List.{List}
 use lib.Dec.{eqb}
 use lib.ListN.{length}
 use borrow.Author.Tests.{eq-eqb, ne-eqb}
-use Rattle.layout.specs.Answer.{Res, refuse, _when_else_}
+use Rattle.layout.specs.Res.{Res, refuse, _when_else_}
 use Rattle.layout.specs.Limits.{maxKey}
 use Rattle.layout.specs.Seek.{Sought, seek}
 use Rattle.basics.specs.Says.{saysOrder}

@@ -3,13 +3,13 @@ use Prim.Native.Nat.{ℕ, _<_}
 use mathlib.Core.Bool.{true, false}
 use mathlib.Core.List.{List}
 use mathlib.Core.Path.{_≡_}
-use Rattle.layout.specs.Answer.{Res, ok}
+use Rattle.layout.specs.Res.{Res, ok}
 use Rattle.layout.specs.Trailer.{Trailer, trailerOf}
 use Rattle.layout.specs.Cursor.{Cursor}
 use Rattle.layout.specs.Seek.{Sought, soughtIs}
 use Rattle.basics.specs.declared.IterationOrder.{IterationOrder}
 use Rattle.basics.specs.declared.Refusal.{Refusal}
-use Rattle.basics.specs.declared.Refusal.the-variants.{BadTrailer, BadState}
+use Rattle.basics.specs.declared.Refusal.the-variants.{BadState}
 use Rattle.block_regions_v2.specs.declared.PlaceRead.{PlaceRead}
 use Rattle.block_regions_v2.specs.declared.PlaceRead.the-variants.{At as PlaceAt, Refused as PlaceRefused}
 use Rattle.block_regions_v2.specs.declared.LastRead.{LastRead}
@@ -30,7 +30,7 @@ refusalOfLast (Ends n) = BadState
 refusalOfLast (LastRefused r) = r
 
 abbrev pub refusalOfStart : StartRead → Refusal
-refusalOfStart (StartAt s) = BadTrailer
+refusalOfStart (StartAt s) = BadState
 refusalOfStart (StartRefused r) = r
 
 -- ---- where a seek ends

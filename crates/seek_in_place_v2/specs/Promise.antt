@@ -3,7 +3,7 @@
 use Prim.Native.Nat.{ℕ}
 use mathlib.Core.Path.{_≡_}
 use mathlib.Core.List.{List}
-use Rattle.layout.specs.Answer.{Res, bind}
+use Rattle.layout.specs.Res.{Res, bind}
 use Rattle.layout.specs.Seek.{Sought, soughtAfter}
 use Rattle.step_in_place_v2.specs.declared.Place.{Place}
 use Rattle.step_in_place_v2.specs.Promise.{Kept}

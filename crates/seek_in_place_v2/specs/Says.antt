@@ -4,9 +4,9 @@ use mathlib.Core.Bool.{Bool, true, false}
 use mathlib.Core.List.{List}
 use mathlib.Core.Path.{_≡_, ap, ap₂, sym}
 use native.Mathlib.Omega.{arith}
-use Rattle.layout.specs.Answer.{Res, ok, refuse}
+use Rattle.layout.specs.Res.{Res, ok, refuse}
 use Rattle.layout.specs.Seek.{Sought}
-use Rattle.layout.specs.Laws.Answer.{ok-inj}
+use Rattle.layout.specs.Laws.Res.{ok-inj}
 use Rattle.basics.specs.Answers.{apart, refused-one}
 use Rattle.basics.specs.Number.{number}
 use Rattle.step_in_place_v2.specs.declared.Place.{Place}
@@ -23,7 +23,7 @@ abbrev pub reportIs : Bool → ℕ → Report
 reportIs o n = record { over = o; reads = n }
 
 abbrev pub reported : Sought → Res Report
-reported s = ok (reportIs (s .cursor .mark) (s .reads))
+reported s = ok (reportIs (s .cursor .done) (s .reads))
 
 abbrev pub saysFound : Found → Res Report
 saysFound (Landed p n) = ok (reportIs false n)

@@ -6,7 +6,7 @@ ghost use mathlib.Core.Path.{_≡_};
 ghost use mathlib.Core.List.{List};
 ghost use Prim.Native.Nat.{ℕ, suc, _-_};
 ghost use lib.ListN.{length};
-ghost use Rattle.layout.specs.Answer.{ok, bind};
+ghost use Rattle.layout.specs.Res.{ok, bind};
 ghost use Rattle.layout.specs.Cursor.{ascending, descending};
 ghost use Rattle.layout.specs.Limits.{maxKey};
 ghost use Rattle.layout.specs.Seek.{walkUp, walkDown, seek};
@@ -58,7 +58,7 @@ fn start_refusal(a: StartRead) -> Refusal
 {
     match a {
         StartRead::Refused(refusal) => refusal,
-        StartRead::At(_) => Refusal::BadTrailer,
+        StartRead::At(_) => Refusal::BadState,
     }
 }
 

@@ -7,10 +7,10 @@ use mathlib.Core.Path.{_≡_, refl, ap, _∙_}
 use mathlib.Core.List.{List, []}
 use lib.ListN.{length}
 use borrow.Author.Tests.{eq-eqb, ne-eqb}
-use Rattle.layout.specs.Answer.{Res, ok, refuse}
-use Rattle.layout.specs.Builder.{newBuilder, built, isEmpty as isEmptyBuilder}
+use Rattle.layout.specs.Res.{Res, ok, refuse}
+use Rattle.layout.specs.Builder.{newBuilder, built, hasNoRows}
 use Rattle.layout.specs.Cursor.{openBlock}
-use Rattle.layout.specs.Laws.Answer.{whether-good, whether-refused}
+use Rattle.layout.specs.Laws.Res.{whether-good, whether-refused}
 use Rattle.basics.specs.Answers.{yes}
 use Rattle.basics.specs.Answers.{saysVerdict}
 use Rattle.basics.specs.Number.{number}
@@ -61,7 +61,7 @@ module _ (ws : List ℕ) (size interval : ℕ) (r : NewState) (h : length ws ≡
 pub empties-short : (ws : List ℕ) (n : ℕ) → (length ws ≡ builderCount → ⊥) → EmptiesFlat ws n badWords n
 empties-short ws n h = tells-refused (rw (ne-eqb (length ws) builderCount h) refl) refl
 
-pub empties : (ws : List ℕ) (n x : ℕ) (b : Bool) → length ws ≡ builderCount → b ≡ isEmptyBuilder (builderFrom ws []) → x ≡ truthWord b → EmptiesFlat ws n 0 x
+pub empties : (ws : List ℕ) (n x : ℕ) (b : Bool) → length ws ≡ builderCount → b ≡ hasNoRows (builderFrom ws []) → x ≡ truthWord b → EmptiesFlat ws n 0 x
 empties ws n x b h e q = rw (q, e) (tells-good (rw (eq-eqb (length ws) builderCount h) refl))
 
 pub builds-short : (ws bytes places : List ℕ) (n : ℕ) → (length ws ≡ builderCount → ⊥) → BuildsFlat ws bytes places n badWords bytes n

@@ -6,11 +6,11 @@ use mathlib.Core.Path.{_≡_, refl, ap, sym, _∙_}
 use mathlib.Core.List.{List}
 use lib.ListN.{length, take}
 use borrow.Author.Tests.{eq-eqb, ne-eqb}
-use Rattle.layout.specs.Answer.{Res, ok, refuse, bind}
+use Rattle.layout.specs.Res.{Res, ok, refuse, bind}
 use Rattle.layout.specs.Cursor.{Cursor}
 use Rattle.layout.specs.Seek.{Sought, seek, soughtAfter}
 use Rattle.layout.specs.Limits.{maxKey}
-use Rattle.layout.specs.Laws.Answer.{ok-inj}
+use Rattle.layout.specs.Laws.Res.{ok-inj}
 use Rattle.basics.specs.Answers.{apart}
 use Rattle.basics.specs.Number.{number}
 use Rattle.basics.specs.Says.{saysOrder}

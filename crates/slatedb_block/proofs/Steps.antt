@@ -4,7 +4,7 @@ use Prim.Native.Nat.{ℕ}
 use mathlib.Core.Path.{_≡_, refl, ap, sym, _∙_}
 use mathlib.Core.List.{List}
 use lib.ListN.{length}
-use Rattle.layout.specs.Answer.{ok}
+use Rattle.layout.specs.Res.{ok}
 use Rattle.layout.specs.Cursor.{next}
 use Rattle.layout.specs.Limits.{maxKey}
 use Rattle.basics.specs.Answers.{yes}

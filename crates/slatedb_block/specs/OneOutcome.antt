@@ -3,7 +3,7 @@
 use Prim.Native.Nat.{ℕ}
 use mathlib.Core.Path.{_≡_, sym, _∙_}
 use mathlib.Core.List.{List}
-use Rattle.layout.specs.Answer.{Res, bind}
+use Rattle.layout.specs.Res.{Res, bind}
 use Rattle.layout.specs.Key.{Key}
 use Rattle.layout.specs.Limits.{maxKey}
 use Rattle.layout.specs.Seek.{seek}
@@ -57,10 +57,10 @@ is-empty-settled b ws n c d x y m l = tells-settled m l
 
 pub seek-settled : (b target ws key : List ℕ) (n c d : ℕ) (vs us ks ls : List ℕ) (x y : ℕ)
     → SeeksFlat b target ws key n c vs ks x → SeeksFlat b target ws key n d us ls y
-    → (c ≡ d) × (vs ≡ us) × SameKey (counted key maxKey (bind (cursorIn ws key) λ k. seek (k .direction) b target)) (λ s. s .cursor) ks ls × (x ≡ y)
+    → (c ≡ d) × (vs ≡ us) × SameKey (counted key maxKey (bind (cursorIn ws key) λ k. seek (k .order) b target)) (λ s. s .cursor) ks ls × (x ≡ y)
 seek-settled b target ws key n c d vs us ks ls x y m l = (
   m .answer ∙ sym (l .answer),
   m .state ∙ sym (l .state),
-  same-key (counted key maxKey (bind (cursorIn ws key) λ k. seek (k .direction) b target)) (λ s. s .cursor) key ks ls (m .key-bytes) (l .key-bytes),
+  same-key (counted key maxKey (bind (cursorIn ws key) λ k. seek (k .order) b target)) (λ s. s .cursor) key ks ls (m .key-bytes) (l .key-bytes),
   m .number ∙ sym (l .number),
 )

@@ -5,12 +5,12 @@ use mathlib.Core.Bool.{cond}
 use mathlib.Core.Path.{_≡_}
 use mathlib.Core.List.{List, []}
 use lib.ListN.{length}
-use Rattle.layout.specs.Answer.{Res, ok, refuse, bind}
+use Rattle.layout.specs.Res.{Res, ok, refuse, bind}
 use Rattle.layout.specs.Limits.{maxKey}
 use Rattle.layout.specs.Key.{Key}
 use Rattle.layout.specs.Row.{encodeRow, written}
 use Rattle.layout.specs.RowRead.{decodeRow}
-use Rattle.layout.specs.Builder.{Builder, newBuilder, isEmpty as isEmptyBuilder, wouldFit, build, blockAfter}
+use Rattle.layout.specs.Builder.{Builder, newBuilder, hasNoRows, wouldFit, build, blockAfter}
 use Rattle.layout.specs.Check.{check}
 use Rattle.layout.specs.Cursor.{openBlock, isEmpty}
 use Rattle.layout.specs.Seek.{Sought, seek}
@@ -47,7 +47,7 @@ FitsFlat ws last dataLen placesLen key value fs code =
 
 -- the bytes of the last key tell nothing: none are lent
 abbrev pub EmptiesFlat : List ℕ → ℕ → ℕ → ℕ → Type 0
-EmptiesFlat ws n code n′ = Tells (bind (builderIn ws []) λ v. ok (truthWord (isEmptyBuilder v))) n code n′
+EmptiesFlat ws n code n′ = Tells (bind (builderIn ws []) λ v. ok (truthWord (hasNoRows v))) n code n′
 
 pub record BuildsAs (want : Res ℕ) (v : Builder) (bytes places : List ℕ) (n code : ℕ) (bytes′ : List ℕ) (n′ : ℕ) : Type 0 where
   pub told : Tells want n code n′
@@ -68,7 +68,7 @@ abbrev pub TellsFlat : List ℕ → List ℕ → ℕ → ℕ → ℕ → Type 0
 TellsFlat b ws n code n′ = Tells (bind (cursorIn ws []) λ c. bind (isEmpty c b) λ e. ok (truthWord e)) n code n′
 
 abbrev pub seekCode : Res Sought → ℕ
-seekCode (ok s) = cond (s .cursor .mark) doneCode 0
+seekCode (ok s) = cond (s .cursor .done) doneCode 0
 seekCode (refuse n) = n
 
 pub record SeeksAs (want : Res Sought) (ws key : List ℕ) (n code : ℕ) (ws′ key′ : List ℕ) (n′ : ℕ) : Type 0 where
@@ -78,4 +78,4 @@ pub record SeeksAs (want : Res Sought) (ws key : List ℕ) (n code : ℕ) (ws′
   pub number : n′ ≡ setBy want (λ s. s .reads) n
 
 abbrev pub SeeksFlat : List ℕ → List ℕ → List ℕ → List ℕ → ℕ → ℕ → List ℕ → List ℕ → ℕ → Type 0
-SeeksFlat b target ws key n code ws′ key′ n′ = SeeksAs (counted key maxKey (bind (cursorIn ws key) λ c. seek (c .direction) b target)) ws key n code ws′ key′ n′
+SeeksFlat b target ws key n code ws′ key′ n′ = SeeksAs (counted key maxKey (bind (cursorIn ws key) λ c. seek (c .order) b target)) ws key n code ws′ key′ n′

@@ -8,7 +8,7 @@ use native.Mathlib.Omega.{arith}
 use lib.Dec.{eqb}
 use lib.ListN.{length, take}
 use borrow.Author.Tests.{lt-ltb, le-ltb}
-use Rattle.layout.specs.Answer.{Res, ok, refuse, bind}
+use Rattle.layout.specs.Res.{Res, ok, refuse, bind}
 use Rattle.layout.specs.Limits.{maxKey}
 use Rattle.layout.specs.Place.{splice}
 use Rattle.layout.specs.Key.{Key}
@@ -127,7 +127,7 @@ before-in p m e = subst (Before p) e m
 
 -- a cursor that carries a key
 pub carries-key : (region at : ℕ) {n : ℕ} {k key : Key} → k ≡ key → length key ≡ n
-    → record { direction = ascending; region = region; at = at; keyLen = n; key = k; mark = false } ≡ cursorIs ascending region at key false
+    → record { order = ascending; region = region; at = at; keyLen = n; key = k; done = false } ≡ cursorIs ascending region at key false
 carries-key region at e l = rw (e, l)
 
 module _ (p : Place) (key b : List ℕ) (t : Trailer) (g : RegionC) (r : Row) (out key′ : List ℕ) (whole : length key ≡ maxKey) (s : Stands ascending p b t) (f : Fits p (dataOf b t) (regionFrom g) (length out) (rowFrom r)) (q : key′ ≡ splice key (r .shared) (suffixOf (dataOf b t) (rowFrom r))) where

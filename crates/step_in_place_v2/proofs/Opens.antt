@@ -5,10 +5,10 @@ use mathlib.Core.Path.{_≡_, ap, sym, _∙_}
 use mathlib.Core.Bool.{Bool, true, false}
 use mathlib.Core.List.{List}
 use lib.Dec.{leb}
-use Rattle.layout.specs.Answer.{Res, ok, refuse, whether}
+use Rattle.layout.specs.Res.{Res, ok, refuse, whether}
 use Rattle.layout.specs.Trailer.{Trailer, trailerOf}
 use Rattle.layout.specs.Cursor.{Direction, ascending, descending, Cursor, opened, openBlock, cursorOr, exhausted, isEmpty}
-use Rattle.layout.specs.Laws.Answer.{whether-good, whether-refused}
+use Rattle.layout.specs.Laws.Res.{whether-good, whether-refused}
 use Rattle.layout.specs.Laws.Cursor.{empty-is}
 use Rattle.basics.specs.Answers.{yes}
 use Rattle.basics.specs.Answers.{saysVerdict}

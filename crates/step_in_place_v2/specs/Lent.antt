@@ -6,7 +6,7 @@ use mathlib.Core.List.{List}
 use lib.Dec.{eqb}
 use lib.ListN.{length}
 use borrow.Author.Tests.{eq-eqb, ne-eqb}
-use Rattle.layout.specs.Answer.{Res, refuse, guard}
+use Rattle.layout.specs.Res.{Res, refuse, guard}
 use Rattle.layout.specs.Limits.{maxKey}
 use Rattle.layout.specs.Cursor.{Step, next}
 use Rattle.step_in_place_v2.specs.declared.Place.{Place}

@@ -4,7 +4,7 @@ use Prim.Native.Nat.{ℕ}
 use mathlib.Core.Path.{_≡_}
 use mathlib.Core.List.{List}
 use lib.ListN.{length}
-use Rattle.layout.specs.Answer.{Res, ok, refuse, bind, whether}
+use Rattle.layout.specs.Res.{Res, ok, refuse, bind, whether}
 use Rattle.layout.specs.Cursor.{cursorOr, openBlock, isEmpty, Step, cursorAfter, keyAfter}
 use Rattle.basics.specs.Answers.{saysVerdict}
 use Rattle.basics.specs.Says.{saysOrder}

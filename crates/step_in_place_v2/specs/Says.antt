@@ -3,11 +3,12 @@ use Prim.Native.Nat.{ℕ}
 use mathlib.Core.Bool.{Bool}
 use mathlib.Core.Path.{_≡_, ap, ap₂, sym, _∙_}
 use mathlib.Core.List.{List}
+use lib.ListN.{take}
 use native.Mathlib.Omega.{arith}
-use Rattle.layout.specs.Answer.{Res, ok, refuse}
+use Rattle.layout.specs.Res.{Res, ok, refuse}
 use Rattle.layout.specs.RowRead.{RowRead as RowReadL}
-use Rattle.layout.specs.Cursor.{Cursor, keptCursor, Answer, found, done, Step}
-use Rattle.layout.specs.Laws.Answer.{ok-inj}
+use Rattle.layout.specs.Cursor.{Cursor, Answer, found, done, Step}
+use Rattle.layout.specs.Laws.Res.{ok-inj}
 use Rattle.basics.specs.Answers.{apart, refused-one}
 use Rattle.basics.specs.Number.{number}
 use Rattle.basics.specs.Says.{saysOrder, saysOrder-one}
@@ -20,7 +21,15 @@ use Rattle.step_in_place_v2.specs.declared.Moved.the-variants.{Found, Do
 
 -- the cursor of a place and of the bytes that its key lies in
 abbrev pub viewIn : Place → List ℕ → Cursor
-viewIn p key = keptCursor (saysOrder (p .order)) (p .region) (p .at) (p .«key_len») key (p .done)
+viewIn p key =
+    record {
+      order = saysOrder (p .order);
+      region = p .region;
+      at = p .at;
+      keyLen = p .«key_len»;
+      key = take (p .«key_len») key;
+      done = p .done;
+    }
 
 abbrev pub saysEmpty : EmptyRead → Res Bool
 saysEmpty (Is b) = ok b
@@ -54,8 +63,8 @@ placeAfter (Refused r) came = came
 -- two places that are known as one, whatever bytes lie beside them
 pub viewIn-one : (p q : Place) (k l : List ℕ) → viewIn p k ≡ viewIn q l → p ≡ q
 viewIn-one p q k l e =
-    let o = saysOrder-one (p .order) (q .order) (ap (λ (x : Cursor). x .direction) e) in
-    ap (λ (x : Cursor). record { order = p .order; region = x .region; at = x .at; «key_len» = x .keyLen; done = x .mark }) e ∙ rw o
+    let o = saysOrder-one (p .order) (q .order) (ap (λ (x : Cursor). x .order) e) in
+    ap (λ (x : Cursor). record { order = p .order; region = x .region; at = x .at; «key_len» = x .keyLen; done = x .done }) e ∙ rw o
 
 pub saysEmpty-one : (a b : EmptyRead) → saysEmpty a ≡ saysEmpty b → a ≡ b
 saysEmpty-one (Is a) (Is b) e = ap Is (ok-inj e)

@@ -6,7 +6,7 @@ ghost use mathlib.Core.Path.{_≡_};
 ghost use mathlib.Core.List.{List};
 ghost use Prim.Native.Nat.{ℕ, _≤_, _<_, _+_};
 ghost use lib.ListN.{length, take};
-ghost use Rattle.layout.specs.Answer.{ok};
+ghost use Rattle.layout.specs.Res.{ok};
 ghost use Rattle.layout.specs.Cursor.{ascending, descending, stepUp, stepDown, stepBackIn};
 ghost use Rattle.layout.specs.Laws.Carry.{suffixOf};
 ghost use Rattle.layout.specs.Limits.{maxKey};
@@ -26,7 +26,6 @@ use row_decode_v2::Row;
 use row_decode_v2::RowRead;
 use trailer::Region;
 use trailer::RegionRead;
-use trailer::Tested;
 use trailer::Trailer;
 use trailer::TrailerRead;
 
@@ -107,7 +106,7 @@ pub fn open_place(block: &[u8], order: IterationOrder) -> OpenedPlace
         };
     };
     let offsets = trailer::all_offsets(block, t);
-    if let Tested::Refused(refusal) = offsets {
+    if let Verdict::Refused(refusal) = offsets {
         return OpenedPlace {
             place: start,
             answer: Verdict::Refused(refusal),

@@ -10,7 +10,7 @@ use lib.Dec.{ltb, eqb}
 use lib.ListN.{length, take, drop, getD, length-drop, take-append-drop}
 use lib.Seq.{getD-take, take-append-le, drop-append-le, length-take-le}
 use borrow.Author.Tests.{lt-ltb, le-ltb, eq-eqb, ne-eqb, ltb-false, eqb-true, eqb-false}
-use Rattle.layout.specs.Answer.{Res, ok, refuse}
+use Rattle.layout.specs.Res.{Res, ok, refuse}
 use Rattle.layout.specs.Limits.{maxKey}
 use Rattle.layout.specs.Fixed.{unbig}
 use Rattle.layout.specs.Place.{NumAt, splice}
@@ -19,7 +19,7 @@ use Rattle.layout.specs.RowRead.{RowRead, mayShare, keyOf}
 use Rattle.layout.specs.Trailer.{Trailer, trailerOf, dataOf, Region, regionOf, rowIn}
 use Rattle.layout.specs.Plain.{Plain, plainAt, plainRead}
 use Rattle.layout.specs.Cursor.{ascending, Cursor, cursorIs, found, Step, stepIs, pastRow, next}
-use Rattle.layout.specs.Laws.Answer.{ok-inj, bool-cases, ltb-cases, eqb-cases, cond-ok}
+use Rattle.layout.specs.Laws.Res.{ok-inj, bool-cases, ltb-cases, eqb-cases, cond-ok}
 use Rattle.layout.specs.Laws.Carry.{Carries, read-carried, keyOf-length, suffixOf, key-new}
 use Rattle.layout.specs.Laws.Cursor.{next-up, up-found}
 use Rattle.layout.specs.Laws.Place.{fourAt, fixedAt-eight}
@@ -338,8 +338,8 @@ pub record Told (want : Res Step) (at : ℕ) (r : Stepped) : Type 0 where
   pub key : Key
   pub is : want ≡ ok (stepIs cursor (found (rowMade at r) key))
   pub to : r ≡ steppedTo cursor (found (rowMade at r) key)
-  pub heads : cursor .direction ≡ ascending
-  pub unmarked : cursor .mark ≡ false
+  pub heads : cursor .order ≡ ascending
+  pub unmarked : cursor .done ≡ false
   pub ends : at + 12 + r .unshared + r .«value_len» ≡ r .next
 
 module _ (region at keyLen : ℕ) (key b out : List ℕ) (x : Stepped) {key′ out′ : List ℕ} (g : Goes (plainStep region at keyLen key b (length out)) key out x key′ out′) where
@@ -375,8 +375,8 @@ module _ (region at keyLen : ℕ) (key b out : List ℕ) (x : Stepped) {key′ o
           key = k₀;
           is = i ∙ ap (λ (u : RowRead). ok (stepIs v (found u k₀))) row;
           to = to ∙ ap (λ (u : RowRead). steppedTo v (found u k₀)) row;
-          heads = ap (λ (u : Cursor). u .direction) e ∙ two t;
-          unmarked = ap (λ (u : Cursor). u .mark) e ∙ three t;
+          heads = ap (λ (u : Cursor). u .order) e ∙ two t;
+          unmarked = ap (λ (u : Cursor). u .done) e ∙ three t;
           ends = omega (arith, place, s₀ .plain .next-is, ap (λ (u : Stepped). u .unshared) to, ap (λ (u : Stepped). u .«value_len») to, ap (λ (u : Stepped). u .next) to);
         }
       where
@@ -384,11 +384,11 @@ module _ (region at keyLen : ℕ) (key b out : List ℕ) (x : Stepped) {key′ o
         one true = refl
         one false = refl
 
-        two : (t : Bool) → cond t (cursorIs ascending (region + 1) (s₀ .p .next) [] false) (cursorIs ascending region (s₀ .p .next) k₀ false) .direction ≡ ascending
+        two : (t : Bool) → cond t (cursorIs ascending (region + 1) (s₀ .p .next) [] false) (cursorIs ascending region (s₀ .p .next) k₀ false) .order ≡ ascending
         two true = refl
         two false = refl
 
-        three : (t : Bool) → cond t (cursorIs ascending (region + 1) (s₀ .p .next) [] false) (cursorIs ascending region (s₀ .p .next) k₀ false) .mark ≡ false
+        three : (t : Bool) → cond t (cursorIs ascending (region + 1) (s₀ .p .next) [] false) (cursorIs ascending region (s₀ .p .next) k₀ false) .done ≡ false
         three true = refl
         three false = refl
 

@@ -5,7 +5,7 @@ use mathlib.Core.Path.{_≡_, refl, ap, ap₂, sym, _∙_}
 use mathlib.Core.List.{List, [], _∷_}
 use native.Mathlib.Omega.{arith}
 use lib.ListN.{length, replicate}
-use Rattle.layout.specs.Answer.{Res, ok, refuse}
+use Rattle.layout.specs.Res.{Res, ok, refuse}
 use Rattle.layout.specs.Limits.{maxKey}
 use Rattle.layout.specs.RowRead.{RowRead}
 use Rattle.layout.specs.Trailer.{Trailer}
@@ -15,8 +15,8 @@ use Rattle.demands.specs.Runs.{Walks, stands, gives}
 use Rattle.demands.specs.Rows.{Rows, BothWays}
 use Rattle.demands.specs.Proof2.{rows-room}
 use Rattle.demands.specs.Demand2.{has-rows, walk-steps}
-use Rattle.layout.specs.Laws.Answer.{ok-inj}
-use Rattle.basics.specs.Answers.{apart, yes}
+use Rattle.layout.specs.Laws.Res.{ok-inj}
+use Rattle.basics.specs.Answers.{apart, yes, saysVerdict}
 use Rattle.basics.specs.Says.{saysHeld}
 use Rattle.basics.specs.declared.IterationOrder.the-variants.{Ascending}
 use Rattle.basics.specs.declared.Refusal.{Refusal}
@@ -38,10 +38,10 @@ use Rattle.block_iterator_v2.specs.Says.{viewOf}
 use Rattle.block_iterator_v2.specs.declared.Opened.{Opened}
 use Rattle.tally.specs.declared.Tally.{Tally}
 use Rattle.tally.specs.Tally.{tallyIs, added, counted, countedRows, tallyBlock}
-use Rattle.tally.specs.declared.TallyAnswer.the-variants.{Good, Refused as AnswerRefused}
+use Rattle.basics.specs.declared.Verdict.the-variants.{Good, Refused as AnswerRefused}
 use Rattle.tally.specs.declared.Opening.{Opening}
 use Rattle.tally.specs.declared.Passed.{Passed}
-use Rattle.tally.specs.Says.{Told, told, afterBlock, saysAnswer}
+use Rattle.tally.specs.Says.{Told, told, afterBlock}
 use Rattle.tally.specs.Parts.{rowsOf, OpensRows, passedOf, PassesRow}
 use Rattle.tally.specs.Promise.{CountsRow}
 use Rattle.tally.specs.Laws.{rows-tally}
@@ -98,10 +98,10 @@ pub record Folding (want : Told) (v : Res (Unit {0})) (b : List ℕ) (left : ℕ
   pub makes : told (countedRows t rows) v ≡ want
 
 pub fold-start : (t : Tally) (b : List ℕ) (r : Opening) → OpensRows b r
-    → Folding (afterBlock t (tallyBlock t b)) (saysAnswer (r .answer)) b (r .rows) (viewIn (r .start) (replicate maxKey 0)) t
+    → Folding (afterBlock t (tallyBlock t b)) (saysVerdict (r .answer)) b (r .rows) (viewIn (r .start) (replicate maxKey 0)) t
 fold-start t b r o = go (check b) refl
   where
-    go : (x : Res ℕ) → check b ≡ x → Folding (afterBlock t (tallyBlock t b)) (saysAnswer (r .answer)) b (r .rows) (viewIn (r .start) (replicate maxKey 0)) t
+    go : (x : Res ℕ) → check b ≡ x → Folding (afterBlock t (tallyBlock t b)) (saysVerdict (r .answer)) b (r .rows) (viewIn (r .start) (replicate maxKey 0)) t
     go (ok n) h =
         let a = has-rows b n h in
         let q : Rows b n (a .0) (a .1) = a .2 in

@@ -20,11 +20,11 @@ use Rattle.basics.specs.declared.ValueDeletable.{ValueDeletable}
 use Rattle.basics.proofs.ValueDeletable as K
 use Rattle.basics.proofs.ValueDeletable.Laws as K′
 use Rattle.tally.specs.declared.Tally.{Tally}
-use Rattle.tally.specs.declared.TallyAnswer.{TallyAnswer}
+use Rattle.basics.specs.declared.Verdict.{Verdict}
 use Rattle.tally.proofs.Tally as T
 use Rattle.tally.proofs.Tally.Laws as T′
-use Rattle.tally.proofs.TallyAnswer as R
-use Rattle.tally.proofs.TallyAnswer.Laws as R′
+use Rattle.basics.proofs.Verdict as R
+use Rattle.basics.proofs.Verdict.Laws as R′
 
 -- ---- the machine values
 
@@ -40,10 +40,10 @@ heldVal = EL.val K.the-type K′.the-laws
 abbrev pub heldVals : ValueDeletable → List Val
 heldVals held = heldVal held ∷ []
 
-abbrev pub answerVal : TallyAnswer → Val
+abbrev pub answerVal : Verdict → Val
 answerVal = EL.val R.the-type R′.the-laws
 
-abbrev pub answerVals : TallyAnswer → List Val
+abbrev pub answerVals : Verdict → List Val
 answerVals a = answerVal a ∷ []
 
 pub tally-tells : Tells T.the-row (Is T.the-row) tallyVals
@@ -68,7 +68,7 @@ module _ {M : Type 1} {𝓤 : URA M} {H : Heap 𝓤} {A : Atoms 𝓤} {S : Type 
   pub has-held : S → (held : ValueDeletable) (vs : List Val) → Is K.the-row held vs → Step S W (‵ (K.the-row .own held vs) ∷ Γ) G Γ G
   has-held s held vs = owned s K.the-row (Is K.the-row) (EL.makes K.the-type K′.the-plain 𝓤 H A) held vs
 
-  pub has-answer : S → (a : TallyAnswer) (vs : List Val) → Is R.the-row a vs → Step S W (‵ (R.the-row .own a vs) ∷ Γ) G Γ G
+  pub has-answer : S → (a : Verdict) (vs : List Val) → Is R.the-row a vs → Step S W (‵ (R.the-row .own a vs) ∷ Γ) G Γ G
   has-answer s a vs = owned s R.the-row (Is R.the-row) (EL.makes R.the-type R′.the-plain 𝓤 H A) a vs
 
 module _ {M : Type 1} (𝓤 : URA M) (H : Heap 𝓤) (A : Atoms 𝓤) (W : Given 𝓤 H A) where
@@ -78,7 +78,7 @@ module _ {M : Type 1} (𝓤 : URA M) (H : Heap 𝓤) (A : Atoms 𝓤) (W : Given
   pub held-fits : (held : ValueDeletable) (vs : List Val) → Is K.the-row held vs → Typed (K.the-row .mir) vs
   held-fits = EL.lawful K.the-type K′.the-laws 𝓤 H A W tt .typed
 
-  pub answer-fits : (a : TallyAnswer) (vs : List Val) → Is R.the-row a vs → Typed (R.the-row .mir) vs
+  pub answer-fits : (a : Verdict) (vs : List Val) → Is R.the-row a vs → Typed (R.the-row .mir) vs
   answer-fits = EL.lawful R.the-type R′.the-laws 𝓤 H A W tt .typed
 
   -- ---- the local l, lent and had back

@@ -3,7 +3,7 @@
 use Prim.Native.Nat.{ℕ, _-_}
 use mathlib.Core.Path.{_≡_, refl}
 use mathlib.Core.List.{List, [], _∷_}
-use Rattle.layout.specs.Answer.{ok, refuse}
+use Rattle.layout.specs.Res.{ok, refuse}
 use Rattle.layout.specs.Fixed.{unbig, unbits}
 use Rattle.layout.specs.Varint.{readVarint, readVarintIn}
 use Rattle.layout.specs.Place.{varintAt, fixedAt}

@@ -8,7 +8,7 @@ use native.Mathlib.Omega.{arith}
 use native.Mathlib.Numerals.{add-one}
 use lib.Dec.{ltb, eqb}
 use lib.ListN.{length, getD}
-use Rattle.layout.specs.Answer.{Res, ok, refuse, whether}
+use Rattle.layout.specs.Res.{Res, ok, refuse, whether}
 use Rattle.layout.specs.Key.{Key}
 use Rattle.layout.specs.Place.{fixedAt}
 use Rattle.layout.specs.Row.{Kind, value, tombstone, merge}
@@ -19,7 +19,7 @@ use Rattle.layout.specs.Cursor.{Keyed}
 use Rattle.demands.specs.Reads.{regionRows, regionsRows, allRows}
 use Rattle.demands.specs.Rows.{Rows}
 use Rattle.demands.specs.Demand2.{has-rows}
-use Rattle.layout.specs.Laws.Answer.{bind-then, guard-then, ok-inj}
+use Rattle.layout.specs.Laws.Res.{bind-then, guard-then, ok-inj}
 use Rattle.demands.specs.Laws.Reads.{RegionIs, over, more, region-is, RegionsAre, next, regions-are, regions-none, allRows-none, allRows-next}
 use Rattle.layout.specs.Laws.Tells.{headAt-tells, bodyAt-tells, timesAt-ends, RowTells, rowAt-tells, rowIn-ends}
 use Rattle.layout.specs.Laws.Trailer.{regionOf-tells, trailerOf-tells}

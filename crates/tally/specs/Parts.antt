@@ -3,7 +3,7 @@ use Prim.Native.Nat.{ℕ}
 use mathlib.Core.Path.{_≡_}
 use mathlib.Core.List.{List}
 use lib.ListN.{replicate}
-use Rattle.layout.specs.Answer.{Res, ok, refuse, whether}
+use Rattle.layout.specs.Res.{Res, ok, refuse, whether}
 use Rattle.layout.specs.Limits.{maxKey}
 use Rattle.layout.specs.Check.{check}
 use Rattle.layout.specs.Cursor.{ascending, openBlock}
@@ -13,9 +13,9 @@ use Rattle.step_in_place_v2.specs.Says.{viewIn}
 use Rattle.step_in_place_v2.specs.declared.Moved.{Moved}
 use Rattle.step_in_place_v2.specs.declared.Moved.the-variants.{Found, Done, Refused}
 use Rattle.step_in_place_v2.specs.declared.Place.{Place}
+use Rattle.basics.specs.Answers.{saysVerdict}
 use Rattle.tally.specs.declared.Opening.{Opening}
 use Rattle.tally.specs.declared.Passed.{Passed}
-use Rattle.tally.specs.Says.{saysAnswer}
 
 -- a refused block has no rows to count
 abbrev pub rowsOf : Res ℕ → ℕ
@@ -23,7 +23,7 @@ rowsOf (ok n) = n
 rowsOf (refuse n) = 0
 
 pub record OpensRows (b : List ℕ) (r : Opening) : Type 0 where
-  pub verdict : saysAnswer (r .answer) ≡ whether (check b)
+  pub verdict : saysVerdict (r .answer) ≡ whether (check b)
   pub many : r .rows ≡ rowsOf (check b)
   pub opens : {n : ℕ} → check b ≡ ok n → openBlock b ascending ≡ ok (viewIn (r .start) (replicate maxKey 0))
 

@@ -1,7 +1,7 @@
 -- The four counts of a block: its rows, the tombstones and the merges among them, and the lengths of all values that the rows carry.
 use Prim.Native.Nat.{ℕ, _+_, min}
 use mathlib.Core.List.{List, [], _∷_}
-use Rattle.layout.specs.Answer.{Res, ok, bind}
+use Rattle.layout.specs.Res.{Res, ok, bind}
 use Rattle.layout.specs.RowRead.{Held, holds, gone, merges}
 use Rattle.layout.specs.Trailer.{trailerOf, allOffsets}
 use Rattle.layout.specs.Cursor.{Keyed}

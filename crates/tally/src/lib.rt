@@ -4,8 +4,8 @@ ghost use Rattle.tally.specs.Parts.{OpensRows, PassesRow};
 ghost use Rattle.tally.specs.Tally.{added};
 ghost use Rattle.tally.specs.Promise.{CountsRow, CountsBlock};
 use basics::IterationOrder;
-use basics::Refusal;
 use basics::ValueDeletable;
+use basics::Verdict;
 use block_check_v2::Checked;
 use block_iterator_v2::BlockIteratorV2;
 use step_in_place_v2::Moved;
@@ -18,22 +18,17 @@ pub struct Tally {
     pub value_bytes: u64,
 }
 
-pub enum TallyAnswer {
-    Good,
-    Refused(Refusal),
-}
-
 // The tally after a block: the one that came, where the block is refused.
 pub struct TalliedBlock {
     pub tally: Tally,
-    pub answer: TallyAnswer,
+    pub answer: Verdict,
 }
 
 // A block that is opened for counting: the place before its first row, how many rows there are to count, which are none in a refused block, and the answer.
 struct Opening {
     start: Place,
     rows: usize,
-    answer: TallyAnswer,
+    answer: Verdict,
 }
 
 // What a step passes: the place past the row, and what the row holds.
@@ -94,12 +89,12 @@ fn open(block: &[u8]) -> Opening
         Checked::Rows(n) => Opening {
             start,
             rows: n,
-            answer: TallyAnswer::Good,
+            answer: Verdict::Good,
         },
         Checked::Refused(refusal) => Opening {
             start,
             rows: 0,
-            answer: TallyAnswer::Refused(refusal),
+            answer: Verdict::Refused(refusal),
         },
     }
 }
@@ -129,7 +124,7 @@ fn step(
 }
 
 // One tally that the desk lends for the whole block, and each row updates in place. A block that the check refuses leaves it as it was.
-pub fn tally_block(t: &mut Tally, block: &[u8]) -> TallyAnswer
+pub fn tally_block(t: &mut Tally, block: &[u8]) -> Verdict
     ensures { λ r. ⌜ CountsBlock (now (t .entry)) (now (block .entry)) (now (t .exit)) r ⌝ }
 {
     let opened = open(block);

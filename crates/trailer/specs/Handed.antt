@@ -5,7 +5,7 @@ use mathlib.Core.Bool.{Bool, not, _&&_}
 use mathlib.Core.List.{List}
 use lib.Dec.{ltb, eqb}
 use lib.ListN.{length}
-use Rattle.layout.specs.Answer.{Res, _when_else_}
+use Rattle.layout.specs.Res.{Res, _when_else_}
 use Rattle.layout.specs.Trailer.{Trailer, Region, regionOf, allOffsets}
 
 -- rows, offsets and count are all of a block of `len` bytes, and r is below the count

@@ -7,9 +7,9 @@ use mathlib.Core.List.{List}
 use lib.Dec.{ltb, eqb}
 use lib.ListN.{length}
 use borrow.Author.Tests.{not-false, ltb-true, lt-ltb, le-ltb, eqb-true, eq-eqb}
-use Rattle.layout.specs.Answer.{Res, ok, refuse}
+use Rattle.layout.specs.Res.{Res, ok, refuse}
 use Rattle.layout.specs.Trailer.{Trailer, trailerOf, regionOf, allOffsets}
-use Rattle.layout.specs.Laws.Answer.{guard-ok}
+use Rattle.layout.specs.Laws.Res.{guard-ok}
 use Rattle.layout.specs.Laws.Trailer.{trailerOf-tells}
 use Rattle.trailer.specs.Handed.{hasRegion, handed, regionAt, offsetsAt}
 

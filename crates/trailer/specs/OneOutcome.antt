@@ -3,14 +3,15 @@ use Prim.Native.Nat.{ℕ}
 use mathlib.Core.Path.{_≡_, sym, _∙_}
 use mathlib.Core.Bool.{Bool}
 use mathlib.Core.List.{List}
+use Rattle.basics.specs.Answers.{saysVerdict-one}
 use Rattle.basics.specs.declared.Refusal.{Refusal}
 use Rattle.trailer.specs.declared.Trailer.{Trailer}
 use Rattle.trailer.specs.declared.TrailerRead.{TrailerRead}
 use Rattle.trailer.specs.declared.Region.{Region}
 use Rattle.trailer.specs.declared.RegionRead.{RegionRead}
-use Rattle.trailer.specs.declared.Tested.{Tested}
+use Rattle.basics.specs.declared.Verdict.{Verdict}
 use Rattle.trailer.specs.Promise.{PlainTrailer, ReadsTrailer, TestsTrailer, TrailerRefusal, PlainRegionAt, ReadsRegion, RegionRefusal, TestsOffsets}
-use Rattle.trailer.specs.Says.{trailerFrom-one, saysTrailer-one, regionFrom-one, saysRegion-one, saysTested-one}
+use Rattle.trailer.specs.Says.{trailerFrom-one, saysTrailer-one, regionFrom-one, saysRegion-one}
 
 pub plain-trailer-settled : (b : List ℕ) (r q : Trailer) → PlainTrailer b r → PlainTrailer b q → r ≡ q
 plain-trailer-settled b r q m n = trailerFrom-one r q (m ∙ sym n)
@@ -33,5 +34,5 @@ region-of-settled b t i r q m n = saysRegion-one r q (m ∙ sym n)
 pub region-refusal-settled : (a : RegionRead) (r q : Refusal) → RegionRefusal a r → RegionRefusal a q → r ≡ q
 region-refusal-settled a r q m n = m ∙ sym n
 
-pub all-offsets-settled : (b : List ℕ) (t : Trailer) (r q : Tested) → TestsOffsets b t r → TestsOffsets b t q → r ≡ q
-all-offsets-settled b t r q m n = saysTested-one r q (m ∙ sym n)
+pub all-offsets-settled : (b : List ℕ) (t : Trailer) (r q : Verdict) → TestsOffsets b t r → TestsOffsets b t q → r ≡ q
+all-offsets-settled b t r q m n = saysVerdict-one r q (m ∙ sym n)

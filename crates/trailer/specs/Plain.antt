@@ -9,9 +9,9 @@ use native.Mathlib.Omega.{arith}
 use lib.Dec.{ltb, leb, eqb}
 use lib.ListN.{length}
 use borrow.Author.Tests.{le-leb, lt-leb, leb-false, ltb-false, eqb-false}
-use Rattle.layout.specs.Answer.{Res, ok, refuse, bind}
+use Rattle.layout.specs.Res.{Res, ok, refuse, bind}
 use Rattle.layout.specs.Trailer.{countOf, Trailer, trailerIs, trailerOf, offsetAt, Region, regionIs, firstOf, regionOf}
-use Rattle.layout.specs.Laws.Answer.{ltb-cases, eqb-cases, bool-cases, clash, bind-then}
+use Rattle.layout.specs.Laws.Res.{ltb-cases, eqb-cases, bool-cases, clash, bind-then}
 use Rattle.layout.specs.Laws.Plain.{or-false}
 use Rattle.layout.specs.Laws.Trailer.{trailer-short, trailer-none, trailer-long, trailer-good, trailerOf-tells, region-first, region-far, region-falls, region-next-far, region-inner, region-last, regionOf-tells}
 use Rattle.trailer.specs.Handed.{regionAt}

@@ -4,15 +4,16 @@ use mathlib.Core.Path.{_≡_}
 use mathlib.Core.Bool.{Bool}
 use mathlib.Core.List.{List}
 use Rattle.layout.specs.Trailer.{trailerOf}
+use Rattle.basics.specs.Answers.{saysVerdict}
 use Rattle.basics.specs.declared.Refusal.{Refusal}
 use Rattle.trailer.specs.declared.Trailer.{Trailer}
 use Rattle.trailer.specs.declared.TrailerRead.{TrailerRead}
 use Rattle.trailer.specs.declared.Region.{Region}
 use Rattle.trailer.specs.declared.RegionRead.{RegionRead}
-use Rattle.trailer.specs.declared.Tested.{Tested}
+use Rattle.basics.specs.declared.Verdict.{Verdict}
 use Rattle.trailer.specs.Handed.{hasRegion, regionAt, offsetsAt}
 use Rattle.trailer.specs.Plain.{trailerOr, regionOr, regionBy}
-use Rattle.trailer.specs.Says.{trailerFrom, saysTrailer, regionFrom, saysRegion, saysTested, refusalOfTrailer, refusalOfRegion}
+use Rattle.trailer.specs.Says.{trailerFrom, saysTrailer, regionFrom, saysRegion, refusalOfTrailer, refusalOfRegion}
 
 abbrev pub PlainTrailer : List ℕ → Trailer → Type 0
 PlainTrailer b t = trailerFrom t ≡ trailerOr (trailerOf b)
@@ -36,5 +37,5 @@ ReadsRegion b t r a = saysRegion a ≡ regionAt b (trailerFrom t) r
 abbrev pub RegionRefusal : RegionRead → Refusal → Type 0
 RegionRefusal a r = r ≡ refusalOfRegion a
 
-abbrev pub TestsOffsets : List ℕ → Trailer → Tested → Type 0
-TestsOffsets b t a = saysTested a ≡ offsetsAt b (trailerFrom t)
+abbrev pub TestsOffsets : List ℕ → Trailer → Verdict → Type 0
+TestsOffsets b t a = saysVerdict a ≡ offsetsAt b (trailerFrom t)

@@ -1,47 +1,41 @@
 -- What each case of an answer says: the values, or the number of the refusal. No two cases say the same.
-use mathlib.Core.Path.{_≡_, refl, ap, sym}
-use Rattle.layout.specs.Answer.{Res, ok, refuse}
-use Rattle.layout.specs.Trailer.{Trailer as TrailerL, trailerIs, Region as RegionL, regionIs}
-use Rattle.layout.specs.Laws.Answer.{ok-inj}
+use mathlib.Core.Path.{_≡_, ap, sym}
+use Rattle.layout.specs.Res.{Res, ok, refuse}
+use Rattle.layout.specs.Trailer.{Trailer as TrailerL, Region as RegionL}
+use Rattle.layout.specs.Laws.Res.{ok-inj}
 use Rattle.basics.specs.Answers.{apart, refused-one}
 use Rattle.basics.specs.Number.{number}
 use Rattle.basics.specs.declared.Refusal.{Refusal}
-use Rattle.basics.specs.declared.Refusal.the-variants.{BadTrailer}
+use Rattle.basics.specs.declared.Refusal.the-variants.{BadState}
 use Rattle.trailer.specs.declared.Trailer.{Trailer}
 use Rattle.trailer.specs.declared.TrailerRead.{TrailerRead}
 use Rattle.trailer.specs.declared.TrailerRead.the-variants.{Good as GoodTrailer, Refused as TrailerRefused}
 use Rattle.trailer.specs.declared.Region.{Region}
 use Rattle.trailer.specs.declared.RegionRead.{RegionRead}
 use Rattle.trailer.specs.declared.RegionRead.the-variants.{Good as GoodRegion, Refused as RegionRefused}
-use Rattle.trailer.specs.declared.Tested.{Tested}
-use Rattle.trailer.specs.declared.Tested.the-variants.{Good as GoodOffsets, Refused as OffsetsRefused}
 
 abbrev pub trailerFrom : Trailer → TrailerL
-trailerFrom t = trailerIs (t .count) (t .size)
+trailerFrom t = record { count = t .count; size = t .size }
 
 abbrev pub saysTrailer : TrailerRead → Res TrailerL
 saysTrailer (GoodTrailer t) = ok (trailerFrom t)
 saysTrailer (TrailerRefused r) = refuse (number r)
 
 abbrev pub regionFrom : Region → RegionL
-regionFrom g = regionIs (g .start) (g .end) (g .reach)
+regionFrom g = record { start = g .start; end = g .end; reach = g .reach }
 
 abbrev pub saysRegion : RegionRead → Res RegionL
 saysRegion (GoodRegion g) = ok (regionFrom g)
 saysRegion (RegionRefused r) = refuse (number r)
 
-abbrev pub saysTested : Tested → Res (Unit {0})
-saysTested GoodOffsets = ok tt
-saysTested (OffsetsRefused r) = refuse (number r)
-
 -- ---- the refusal that is taken out of an answer; the other case is never asked
 
 abbrev pub refusalOfTrailer : TrailerRead → Refusal
-refusalOfTrailer (GoodTrailer t) = BadTrailer
+refusalOfTrailer (GoodTrailer t) = BadState
 refusalOfTrailer (TrailerRefused r) = r
 
 abbrev pub refusalOfRegion : RegionRead → Refusal
-refusalOfRegion (GoodRegion g) = BadTrailer
+refusalOfRegion (GoodRegion g) = BadState
 refusalOfRegion (RegionRefused r) = r
 
 -- ---- one to one
@@ -63,9 +57,3 @@ saysRegion-one (GoodRegion g) (GoodRegion h) e = ap GoodRegion (regionFrom-one g
 saysRegion-one (GoodRegion g) (RegionRefused r) e = absurd (apart e)
 saysRegion-one (RegionRefused r) (GoodRegion g) e = absurd (apart (sym e))
 saysRegion-one (RegionRefused r) (RegionRefused q) e = ap RegionRefused (refused-one e)
-
-pub saysTested-one : (a b : Tested) → saysTested a ≡ saysTested b → a ≡ b
-saysTested-one GoodOffsets GoodOffsets e = refl
-saysTested-one GoodOffsets (OffsetsRefused r) e = absurd (apart e)
-saysTested-one (OffsetsRefused r) GoodOffsets e = absurd (apart (sym e))
-saysTested-one (OffsetsRefused r) (OffsetsRefused q) e = ap OffsetsRefused (refused-one e)

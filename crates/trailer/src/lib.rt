@@ -6,10 +6,12 @@ ghost use mathlib.Core.Path.{_≡_};
 ghost use Prim.Native.Nat.{_≤_, _<_, _+_, _*_};
 ghost use lib.ListN.{length};
 ghost use Rattle.layout.specs.Trailer.{shortAt, firstOf, regionOf, allOffsets};
+ghost use Rattle.basics.specs.Answers.{saysVerdict};
 ghost use Rattle.trailer.specs.Plain.{noTrailer, noRegion, regionOr};
-ghost use Rattle.trailer.specs.Says.{trailerFrom, regionFrom, saysTested};
+ghost use Rattle.trailer.specs.Says.{trailerFrom, regionFrom};
 ghost use Rattle.trailer.specs.Promise.{PlainTrailer, ReadsTrailer, TestsTrailer, TrailerRefusal, PlainRegionAt, ReadsRegion, RegionRefusal, TestsOffsets};
 use basics::Refusal;
+use basics::Verdict;
 
 // How many restarts there are, and how many bytes of rows.
 pub struct Trailer {
@@ -32,11 +34,6 @@ pub struct Region {
 
 pub enum RegionRead {
     Good(Region),
-    Refused(Refusal),
-}
-
-pub enum Tested {
-    Good,
     Refused(Refusal),
 }
 
@@ -189,42 +186,42 @@ pub fn region_of(block: &[u8], t: Trailer, r: usize) -> RegionRead
     RegionRead::Good(region)
 }
 
-fn offsets_rise(block: &[u8], t: Trailer) -> Tested
+fn offsets_rise(block: &[u8], t: Trailer) -> Verdict
     requires { ⌜ (t .size + (2 + 2 * t .count) ≡ length (now block)) × (1 ≤ t .count) ⌝ }
-    ensures { λ r. ⌜ saysTested r ≡ allOffsets (now (block .entry)) (trailerFrom t) ⌝ }
+    ensures { λ r. ⌜ saysVerdict r ≡ allOffsets (now (block .entry)) (trailerFrom t) ⌝ }
 {
     let size = t.size;
     let count = t.count;
     let first = short_at(block, size);
     if 0 < first {
-        return Tested::Refused(Refusal::BadOffset);
+        return Verdict::Refused(Refusal::BadOffset);
     }
     if size <= first {
-        return Tested::Refused(Refusal::BadOffset);
+        return Verdict::Refused(Refusal::BadOffset);
     }
     let mut previous = first;
     let mut r: usize = 1;
     while r < count {
         let offset = short_at(block, size + 2 * r);
         if offset <= previous {
-            return Tested::Refused(Refusal::BadOffset);
+            return Verdict::Refused(Refusal::BadOffset);
         }
         if size <= offset {
-            return Tested::Refused(Refusal::BadOffset);
+            return Verdict::Refused(Refusal::BadOffset);
         }
         previous = offset;
         r += 1;
     }
-    Tested::Good
+    Verdict::Good
 }
 
 // All of 15: the first offset is 0, each is above the one before and below the data's length. 18 for numbers that are not the
 // block's; a trailer that counts no region is no block's.
-pub fn all_offsets(block: &[u8], t: Trailer) -> Tested
+pub fn all_offsets(block: &[u8], t: Trailer) -> Verdict
     ensures { λ r. ⌜ TestsOffsets (now (block .entry)) t r ⌝ }
 {
     if !has_region(t, block.len(), 0) {
-        return Tested::Refused(Refusal::BadState);
+        return Verdict::Refused(Refusal::BadState);
     }
     offsets_rise(block, t)
 }
@@ -236,7 +233,7 @@ pub fn trailer_refusal(a: TrailerRead) -> Refusal
 {
     match a {
         TrailerRead::Refused(refusal) => refusal,
-        TrailerRead::Good(_) => Refusal::BadTrailer,
+        TrailerRead::Good(_) => Refusal::BadState,
     }
 }
 
@@ -245,6 +242,6 @@ pub fn region_refusal(a: RegionRead) -> Refusal
 {
     match a {
         RegionRead::Refused(refusal) => refusal,
-        RegionRead::Good(_) => Refusal::BadTrailer,
+        RegionRead::Good(_) => Refusal::BadState,
     }
 }

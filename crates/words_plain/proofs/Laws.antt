@@ -9,12 +9,12 @@ use native.Mathlib.Omega.{arith}
 use lib.Dec.{eqb}
 use lib.ListN.{length}
 use borrow.Author.Tests.{eq-eqb, eqb-true}
-use Rattle.layout.specs.Answer.{Res, ok, refuse, bind}
+use Rattle.layout.specs.Res.{Res, ok, refuse, bind}
 use Rattle.layout.specs.Limits.{maxKey}
 use Rattle.layout.specs.Key.{Key}
 use Rattle.layout.specs.RowRead.{RowRead}
 use Rattle.layout.specs.Cursor.{ascending, Cursor, found, Step, next}
-use Rattle.layout.specs.Laws.Answer.{cond-ok}
+use Rattle.layout.specs.Laws.Res.{cond-ok}
 use Rattle.layout.specs.Laws.Plain.{or-false}
 use Rattle.basics.specs.declared.IterationOrder.the-variants.{Ascending}
 use Rattle.basics.specs.declared.Time.the-variants.{Absent}
@@ -66,7 +66,7 @@ rowTo at x =
     }
 
 -- the words of that place are those of the cursor
-words-to : (c : Cursor) (x : Stepped) (r : RowRead) (k : Key) → x ≡ steppedTo c (found r k) → c .direction ≡ ascending → c .mark ≡ false → cursorWords (viewIn (placeTo x) []) ≡ cursorWords c
+words-to : (c : Cursor) (x : Stepped) (r : RowRead) (k : Key) → x ≡ steppedTo c (found r k) → c .order ≡ ascending → c .done ≡ false → cursorWords (viewIn (placeTo x) []) ≡ cursorWords c
 words-to c x r k e h m = ap (λ (y : Stepped). cursorWords (viewIn (placeTo y) [])) e ∙ rw (h, m)
 
 module _ (b ws key out row : List ℕ) where

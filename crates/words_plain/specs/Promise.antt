@@ -7,7 +7,7 @@ use mathlib.Core.Bool.{Bool, true, false, cond, not, _||_}
 use mathlib.Core.List.{List}
 use lib.Dec.{eqb}
 use lib.ListN.{length}
-use Rattle.layout.specs.Answer.{Res, ok, refuse}
+use Rattle.layout.specs.Res.{Res, ok, refuse}
 use Rattle.layout.specs.Cursor.{Step}
 use Rattle.step_plain_v2.specs.Ahead.{plainStep}
 use Rattle.row_words.specs.Words.{wordAt, cursorCount, rowCount}

@@ -4,12 +4,12 @@ use Prim.Native.Nat.{_-_}
 use mathlib.Core.Path.{_≡_, refl, sym, _∙_}
 use native.Mathlib.Omega.{arith}
 use borrow.Author.Needs.{needs}
-use Rattle.layout.specs.Answer.{ok}
+use Rattle.layout.specs.Res.{ok}
 use Rattle.layout.specs.Trailer.{trailerOf, allOffsets}
 use Rattle.layout.specs.Laws.Check.{check-trailer, check-offsets, check-rows}
-use Rattle.basics.specs.Answers.{yes, no}
+use Rattle.basics.specs.Answers.{yes, no, saysVerdict}
 use Rattle.trailer.specs.Laws.{offsets-used}
-use Rattle.trailer.specs.Says.{trailerFrom, saysTrailer, saysTested, refusalOfTrailer}
+use Rattle.trailer.specs.Says.{trailerFrom, saysTrailer, refusalOfTrailer}
 use Rattle.block_check_v2.specs.Laws.{leaves-as, stands-first, stands-over}
 use Rattle.block_check_v2.specs.Walk.{Stands}
 use Rattle.block_check_v2.proofs.check.Statement.{statement}
@@ -29,36 +29,15 @@ module _ (k : tie.After-known-told Inv-loop μ-loop) where
 -- the offsets that were tested
 module _ (o : tie.After-enum-told2 Inv-loop μ-loop) where
   rises : allOffsets (o .before .before .before .before .before .before .before .before .args .block .now) (trailerFrom (o .before .before .before .before .trailer .given .0 .0)) ≡ ok tt
-  rises = sym (offsets-used _ _ (read (o .before .before .before))) ∙ yes saysTested (o .before .before .all-offsets .ensures) (o .enum-told2 .given .1)
-
-trailer-of-requires : tie.Need-trailer-of-requires Inv-loop μ-loop
-trailer-of-requires c κs = search needs
-
-enum-known-trailer : tie.Need-enum-known-trailer Inv-loop μ-loop
-enum-known-trailer c = search needs
-
-enum-told : tie.Need-enum-told Inv-loop μ-loop
-enum-told c = search needs
-
-trailer-refusal-requires : tie.Need-trailer-refusal-requires Inv-loop μ-loop
-trailer-refusal-requires c κs = search needs
+  rises = sym (offsets-used _ _ (read (o .before .before .before))) ∙ yes saysVerdict (o .before .before .all-offsets .ensures) (o .enum-told2 .given .1)
 
 returns : tie.Need-returns Inv-loop μ-loop
 returns c = check-trailer _ (no saysTrailer refusalOfTrailer (c .before .before .before .trailer-of .ensures) (c .before .enum-told .given .1) refl (c .trailer-refusal .ensures))
 
-all-offsets-requires : tie.Need-all-offsets-requires Inv-loop μ-loop
-all-offsets-requires c κs = search needs
-
-enum-known-tested : tie.Need-enum-known-tested Inv-loop μ-loop
-enum-known-tested c = search needs
-
 returns-2 : tie.Need-returns-2 Inv-loop μ-loop
 returns-2 c =
     let e = read (c .before .before .before .before) in
-    check-offsets _ _ e (sym (offsets-used _ _ e) ∙ yes saysTested (c .before .before .before .all-offsets .ensures) (c .before .tested .given .1))
-
-enum-told-2 : tie.Need-enum-told-2 Inv-loop μ-loop
-enum-told-2 c = search needs
+    check-offsets _ _ e (sym (offsets-used _ _ e) ∙ yes saysVerdict (c .before .before .before .all-offsets .ensures) (c .before .tested .given .1))
 
 loop-holds : tie.Need-loop-holds Inv-loop μ-loop
 loop-holds c = stands-first _ _ (read (c .before .before .before)) (rises c) _ refl
@@ -69,17 +48,11 @@ slice-aggregate-check-region c = sym (c .before .before .before .loop .inv .chec
 check-region-requires : tie.Need-check-region-requires Inv-loop μ-loop
 check-region-requires c κs = (read (c .before .before .before .before .before .before .before), (c .before .if1 .taken, c .before .before .before .loop .inv))
 
-enum-known-walked : tie.Need-enum-known-walked Inv-loop μ-loop
-enum-known-walked c = search needs
-
 loop-less : tie.Need-loop-less Inv-loop μ-loop
 loop-less c = let l = leaves-as _ _ _ _ (c .before .before .before .before .check-region .ensures) (c .before .walked .given .1) .0 in omega arith
 
 loop-again : tie.Need-loop-again Inv-loop μ-loop
 loop-again c = leaves-as _ _ _ _ (c .before .before .before .before .check-region .ensures) (c .before .walked .given .1) .1
-
-enum-known-walked-2 : tie.Need-enum-known-walked-2 Inv-loop μ-loop
-enum-known-walked-2 c = search needs
 
 returns-3 : tie.Need-returns-3 Inv-loop μ-loop
 returns-3 c =
@@ -95,23 +68,6 @@ pub check-spec : {M : Type 1} → statement M
 check-spec =
     tie.close
     (tie.spec
-    Inv-loop
-    μ-loop
-    trailer-of-requires
-    enum-known-trailer
-    enum-told
-    trailer-refusal-requires
-    returns
-    all-offsets-requires
-    enum-known-tested
-    returns-2
-    enum-told-2
-    loop-holds
-    slice-aggregate-check-region
-    check-region-requires
-    enum-known-walked
-    loop-less
-    loop-again
-    enum-known-walked-2
-    returns-3
-    returns-4)
+    Inv-loop μ-loop (search needs) (search needs) (search needs) (search needs) returns (search needs)
+    (search needs) returns-2 (search needs) loop-holds slice-aggregate-check-region check-region-requires
+    (search needs) loop-less loop-again (search needs) returns-3 returns-4)

@@ -9,7 +9,7 @@ use lib.Dec.{eqb}
 use lib.ListN.{length, length-take}
 use lib.Seq.{length-take-le}
 use borrow.Author.Needs.{needs}
-use Rattle.layout.specs.Answer.{ok}
+use Rattle.layout.specs.Res.{ok}
 use Rattle.layout.specs.Plain.{RowSpan}
 use Rattle.layout.specs.RowRead.{RowRead as RowReadL}
 use Rattle.layout.specs.Trailer.{Trailer, trailerOf, dataOf, regionOf, rowIn}
@@ -87,18 +87,6 @@ module _ (n : tie.Else2 Inv-loop μ-loop) where
   shares : row .shared ≤ turn .loop .key-len
   shares = row-shares _ _ _ _ _ _ told
 
-region-of-requires : tie.Need-region-of-requires Inv-loop μ-loop
-region-of-requires c κs = search needs
-
-enum-known-bounds : tie.Need-enum-known-bounds Inv-loop μ-loop
-enum-known-bounds c = search needs
-
-enum-told : tie.Need-enum-told Inv-loop μ-loop
-enum-told c = search needs
-
-region-refusal-requires : tie.Need-region-refusal-requires Inv-loop μ-loop
-region-refusal-requires c κs = search needs
-
 returns : tie.Need-returns Inv-loop μ-loop
 returns c =
     let s = c .before .before .before .before .before .before in
@@ -113,12 +101,6 @@ loop-holds : tie.Need-loop-holds Inv-loop μ-loop
 loop-holds c =
     let s = c .before .before .before .before .before .before .before in
     the-trailer _ _ _ (s .pre .0) (stands-walks _ _ _ _ (s .pre .1 .1) (s .pre .1 .0) _ (used (c .before)))
-
-span-at-requires : tie.Need-span-at-requires Inv-loop μ-loop
-span-at-requires c κs = search needs
-
-refusal-at-requires : tie.Need-refusal-at-requires Inv-loop μ-loop
-refusal-at-requires c κs = search needs
 
 same-length : tie.Need-same-length Inv-loop μ-loop
 same-length c = kept (c .before .before .before .before .before .before .before)
@@ -152,9 +134,6 @@ part-is-below-start-2 c = shares (c .before .before .before)
 part-is-below-end-2 : tie.Need-part-is-below-end-2 Inv-loop μ-loop
 part-is-below-end-2 c = let w = walk (turn (c .before .before .before)) .checking .holds in omega (arith, w .few, w .whole)
 
-is-below-requires : tie.Need-is-below-requires Inv-loop μ-loop
-is-below-requires c κs = search needs
-
 same-length-2 : tie.Need-same-length-2 Inv-loop μ-loop
 same-length-2 c = kept (turn (c .before .before .before .before .before .before))
 
@@ -171,9 +150,6 @@ part-copy-in-start c = omega arith
 
 part-copy-in-end : tie.Need-part-copy-in-end Inv-loop μ-loop
 part-copy-in-end c = told (c .before .before .before .before .before .before .before) .suffix
-
-copy-in-requires : tie.Need-copy-in-requires Inv-loop μ-loop
-copy-in-requires c κs = search needs
 
 add-key-len : tie.Need-add-key-len Inv-loop μ-loop
 add-key-len c = omega (arith, told (c .before .before .before .before .before .before .before .before .before .before .before .before) .fits)
@@ -211,37 +187,8 @@ pub check-region-spec : {M : Type 1} → statement M
 check-region-spec =
     tie.close
     (tie.spec
-    Inv-loop
-    μ-loop
-    region-of-requires
-    enum-known-bounds
-    enum-told
-    region-refusal-requires
-    returns
-    slice-aggregate-data
-    loop-holds
-    span-at-requires
-    refusal-at-requires
-    same-length
-    returns-2
-    add-to
-    sub-is-below
-    part-is-below-start
-    part-is-below-end
-    sub-is-below-2
-    part-is-below-start-2
-    part-is-below-end-2
-    is-below-requires
-    same-length-2
-    returns-3
-    sub-copy-in
-    part-copy-in-start
-    part-copy-in-end
-    copy-in-requires
-    add-key-len
-    add-rows
-    loop-less
-    loop-again
-    add-t37
-    same-length-3
-    returns-4)
+    Inv-loop μ-loop (search needs) (search needs) (search needs) (search needs) returns slice-aggregate-data
+    loop-holds (search needs) (search needs) same-length returns-2 add-to sub-is-below part-is-below-start
+    part-is-below-end sub-is-below-2 part-is-below-start-2 part-is-below-end-2 (search needs) same-length-2
+    returns-3 sub-copy-in part-copy-in-start part-copy-in-end (search needs) add-key-len add-rows loop-less
+    loop-again add-t37 same-length-3 returns-4)

@@ -6,23 +6,11 @@ use borrow.Author.Needs.{needs}
 use Rattle.block_iterator_v2.proofs.answer_of.Statement.{statement}
 use Rattle.block_iterator_v2.proofs.answer_of.Tie as tie
 
-enum-known-moved : tie.Need-enum-known-moved
-enum-known-moved c = search needs
-
-enum-told : tie.Need-enum-told
-enum-told c = search needs
-
-enum-known-moved-2 : tie.Need-enum-known-moved-2
-enum-known-moved-2 c = search needs
-
 returns : tie.Need-returns
 returns c = sym (ap answerOf (c .before .moved .given .1))
-
-returns-2 : tie.Need-returns-2
-returns-2 c = search needs
 
 returns-3 : tie.Need-returns-3
 returns-3 c = sym (ap answerOf (c .before .moved2 .given .1))
 
 pub answer-of-spec : {M : Type 1} → statement M
-answer-of-spec = tie.close (tie.spec enum-known-moved enum-told enum-known-moved-2 returns returns-2 returns-3)
+answer-of-spec = tie.close (tie.spec (search needs) (search needs) (search needs) returns (search needs) returns-3)

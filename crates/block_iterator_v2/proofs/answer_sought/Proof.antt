@@ -6,15 +6,6 @@ use borrow.Author.Needs.{needs}
 use Rattle.block_iterator_v2.proofs.answer_sought.Statement.{statement}
 use Rattle.block_iterator_v2.proofs.answer_sought.Tie as tie
 
-enum-known-found : tie.Need-enum-known-found
-enum-known-found c = search needs
-
-enum-known-found-2 : tie.Need-enum-known-found-2
-enum-known-found-2 c = search needs
-
-enum-known-found-3 : tie.Need-enum-known-found-3
-enum-known-found-3 c = search needs
-
 returns : tie.Need-returns
 returns c = sym (ap answerFound (c .before .found .given .1))
 
@@ -27,4 +18,4 @@ returns-3 c = sym (ap answerFound (c .before .found3 .given .1))
 pub answer-sought-spec : {M : Type 1} → statement M
 answer-sought-spec =
     tie.close
-    (tie.spec enum-known-found enum-known-found-2 enum-known-found-3 returns returns-2 returns-3)
+    (tie.spec (search needs) (search needs) (search needs) returns returns-2 returns-3)

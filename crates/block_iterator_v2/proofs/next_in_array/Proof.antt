@@ -7,16 +7,10 @@ use borrow.Author.Needs.{needs}
 use Rattle.block_iterator_v2.proofs.next_in_array.Statement.{statement}
 use Rattle.block_iterator_v2.proofs.next_in_array.Tie as tie
 
-next-in-place-requires : tie.Need-next-in-place-requires
-next-in-place-requires c κs = search needs
-
-same-length : tie.Need-same-length
-same-length c = search needs
-
 returns : tie.Need-returns
 returns c =
     let s = c .before .before .before .before .before .before .before in
     moves-as _ _ _ _ (sym (lent-whole _ _ _ _ (s .pre) refl)) (c .before .before .next-in-place .ensures)
 
 pub next-in-array-spec : {M : Type 1} → statement M
-next-in-array-spec = tie.close (tie.spec next-in-place-requires same-length returns)
+next-in-array-spec = tie.close (tie.spec (search needs) (search needs) returns)

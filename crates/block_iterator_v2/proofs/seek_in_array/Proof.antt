@@ -7,11 +7,8 @@ use borrow.Author.Needs.{needs}
 use Rattle.block_iterator_v2.proofs.seek_in_array.Statement.{statement}
 use Rattle.block_iterator_v2.proofs.seek_in_array.Tie as tie
 
-seek-in-place-requires : tie.Need-seek-in-place-requires
-seek-in-place-requires c κs = search needs
-
 returns : tie.Need-returns
 returns c = let s = c .before .before .before .before in finds-as _ _ _ (sym (lent-whole _ _ _ _ (s .pre) refl)) (c .seek-in-place .ensures)
 
 pub seek-in-array-spec : {M : Type 1} → statement M
-seek-in-array-spec = tie.close (tie.spec seek-in-place-requires returns)
+seek-in-array-spec = tie.close (tie.spec (search needs) returns)

@@ -32,12 +32,6 @@ returns c = last-strange _ _ _ (c .if1 .taken)
 loop-holds : tie.Need-loop-holds Inv-loop μ-loop
 loop-holds c = down-start _ _ _ _ (c .if1 .left)
 
-span-at-requires : tie.Need-span-at-requires Inv-loop μ-loop
-span-at-requires c κs = search needs
-
-refusal-at-requires : tie.Need-refusal-at-requires Inv-loop μ-loop
-refusal-at-requires c κs = search needs
-
 returns-2 : tie.Need-returns-2 Inv-loop μ-loop
 returns-2 c =
     let k = c .before .before in
@@ -57,14 +51,8 @@ part-match-down-start c = omega arith
 part-match-down-end : tie.Need-part-match-down-end Inv-loop μ-loop
 part-match-down-end c = tells (c .before) .suffix
 
-match-down-requires : tie.Need-match-down-requires Inv-loop μ-loop
-match-down-requires c κs = search needs
-
 add-len : tie.Need-add-len Inv-loop μ-loop
 add-len c = omega (arith, tells (c .before .before .before .before) .few)
-
-later-requires : tie.Need-later-requires Inv-loop μ-loop
-later-requires c κs = search needs
 
 loop-less : tie.Need-loop-less Inv-loop μ-loop
 loop-less c = let w = tells (c .before .before .before .before .before) in omega (arith, w .least, w .within)
@@ -83,20 +71,6 @@ pub last-at-or-below-spec : {M : Type 1} → statement M
 last-at-or-below-spec =
     tie.close
     (tie.spec
-    Inv-loop
-    μ-loop
-    returns
-    loop-holds
-    span-at-requires
-    refusal-at-requires
-    returns-2
-    add-to
-    sub-match-down
-    part-match-down-start
-    part-match-down-end
-    match-down-requires
-    add-len
-    later-requires
-    loop-less
-    loop-again
+    Inv-loop μ-loop returns loop-holds (search needs) (search needs) returns-2 add-to sub-match-down
+    part-match-down-start part-match-down-end (search needs) add-len (search needs) loop-less loop-again
     returns-3)

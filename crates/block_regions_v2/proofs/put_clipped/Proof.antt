@@ -13,26 +13,11 @@ use Rattle.block_regions_v2.proofs.put_clipped.Tie as tie
 returns : tie.Need-returns
 returns c = clipped-none _ _ _ (c .if1 .taken)
 
-sub-room : tie.Need-sub-room
-sub-room c = search needs
-
 slice-aggregate-copy-in : tie.Need-slice-aggregate-copy-in
 slice-aggregate-copy-in c = sym (length-take-le _ _ (omega arith))
 
-copy-in-requires : tie.Need-copy-in-requires
-copy-in-requires c κs = search needs
-
-same-length : tie.Need-same-length
-same-length c = search needs
-
 returns-2 : tie.Need-returns-2
 returns-2 c = let a = c .before .before .before .before .before .before .before .before .before .args in clipped-part _ _ _ (c .before .before .before .before .before .before .if1 .left) (copied (rw (length-take (length (a .key .now) - a .at) (a .src .now)) (omega arith)) (c .before .before .copy-in .ensures))
-
-copy-in-requires-2 : tie.Need-copy-in-requires-2
-copy-in-requires-2 c κs = search needs
-
-same-length-2 : tie.Need-same-length-2
-same-length-2 c = search needs
 
 returns-3 : tie.Need-returns-3
 returns-3 c = clipped-whole _ _ _ (c .before .before .before .before .before .if1 .left) (c .before .before .before .before .if2 .left) (copied (omega arith) (c .before .before .copy-in2 .ensures))
@@ -41,12 +26,5 @@ pub put-clipped-spec : {M : Type 1} → statement M
 put-clipped-spec =
     tie.close
     (tie.spec
-    returns
-    sub-room
-    slice-aggregate-copy-in
-    copy-in-requires
-    same-length
-    returns-2
-    copy-in-requires-2
-    same-length-2
-    returns-3)
+    returns (search needs) slice-aggregate-copy-in (search needs) (search needs) returns-2 (search needs)
+    (search needs) returns-3)

@@ -26,9 +26,6 @@ module _ (k : tie.Else1 Inv-loop μ-loop) where
 loop-holds : tie.Need-loop-holds Inv-loop μ-loop
 loop-holds c = reaching-start _ _ _ (c .before .pre)
 
-span-at-requires : tie.Need-span-at-requires Inv-loop μ-loop
-span-at-requires c κs = search needs
-
 returns : tie.Need-returns Inv-loop μ-loop
 returns c = record { there = c .before .before .before .before .loop .inv; far = reaching-far _ _ _ _ _ _ (c .before .before .before .before .loop .inv) (spanFrom (c .before .before .span-at .result)) (c .before .before .span-at .ensures) (λ z. absurd (z (c .if1 .taken))) }
 
@@ -37,9 +34,6 @@ returns-2 c = record { there = c .before .before .before .before .before .before
 
 add-len : tie.Need-add-len Inv-loop μ-loop
 add-len c = omega (arith, tells (c .before .before .before) .few)
-
-known-after-requires : tie.Need-known-after-requires Inv-loop μ-loop
-known-after-requires c κs = search needs
 
 loop-less : tie.Need-loop-less Inv-loop μ-loop
 loop-less c = let w = tells (c .before .before .before .before) in omega (arith, w .least, c .before .before .if2 .left)
@@ -51,13 +45,4 @@ pub reach-spec : {M : Type 1} → statement M
 reach-spec =
     tie.close
     (tie.spec
-    Inv-loop
-    μ-loop
-    loop-holds
-    span-at-requires
-    returns
-    returns-2
-    add-len
-    known-after-requires
-    loop-less
-    loop-again)
+    Inv-loop μ-loop loop-holds (search needs) returns returns-2 add-len (search needs) loop-less loop-again)

@@ -9,15 +9,6 @@ use Rattle.block_regions_v2.proofs.rebuild_from.Tie as tie
 
 -- `rebuild_from` keeps its promise: the target's first bytes are those that the row to start from shares, and the rows from there on make the key.
 
-put-clipped-requires : tie.Need-put-clipped-requires
-put-clipped-requires c κs = search needs
-
-rebuild-key-requires : tie.Need-rebuild-key-requires
-rebuild-key-requires c κs = search needs
-
-same-length : tie.Need-same-length
-same-length c = search needs
-
 returns : tie.Need-returns
 returns c =
     let a = c .before .before .before .before .before .before .before .before .before .before .before .args in
@@ -28,4 +19,4 @@ returns c =
 
 pub rebuild-from-spec : {M : Type 1} → statement M
 rebuild-from-spec =
-    tie.close (tie.spec put-clipped-requires rebuild-key-requires same-length returns)
+    tie.close (tie.spec (search needs) (search needs) (search needs) returns)

@@ -33,12 +33,6 @@ returns c = λ wanted f. filling-none wanted _ (c .if1 .taken)
 loop-holds : tie.Need-loop-holds Inv-loop μ-loop
 loop-holds c = (λ wanted f. f, refl)
 
-span-at-requires : tie.Need-span-at-requires Inv-loop μ-loop
-span-at-requires c κs = search needs
-
-same-length : tie.Need-same-length Inv-loop μ-loop
-same-length c = search needs
-
 returns-2 : tie.Need-returns-2 Inv-loop μ-loop
 returns-2 c = λ wanted f. filling-read _ _ _ wanted _ _ _ (c .before .before .before .before .before .loop .inv .0 wanted f) (c .before .before .before .before .loop-test .taken) (spanFrom (c .before .before .span-at .result)) (c .before .before .span-at .ensures) (c .if2 .taken)
 
@@ -54,9 +48,6 @@ part-put-clipped-start c = omega arith
 part-put-clipped-end : tie.Need-part-put-clipped-end Inv-loop μ-loop
 part-put-clipped-end c = tells (c .before .before) .suffix
 
-put-clipped-requires : tie.Need-put-clipped-requires Inv-loop μ-loop
-put-clipped-requires c κs = search needs
-
 add-len : tie.Need-add-len Inv-loop μ-loop
 add-len c = omega (arith, tells (c .before .before .before .before .before .before .before) .few)
 
@@ -66,9 +57,6 @@ loop-less c = let w = tells (c .before .before .before .before .before .before .
 loop-again : tie.Need-loop-again Inv-loop μ-loop
 loop-again c = (λ wanted f. filling-more _ _ _ wanted _ _ _ (c .before .before .before .before .before .before .before .before .before .before .before .before .loop .inv .0 wanted f) (c .before .before .before .before .before .before .before .before .before .before .before .loop-test .taken) (spanFrom (c .before .before .before .before .before .before .before .before .before .span-at .result)) (c .before .before .before .before .before .before .before .before .before .span-at .ensures) (c .before .before .before .put-clipped .ensures), search needs)
 
-same-length-2 : tie.Need-same-length-2 Inv-loop μ-loop
-same-length-2 c = search needs
-
 returns-3 : tie.Need-returns-3 Inv-loop μ-loop
 returns-3 c = λ wanted f. let l = c .before in filling-over _ _ _ wanted _ _ _ (l .loop .inv .0 wanted f) (c .loop-test .left) ∙ ap (λ (n : ℕ). take n wanted) (l .loop .inv .1)
 
@@ -76,20 +64,6 @@ pub rebuild-key-spec : {M : Type 1} → statement M
 rebuild-key-spec =
     tie.close
     (tie.spec
-    Inv-loop
-    μ-loop
-    returns
-    loop-holds
-    span-at-requires
-    same-length
-    returns-2
-    add-end
-    sub-put-clipped
-    part-put-clipped-start
-    part-put-clipped-end
-    put-clipped-requires
-    add-len
-    loop-less
-    loop-again
-    same-length-2
+    Inv-loop μ-loop returns loop-holds (search needs) (search needs) returns-2 add-end sub-put-clipped
+    part-put-clipped-start part-put-clipped-end (search needs) add-len loop-less loop-again (search needs)
     returns-3)

@@ -1,6 +1,6 @@
 use mathlib.Core.Path.{_≡_, refl}
 use native.Mathlib.Omega.{arith}
-use Rattle.layout.specs.Answer.{ok}
+use Rattle.layout.specs.Res.{ok}
 use Rattle.layout.specs.Laws.Tells.{readRow-ends}
 use Rattle.layout.specs.Trailer.{rowIn}
 use Rattle.trailer.specs.Says.{regionFrom}
@@ -24,21 +24,6 @@ module _ (k : tie.After-known-told) where
 returns : tie.Need-returns
 returns c = gives-not refl (ending-none _ _ _ _ (c .if1 .taken))
 
-reach-requires : tie.Need-reach-requires
-reach-requires c κs = search needs
-
-row-at-requires : tie.Need-row-at-requires
-row-at-requires c κs = search needs
-
-enum-known-read : tie.Need-enum-known-read
-enum-known-read c = search needs
-
-enum-told : tie.Need-enum-told
-enum-told c = search needs
-
-row-refusal-requires : tie.Need-row-refusal-requires
-row-refusal-requires c κs = search needs
-
 returns-2 : tie.Need-returns-2
 returns-2 c = ended-no _ _ _ _ (c .before .before .before .before .before .before .if1 .left) (c .before .before .before .before .before .reach .result) (c .before .before .before .before .before .reach .ensures) (no saysRow refusalOfRow (c .before .before .before .row-at .ensures) (c .before .enum-told .given .1) refl (c .row-refusal .ensures))
 
@@ -51,27 +36,12 @@ add-if3 c = omega (arith, readRow-ends _ _ _ _ _ _ (read (c .before .before .bef
 returns-4 : tie.Need-returns-4
 returns-4 c = let k = c .before .before .before .before in ended-short _ _ _ _ (k .before .before .before .before .before .before .if1 .left) (k .before .before .before .before .before .reach .result) (k .before .before .before .before .before .reach .ensures) (k .before .read .given .0 .0) (read k) (c .before .before .if2 .left) (c .if3 .taken)
 
-put-shared-requires : tie.Need-put-shared-requires
-put-shared-requires c κs = search needs
-
 add-end : tie.Need-add-end
 add-end c = let s = c .before .before .before .before .before .before .before .before .before .before .before .before .before .before .before .before .before .before .before in omega (arith, readRow-ends _ _ _ _ _ _ (read (c .before .before .before .before .before .before .before .before .before)) .suffix, s .fits)
-
-sub-copy-in : tie.Need-sub-copy-in
-sub-copy-in c = search needs
-
-part-copy-in-start : tie.Need-part-copy-in-start
-part-copy-in-start c = search needs
 
 part-copy-in-end : tie.Need-part-copy-in-end
 part-copy-in-end c =
     readRow-ends _ _ _ _ _ _ (read (c .before .before .before .before .before .before .before .before .before .before)) .suffix
-
-copy-in-requires : tie.Need-copy-in-requires
-copy-in-requires c κs = search needs
-
-same-length : tie.Need-same-length
-same-length c = search needs
 
 returns-5 : tie.Need-returns-5
 returns-5 c =
@@ -87,21 +57,6 @@ pub row-ending-at-spec : {M : Type 1} → statement M
 row-ending-at-spec =
     tie.close
     (tie.spec
-    returns
-    reach-requires
-    row-at-requires
-    enum-known-read
-    enum-told
-    row-refusal-requires
-    returns-2
-    returns-3
-    add-if3
-    returns-4
-    put-shared-requires
-    add-end
-    sub-copy-in
-    part-copy-in-start
-    part-copy-in-end
-    copy-in-requires
-    same-length
-    returns-5)
+    returns (search needs) (search needs) (search needs) (search needs) (search needs) returns-2 returns-3
+    add-if3 returns-4 (search needs) add-end (search needs) (search needs) part-copy-in-end (search needs)
+    (search needs) returns-5)

@@ -11,12 +11,6 @@ use Rattle.block_regions_v2.proofs.walk_into.Tie as tie
 returns : tie.Need-returns
 returns c = into-strange _ _ _ _ (c .if1 .taken)
 
-walk-place-requires : tie.Need-walk-place-requires
-walk-place-requires c κs = search needs
-
-refusal-at-requires : tie.Need-refusal-at-requires
-refusal-at-requires c κs = search needs
-
 returns-2 : tie.Need-returns-2
 returns-2 c = into-no _ _ _ _ (c .before .before .before .before .before .if1 .left) (c .before .before .before .before .walk-place .result) (c .before .before .before .before .walk-place .ensures) (c .before .before .if2 .taken) (c .refusal-at .ensures)
 
@@ -26,18 +20,9 @@ returns-3 c = into-end _ _ _ _ (c .before .before .before .before .before .if1 .
 returns-4 : tie.Need-returns-4
 returns-4 c = into-short _ _ _ _ (c .before .before .before .before .before .before .if1 .left) (c .before .before .before .before .before .walk-place .result) (c .before .before .before .before .before .walk-place .ensures) (c .before .before .before .if2 .left) (c .before .if3 .left) (c .if4 .taken)
 
-slice-relend-prefix-rebuild-from : tie.Need-slice-relend-prefix-rebuild-from
-slice-relend-prefix-rebuild-from c = search needs
-
 slice-aggregate-rebuild-from : tie.Need-slice-aggregate-rebuild-from
 slice-aggregate-rebuild-from c =
     sym (length-take-le _ _ (c .before .if4 .left))
-
-rebuild-from-requires : tie.Need-rebuild-from-requires
-rebuild-from-requires c κs = search needs
-
-same-length : tie.Need-same-length
-same-length c = search needs
 
 returns-5 : tie.Need-returns-5
 returns-5 c =
@@ -49,14 +34,5 @@ pub walk-into-spec : {M : Type 1} → statement M
 walk-into-spec =
     tie.close
     (tie.spec
-    returns
-    walk-place-requires
-    refusal-at-requires
-    returns-2
-    returns-3
-    returns-4
-    slice-relend-prefix-rebuild-from
-    slice-aggregate-rebuild-from
-    rebuild-from-requires
-    same-length
-    returns-5)
+    returns (search needs) (search needs) returns-2 returns-3 returns-4 (search needs)
+    slice-aggregate-rebuild-from (search needs) (search needs) returns-5)

@@ -29,12 +29,6 @@ module _ (k : tie.Else2 Inv-loop μ-loop) where
 loop-holds : tie.Need-loop-holds Inv-loop μ-loop
 loop-holds c = climbing-start _ _ _ _ (c .before .before .pre)
 
-span-at-requires : tie.Need-span-at-requires Inv-loop μ-loop
-span-at-requires c κs = search needs
-
-halt-requires : tie.Need-halt-requires Inv-loop μ-loop
-halt-requires c κs = search needs
-
 returns : tie.Need-returns Inv-loop μ-loop
 returns c = halts-no _ _ _ _ _ _ _ _ (c .before .before .before .before .before .before .before .loop .inv) (c .before .before .before .before .before .if1 .taken) (spanFrom (c .before .before .before .span-at .result)) (c .before .before .before .span-at .ensures) (c .before .if2 .taken) (c .halt .ensures)
 
@@ -50,20 +44,8 @@ part-match-up-start c = omega arith
 part-match-up-end : tie.Need-part-match-up-end Inv-loop μ-loop
 part-match-up-end c = tells (c .before) .suffix
 
-match-up-requires : tie.Need-match-up-requires Inv-loop μ-loop
-match-up-requires c κs = search needs
-
-halt-requires-2 : tie.Need-halt-requires-2 Inv-loop μ-loop
-halt-requires-2 c κs = search needs
-
 returns-2 : tie.Need-returns-2 Inv-loop μ-loop
 returns-2 c = let k = c .before .before .before .before .before .before in halts-there _ _ _ _ _ _ _ _ (k .before .before .before .before .before .before .loop .inv) (climbing-stop _ _ _ _ _ _ _ _ _ (k .before .before .before .before .before .before .loop .inv) (k .before .before .before .before .if1 .taken) (spanFrom (k .before .before .span-at .result)) (k .before .before .span-at .ensures) (k .if2 .left) (c .before .before .before .match-up .ensures .below-is) (c .before .if3 .taken)) (c .halt2 .ensures)
-
-latest-requires : tie.Need-latest-requires Inv-loop μ-loop
-latest-requires c κs = search needs
-
-latest-requires-2 : tie.Need-latest-requires-2 Inv-loop μ-loop
-latest-requires-2 c κs = search needs
 
 add-len : tie.Need-add-len Inv-loop μ-loop
 add-len c = omega (arith, tells (c .before .before .before .before .before .before .before .before) .few)
@@ -74,9 +56,6 @@ loop-less c = let w = tells (c .before .before .before .before .before .before .
 loop-again : tie.Need-loop-again Inv-loop μ-loop
 loop-again c = let k = c .before .before .before .before .before .before .before .before in climbing-more _ _ _ _ _ _ _ _ _ (k .before .before .before .before .before .before .loop .inv) (k .before .before .before .before .if1 .taken) (spanFrom (k .before .before .span-at .result)) (k .before .before .span-at .ensures) (k .if2 .left) (c .before .before .before .before .before .match-up .ensures .below-is) (c .before .before .before .if3 .left) (c .before .before .before .before .before .match-up .ensures .len-is) (c .before .before .latest .ensures) (c .before .latest2 .ensures)
 
-halt-requires-3 : tie.Need-halt-requires-3 Inv-loop μ-loop
-halt-requires-3 c κs = search needs
-
 returns-3 : tie.Need-returns-3 Inv-loop μ-loop
 returns-3 c = let l = c .before .before .before in halts-there _ _ _ _ _ _ _ _ (l .loop .inv) (climbing-over _ _ _ _ _ _ _ _ _ (l .loop .inv) (c .before .if1 .left)) (c .halt3 .ensures)
 
@@ -84,23 +63,6 @@ pub walk-place-spec : {M : Type 1} → statement M
 walk-place-spec =
     tie.close
     (tie.spec
-    Inv-loop
-    μ-loop
-    loop-holds
-    span-at-requires
-    halt-requires
-    returns
-    add-end
-    sub-match-up
-    part-match-up-start
-    part-match-up-end
-    match-up-requires
-    halt-requires-2
-    returns-2
-    latest-requires
-    latest-requires-2
-    add-len
-    loop-less
-    loop-again
-    halt-requires-3
-    returns-3)
+    Inv-loop μ-loop loop-holds (search needs) (search needs) returns add-end sub-match-up
+    part-match-up-start part-match-up-end (search needs) (search needs) returns-2 (search needs)
+    (search needs) add-len loop-less loop-again (search needs) returns-3)

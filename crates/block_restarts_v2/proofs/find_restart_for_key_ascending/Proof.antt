@@ -8,23 +8,8 @@ use borrow.Author.Needs.{needs}
 use Rattle.block_restarts_v2.proofs.find_restart_for_key_ascending.Statement.{statement}
 use Rattle.block_restarts_v2.proofs.find_restart_for_key_ascending.Tie as tie
 
-search-restarts-requires : tie.Need-search-restarts-requires
-search-restarts-requires c κs = search needs
-
-enum-known-s : tie.Need-enum-known-s
-enum-known-s c = search needs
-
-enum-told : tie.Need-enum-told
-enum-told c = search needs
-
-search-refusal-requires : tie.Need-search-refusal-requires
-search-refusal-requires c κs = search needs
-
 returns : tie.Need-returns
 returns c = up-no _ _ _ (no saysSearch refusalOfSearch (c .before .before .before .search-restarts .ensures) (c .before .enum-told .given .1) refl (c .search-refusal .ensures))
-
-earlier-requires : tie.Need-earlier-requires
-earlier-requires c κs = search needs
 
 returns-2 : tie.Need-returns-2
 returns-2 c =
@@ -34,11 +19,4 @@ returns-2 c =
 pub find-restart-for-key-ascending-spec : {M : Type 1} → statement M
 find-restart-for-key-ascending-spec =
     tie.close
-    (tie.spec
-    search-restarts-requires
-    enum-known-s
-    enum-told
-    search-refusal-requires
-    returns
-    earlier-requires
-    returns-2)
+    (tie.spec (search needs) (search needs) (search needs) (search needs) returns (search needs) returns-2)

@@ -1,7 +1,7 @@
 -- `find_restart_for_key_descending` keeps its promise: the search's refusal, or what follows from the restart found.
 -- A search that was not refused has tested the trailer, which is what reading that restart requires.
 use mathlib.Core.Path.{_≡_, refl, sym, _∙_}
-use Rattle.layout.specs.Answer.{ok}
+use Rattle.layout.specs.Res.{ok}
 use Rattle.layout.specs.Seek.{foundIs}
 use Rattle.basics.specs.Answers.{yes, no}
 use Rattle.keys.specs.Says.{saysOrdering}
@@ -28,23 +28,8 @@ module _ (k : tie.After-known-told2) where
       restartCompared (a .block .now) (trailerFrom (a .t)) (a .target .now) (met .before .s .given .0 .0) ≡ ok (saysOrdering (k .before .compared .given .0 .0))
   here-compared = yes saysCompared (k .before .before .before .compare-first-key-at-restart .ensures) (k .before .compared .given .1)
 
-search-restarts-requires : tie.Need-search-restarts-requires
-search-restarts-requires c κs = search needs
-
-enum-known-s : tie.Need-enum-known-s
-enum-known-s c = search needs
-
-enum-told : tie.Need-enum-told
-enum-told c = search needs
-
-search-refusal-requires : tie.Need-search-refusal-requires
-search-refusal-requires c κs = search needs
-
 returns : tie.Need-returns
 returns c = down-no _ _ _ (no saysSearch refusalOfSearch (c .before .before .before .search-restarts .ensures) (c .before .enum-told .given .1) refl (c .search-refusal .ensures))
-
-earlier-requires : tie.Need-earlier-requires
-earlier-requires c κs = search needs
 
 returns-2 : tie.Need-returns-2
 returns-2 c = down-past _ _ _ _ (found (c .before .before .before)) (c .if1 .taken) (c .before .before .earlier .ensures)
@@ -52,24 +37,12 @@ returns-2 c = down-past _ _ _ _ (found (c .before .before .before)) (c .if1 .tak
 compare-first-key-at-restart-requires : tie.Need-compare-first-key-at-restart-requires
 compare-first-key-at-restart-requires c κs = (searched _ _ _ _ (found (c .before .before .before)), c .if1 .left)
 
-enum-known-compared : tie.Need-enum-known-compared
-enum-known-compared c = search needs
-
-enum-told-2 : tie.Need-enum-told-2
-enum-told-2 c = search needs
-
-compared-refusal-requires : tie.Need-compared-refusal-requires
-compared-refusal-requires c κs = search needs
-
 returns-3 : tie.Need-returns-3
 returns-3 c =
     let q = c .before .before .before in
     let i = q .before in
     down-refused _ _ _ _ (found (i .before .before .before)) (i .if1 .left)
     (no saysCompared refusalOfCompared (q .compare-first-key-at-restart .ensures) (c .before .enum-told2 .given .1) refl (c .compared-refusal .ensures))
-
-is-equal-requires : tie.Need-is-equal-requires
-is-equal-requires c κs = search needs
 
 last-equal-requires : tie.Need-last-equal-requires
 last-equal-requires c κs =
@@ -92,19 +65,6 @@ pub find-restart-for-key-descending-spec : {M : Type 1} → statement M
 find-restart-for-key-descending-spec =
     tie.close
     (tie.spec
-    search-restarts-requires
-    enum-known-s
-    enum-told
-    search-refusal-requires
-    returns
-    earlier-requires
-    returns-2
-    compare-first-key-at-restart-requires
-    enum-known-compared
-    enum-told-2
-    compared-refusal-requires
-    returns-3
-    is-equal-requires
-    last-equal-requires
-    returns-4
-    returns-5)
+    (search needs) (search needs) (search needs) (search needs) returns (search needs) returns-2
+    compare-first-key-at-restart-requires (search needs) (search needs) (search needs) returns-3
+    (search needs) last-equal-requires returns-4 returns-5)

@@ -4,7 +4,7 @@ use Prim.Native.Nat.{_+_, _-_, _<_}
 use mathlib.Core.Path.{_≡_, refl, sym, _∙_}
 use mathlib.Core.Bool.{Bool, true, false, not}
 use native.Mathlib.Omega.{arith}
-use Rattle.layout.specs.Answer.{ok}
+use Rattle.layout.specs.Res.{ok}
 use Rattle.layout.specs.Laws.Seek.{Running, running-start}
 use Rattle.basics.specs.Answers.{yes, no}
 use Rattle.keys.specs.Says.{saysOrdering}
@@ -49,24 +49,12 @@ add-next c = omega arith
 compare-first-key-at-restart-requires : tie.Need-compare-first-key-at-restart-requires Inv-loop μ-loop
 compare-first-key-at-restart-requires c κs = (c .before .before .before .before .pre .0, c .loop-test .taken)
 
-enum-known-compared : tie.Need-enum-known-compared Inv-loop μ-loop
-enum-known-compared c = search needs
-
-enum-told : tie.Need-enum-told Inv-loop μ-loop
-enum-told c = search needs
-
-compared-refusal-requires : tie.Need-compared-refusal-requires Inv-loop μ-loop
-compared-refusal-requires c κs = search needs
-
 returns : tie.Need-returns Inv-loop μ-loop
 returns c =
     let k = c .before .before .before in
     let l = k .before in
     run-no _ _ _ _ _ _ (l .before .loop .inv .0) (l .loop-test .taken)
     (no saysCompared refusalOfCompared (k .compare-first-key-at-restart .ensures) (c .before .enum-told .given .1) refl (c .compared-refusal .ensures))
-
-is-equal-requires : tie.Need-is-equal-requires Inv-loop μ-loop
-is-equal-requires c κs = search needs
 
 returns-2 : tie.Need-returns-2 Inv-loop μ-loop
 returns-2 c =
@@ -90,18 +78,5 @@ pub last-equal-spec : {M : Type 1} → statement M
 last-equal-spec =
     tie.close
     (tie.spec
-    Inv-loop
-    μ-loop
-    loop-holds
-    add-loop
-    add-next
-    compare-first-key-at-restart-requires
-    enum-known-compared
-    enum-told
-    compared-refusal-requires
-    returns
-    is-equal-requires
-    returns-2
-    loop-less
-    loop-again
-    returns-3)
+    Inv-loop μ-loop loop-holds add-loop add-next compare-first-key-at-restart-requires (search needs)
+    (search needs) (search needs) returns (search needs) returns-2 loop-less loop-again returns-3)

@@ -13,9 +13,6 @@ use Rattle.block_restarts_v2.proofs.search_restarts.Tie as tie
 known : (k : tie.Else1) → let a = k .before .before .before .before .args in (a .t .size + (2 + 2 * a .t .count) ≡ length (a .block .now)) × (0 < a .t .count)
 known k = has-is _ _ _ (rw (k .before .has-region .ensures) at (k .if1 .left))
 
-has-region-requires : tie.Need-has-region-requires
-has-region-requires c κs = search needs
-
 returns : tie.Need-returns
 returns c = handed-strange _ _ _ _ (rw (c .before .has-region .ensures) at (c .if1 .taken))
 
@@ -26,4 +23,4 @@ returns-2 : tie.Need-returns-2
 returns-2 c = search-there _ _ _ (known (c .before)) (c .binary-search-restarts .ensures)
 
 pub search-restarts-spec : {M : Type 1} → statement M
-search-restarts-spec = tie.close (tie.spec has-region-requires returns binary-search-restarts-requires returns-2)
+search-restarts-spec = tie.close (tie.spec (search needs) returns binary-search-restarts-requires returns-2)

@@ -20,48 +20,12 @@ module _ (k : tie.Else1) where
       let s = start in
       wide-tests (s .args .row .shared + s .args .row .unshared) (s .args .row .shared) (s .args .row .unshared) (length (s .args .«data» .now) - (s .args .at + 3)) (k .if1 .left)
 
-add-whole : tie.Need-add-whole
-add-whole c = search needs
-
-add-from : tie.Need-add-from
-add-from c = search needs
-
-add-end : tie.Need-add-end
-add-end c = search needs
-
-sub-if1 : tie.Need-sub-if1
-sub-if1 c = search needs
-
-sub-copy-in : tie.Need-sub-copy-in
-sub-copy-in c = search needs
-
-part-copy-in-start : tie.Need-part-copy-in-start
-part-copy-in-start c = search needs
-
-part-copy-in-end : tie.Need-part-copy-in-end
-part-copy-in-end c = search needs
-
-copy-in-requires : tie.Need-copy-in-requires
-copy-in-requires c κs = search needs
-
-slice-reshare-prefix-copy-in : tie.Need-slice-reshare-prefix-copy-in
-slice-reshare-prefix-copy-in c = search needs
-
 slice-aggregate-copy-in : tie.Need-slice-aggregate-copy-in
 slice-aggregate-copy-in c =
     let s = c .before .before .before .before .before .before .before .before .before .before .before .before .before .before in
     let f = s .pre .1 in
     let same : length (c .before .before .before .before .copy-in .last .0) ≡ maxKey = search needs in
     sym (length-take-le (s .args .row .shared + s .args .row .unshared) (c .before .before .before .before .copy-in .last .0) (omega (arith, f .shared-small, f .unshared-small)))
-
-copy-in-requires-2 : tie.Need-copy-in-requires-2
-copy-in-requires-2 c κs = search needs
-
-same-length : tie.Need-same-length
-same-length c = search needs
-
-same-length-2 : tie.Need-same-length-2
-same-length-2 c = search needs
 
 returns : tie.Need-returns
 returns c =
@@ -74,29 +38,11 @@ copy-16-requires c κs =
     let s = start k in
     (omega (arith, wide k .0, s .pre .2), omega (arith, s .pre .0))
 
-sub-copy-in-2 : tie.Need-sub-copy-in-2
-sub-copy-in-2 c = search needs
-
-part-copy-in-start-2 : tie.Need-part-copy-in-start-2
-part-copy-in-start-2 c = search needs
-
-part-copy-in-end-2 : tie.Need-part-copy-in-end-2
-part-copy-in-end-2 c = search needs
-
-copy-in-requires-3 : tie.Need-copy-in-requires-3
-copy-in-requires-3 c κs = search needs
-
 copy-16-requires-2 : tie.Need-copy-16-requires-2
 copy-16-requires-2 c κs =
     let k = c .before .before .before .before .before .before .before .before .before .before .before in
     let s = start k in
     (omega (arith, s .pre .0, wide k .1), omega (arith, wide k .3))
-
-same-length-3 : tie.Need-same-length-3
-same-length-3 c = search needs
-
-same-length-4 : tie.Need-same-length-4
-same-length-4 c = search needs
 
 returns-2 : tie.Need-returns-2
 returns-2 c =
@@ -108,26 +54,7 @@ pub carry-spec : {M : Type 1} → statement M
 carry-spec =
     tie.close
     (tie.spec
-    add-whole
-    add-from
-    add-end
-    sub-if1
-    sub-copy-in
-    part-copy-in-start
-    part-copy-in-end
-    copy-in-requires
-    slice-reshare-prefix-copy-in
-    slice-aggregate-copy-in
-    copy-in-requires-2
-    same-length
-    same-length-2
-    returns
-    copy-16-requires
-    sub-copy-in-2
-    part-copy-in-start-2
-    part-copy-in-end-2
-    copy-in-requires-3
-    copy-16-requires-2
-    same-length-3
-    same-length-4
-    returns-2)
+    (search needs) (search needs) (search needs) (search needs) (search needs) (search needs) (search needs)
+    (search needs) (search needs) slice-aggregate-copy-in (search needs) (search needs) (search needs)
+    returns copy-16-requires (search needs) (search needs) (search needs) (search needs) copy-16-requires-2
+    (search needs) (search needs) returns-2)

@@ -8,7 +8,7 @@ use native.Mathlib.Omega.{arith}
 use lib.ListN.{length}
 use borrow.Author.Needs.{needs}
 use Rattle.layout.specs.Limits.{maxKey}
-use Rattle.layout.specs.Laws.Answer.{bool-cases}
+use Rattle.layout.specs.Laws.Res.{bool-cases}
 use Rattle.layout.specs.Laws.Splice.{wrote-length}
 use Rattle.step_in_place_v2.specs.Says.{viewIn}
 use Rattle.block_rows_v2.specs.declared.Went.{Went}
@@ -93,9 +93,6 @@ step-row-requires c κs =
       h .run-here .ensures .ends,
     )
 
-enum-known-went : tie.Need-enum-known-went Inv-loop μ-loop
-enum-known-went c = search needs
-
 loop-less : tie.Need-loop-less Inv-loop μ-loop
 loop-less c =
     let t = c .before .before .before .before .before .before .before .before .before in
@@ -107,9 +104,6 @@ loop-again c =
     let h = ran t in
     let m = says t (c .before .went .given .1) in
     (m .0 .on _ _ _ (gone h), omega (arith, few t, m .1), m .0 .long ∙ whole h, (λ z. absurd (omega (arith, m .1))), m .2)
-
-enum-known-went-2 : tie.Need-enum-known-went-2 Inv-loop μ-loop
-enum-known-went-2 c = search needs
 
 same-length : tie.Need-same-length Inv-loop μ-loop
 same-length c = key-same (c .before .before .before .before .before .before .before .before .before)
@@ -136,9 +130,6 @@ loop-again-2 c =
     let h = c .before .before .before .before .before .before .before .before in
     (gone h, h .run-here .ensures .few, whole h, key-kept h, ⊎-elim (λ e. absurd (c .if2 .left (h .run-here .ensures .still e))) (λ e. e) (bool-cases (h .run-here .result .ended)))
 
-same-length-4 : tie.Need-same-length-4 Inv-loop μ-loop
-same-length-4 c = search needs
-
 same-length-5 : tie.Need-same-length-5 Inv-loop μ-loop
 same-length-5 c = wrote-length (c .before .before .before .loop .inv .0 .keys-are)
 
@@ -154,22 +145,6 @@ pub give-rows-spec : {M : Type 1} → statement M
 give-rows-spec =
     tie.close
     (tie.spec
-    Inv-loop
-    μ-loop
-    loop-holds
-    run-here-requires
-    step-row-requires
-    enum-known-went
-    loop-less
-    loop-again
-    enum-known-went-2
-    same-length
-    same-length-2
-    same-length-3
-    returns
-    loop-less-2
-    loop-again-2
-    same-length-4
-    same-length-5
-    same-length-6
-    returns-2)
+    Inv-loop μ-loop loop-holds run-here-requires step-row-requires (search needs) loop-less loop-again
+    (search needs) same-length same-length-2 same-length-3 returns loop-less-2 loop-again-2 (search needs)
+    same-length-5 same-length-6 returns-2)

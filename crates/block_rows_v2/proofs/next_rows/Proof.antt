@@ -1,7 +1,7 @@
 -- Many rows in one call keep the promise: the words that mean nothing first, then what `give_rows` gave of the cursor in the words, stored by `put_gave`.
 -- Each exit is one law.
 use mathlib.Core.Path.{_≡_}
-use Rattle.layout.specs.Answer.{ok}
+use Rattle.layout.specs.Res.{ok}
 use Rattle.basics.specs.Answers.{yes}
 use Rattle.step_in_place_v2.specs.Says.{viewIn}
 use Rattle.row_words.specs.Words.{cursorIn}
@@ -23,41 +23,14 @@ returns c =
     let start = c .before .before .before .before .before .before in
     rows-no-key (start .args .block .now) (start .args .cursor .now) (start .args .key .now) (start .args .keys .now) (start .args .rows .now) (start .args .count .now) (c .if1 .taken)
 
-cursor-in-requires : tie.Need-cursor-in-requires
-cursor-in-requires c κs = search needs
-
-enum-known-loaded : tie.Need-enum-known-loaded
-enum-known-loaded c = search needs
-
-enum-told : tie.Need-enum-told
-enum-told c = search needs
-
-same-length : tie.Need-same-length
-same-length c = search needs
-
 returns-2 : tie.Need-returns-2
 returns-2 c =
     let start = c .before .before .before .before .before .before .before .before .before .before in
     rows-no-cursor (start .args .block .now) (start .args .cursor .now) (start .args .key .now) (start .args .keys .now) (start .args .rows .now) (start .args .count .now) (c .before .before .before .before .if1 .left)
     (yes (saysCursor (start .args .key .now)) (c .before .before .cursor-in .ensures (start .args .key .now)) (c .enum-told .given .1))
 
-give-rows-requires : tie.Need-give-rows-requires
-give-rows-requires c κs = search needs
-
 put-gave-requires : tie.Need-put-gave-requires
 put-gave-requires c κs = cursor-counts _ _ _ (cursor-read (c .before .before .before .before .before .before .before .before .before .before .before .before .before))
-
-same-length-2 : tie.Need-same-length-2
-same-length-2 c = search needs
-
-same-length-3 : tie.Need-same-length-3
-same-length-3 c = search needs
-
-same-length-4 : tie.Need-same-length-4
-same-length-4 c = search needs
-
-same-length-5 : tie.Need-same-length-5
-same-length-5 c = search needs
 
 returns-3 : tie.Need-returns-3
 returns-3 c =
@@ -72,16 +45,5 @@ pub next-rows-spec : {M : Type 1} → statement M
 next-rows-spec =
     tie.close
     (tie.spec
-    returns
-    cursor-in-requires
-    enum-known-loaded
-    enum-told
-    same-length
-    returns-2
-    give-rows-requires
-    put-gave-requires
-    same-length-2
-    same-length-3
-    same-length-4
-    same-length-5
-    returns-3)
+    returns (search needs) (search needs) (search needs) (search needs) returns-2 (search needs)
+    put-gave-requires (search needs) (search needs) (search needs) (search needs) returns-3)

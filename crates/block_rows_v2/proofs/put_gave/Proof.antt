@@ -24,26 +24,8 @@ module _ (k : tie.After-slice-known2) where
         number = sym (ap (λ (m : Gave). gaveCount m (start .args .count .now)) (g .1));
       }
 
-enum-known-gave : tie.Need-enum-known-gave
-enum-known-gave c = search needs
-
-put-cursor-requires : tie.Need-put-cursor-requires
-put-cursor-requires c κs = search needs
-
-enum-known-gave-2 : tie.Need-enum-known-gave-2
-enum-known-gave-2 c = search needs
-
-number-requires : tie.Need-number-requires
-number-requires c κs = search needs
-
-same-length : tie.Need-same-length
-same-length c = search needs
-
 returns : tie.Need-returns
 returns c = put-rows (c .before) (c .if1 .taken)
-
-same-length-2 : tie.Need-same-length-2
-same-length-2 c = search needs
 
 returns-2 : tie.Need-returns-2
 returns-2 c = put-rows (c .before) (c .if1 .left)
@@ -62,12 +44,5 @@ pub put-gave-spec : {M : Type 1} → statement M
 put-gave-spec =
     tie.close
     (tie.spec
-    enum-known-gave
-    put-cursor-requires
-    enum-known-gave-2
-    number-requires
-    same-length
-    returns
-    same-length-2
-    returns-2
-    returns-3)
+    (search needs) (search needs) (search needs) (search needs) (search needs) returns (search needs)
+    returns-2 returns-3)

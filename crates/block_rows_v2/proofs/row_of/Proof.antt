@@ -8,18 +8,6 @@ use borrow.Author.Needs.{needs}
 use Rattle.block_rows_v2.proofs.row_of.Statement.{statement}
 use Rattle.block_rows_v2.proofs.row_of.Tie as tie
 
-add-suffix-at : tie.Need-add-suffix-at
-add-suffix-at c = search needs
-
-add-t5 : tie.Need-add-t5
-add-t5 c = search needs
-
-sub-eight : tie.Need-sub-eight
-sub-eight c = search needs
-
-eight-requires : tie.Need-eight-requires
-eight-requires c κs = search needs
-
 returns : tie.Need-returns
 returns c =
     let s = c .before .before .before .before in
@@ -28,4 +16,4 @@ returns c =
     (seq-read (s .args .«data» .now) (s .args .at) (s .args .row) (s .pre) (c .eight .ensures))
 
 pub row-of-spec : {M : Type 1} → statement M
-row-of-spec = tie.close (tie.spec add-suffix-at add-t5 sub-eight eight-requires returns)
+row-of-spec = tie.close (tie.spec (search needs) (search needs) (search needs) (search needs) returns)

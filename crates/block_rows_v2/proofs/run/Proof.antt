@@ -88,21 +88,6 @@ slice-aggregate-plain-at c =
     let s = c .before .before .before .before .before .before .before .before .before .before .before in
     sym (inside-long (s .args .block .now) (s .args .b .size) (regionFrom (s .args .b .region)) (viewIn (l .p) (l .key)) (l .inv .1))
 
-plain-at-requires : tie.Need-plain-at-requires Inv-loop μ-loop
-plain-at-requires c κs = search needs
-
-ran-to-requires : tie.Need-ran-to-requires Inv-loop μ-loop
-ran-to-requires c κs = search needs
-
-same-length : tie.Need-same-length Inv-loop μ-loop
-same-length c = search needs
-
-same-length-2 : tie.Need-same-length-2 Inv-loop μ-loop
-same-length-2 c = search needs
-
-same-length-3 : tie.Need-same-length-3 Inv-loop μ-loop
-same-length-3 c = search needs
-
 returns : tie.Need-returns Inv-loop μ-loop
 returns c =
     let l = c .before .before .before .before .before .before .before .before .loop in
@@ -117,19 +102,10 @@ add-whole c =
 sub-if3 : tie.Need-sub-if3 Inv-loop μ-loop
 sub-if3 c = c .before .before .before .before .before .before .before .before .loop .inv .3
 
-ran-to-requires-2 : tie.Need-ran-to-requires-2 Inv-loop μ-loop
-ran-to-requires-2 c κs = search needs
-
 same-length-4 : tie.Need-same-length-4 Inv-loop μ-loop
 same-length-4 c =
     let k = c .before .before .before in
     k .before .before .before .before .before .before .before .loop .inv .2 ∙ sym (start k .pre .0 .whole)
-
-same-length-5 : tie.Need-same-length-5 Inv-loop μ-loop
-same-length-5 c = search needs
-
-same-length-6 : tie.Need-same-length-6 Inv-loop μ-loop
-same-length-6 c = search needs
 
 returns-2 : tie.Need-returns-2 Inv-loop μ-loop
 returns-2 c =
@@ -140,12 +116,6 @@ returns-2 c =
 
 sub-carry : tie.Need-sub-carry Inv-loop μ-loop
 sub-carry c = omega arith
-
-part-carry-start : tie.Need-part-carry-start Inv-loop μ-loop
-part-carry-start c = search needs
-
-part-carry-end : tie.Need-part-carry-end Inv-loop μ-loop
-part-carry-end c = search needs
 
 slice-aggregate-carry : tie.Need-slice-aggregate-carry Inv-loop μ-loop
 slice-aggregate-carry c = sym (data-long (c .before .before .before .before .before))
@@ -190,9 +160,6 @@ add-p c =
     let s = start k in
     let long : length (s .args .block .now) < 2 ^ 64 = s .good .0 .0 in
     omega (arith, inside-region (s .args .block .now) (s .args .b .size) (regionFrom (s .args .b .region)) (viewIn (l .p) (l .key)) (l .inv .1))
-
-ran-to-requires-3 : tie.Need-ran-to-requires-3 Inv-loop μ-loop
-ran-to-requires-3 c κs = search needs
 
 same-length-7 : tie.Need-same-length-7 Inv-loop μ-loop
 same-length-7 c =
@@ -241,18 +208,6 @@ loop-again c =
       omega (arith, wrote-length (w .put-nth .ensures), l .inv .9),
     )
 
-ran-to-requires-4 : tie.Need-ran-to-requires-4 Inv-loop μ-loop
-ran-to-requires-4 c κs = search needs
-
-same-length-10 : tie.Need-same-length-10 Inv-loop μ-loop
-same-length-10 c = search needs
-
-same-length-11 : tie.Need-same-length-11 Inv-loop μ-loop
-same-length-11 c = search needs
-
-same-length-12 : tie.Need-same-length-12 Inv-loop μ-loop
-same-length-12 c = search needs
-
 returns-4 : tie.Need-returns-4 Inv-loop μ-loop
 returns-4 c =
     let l = c .before .before .loop in
@@ -263,43 +218,9 @@ pub run-spec : {M : Type 1} → statement M
 run-spec =
     tie.close
     (tie.spec
-    Inv-loop
-    μ-loop
-    loop-holds
-    slice-aggregate-plain-at
-    plain-at-requires
-    ran-to-requires
-    same-length
-    same-length-2
-    same-length-3
-    returns
-    add-whole
-    sub-if3
-    ran-to-requires-2
-    same-length-4
-    same-length-5
-    same-length-6
-    returns-2
-    sub-carry
-    part-carry-start
-    part-carry-end
-    slice-aggregate-carry
-    carry-requires
-    slice-aggregate-row-of
-    row-of-requires
-    put-nth-requires
-    add-n
-    add-used
-    add-p
-    ran-to-requires-3
-    same-length-7
-    same-length-8
-    same-length-9
-    returns-3
-    loop-less
-    loop-again
-    ran-to-requires-4
-    same-length-10
-    same-length-11
-    same-length-12
-    returns-4)
+    Inv-loop μ-loop loop-holds slice-aggregate-plain-at (search needs) (search needs) (search needs)
+    (search needs) (search needs) returns add-whole sub-if3 (search needs) same-length-4 (search needs)
+    (search needs) returns-2 sub-carry (search needs) (search needs) slice-aggregate-carry carry-requires
+    slice-aggregate-row-of row-of-requires put-nth-requires add-n add-used add-p (search needs)
+    same-length-7 same-length-8 same-length-9 returns-3 loop-less loop-again (search needs) (search needs)
+    (search needs) (search needs) returns-4)

@@ -1,16 +1,13 @@
 -- `run_here` keeps its promise: where the cursor goes on in a region, its plain rows are given; at the end of the last one no row is left; else nothing is done.
 use mathlib.Core.Path.{refl}
 use native.Mathlib.Omega.{arith}
-use Rattle.layout.specs.Laws.Answer.{clash}
+use Rattle.layout.specs.Laws.Res.{clash}
 use Rattle.trailer.specs.Says.{regionFrom}
 use Rattle.region_rows_v2.specs.Region.{bounds-inside}
 use Rattle.block_rows_v2.proofs.Plain.{ends-here}
 use borrow.Author.Needs.{needs}
 use Rattle.block_rows_v2.proofs.run_here.Statement.{statement}
 use Rattle.block_rows_v2.proofs.run_here.Tie as tie
-
-bounds-of-requires : tie.Need-bounds-of-requires
-bounds-of-requires c κs = search needs
 
 returns : tie.Need-returns
 returns c =
@@ -36,27 +33,9 @@ run-requires c κs =
     let s = c .before .before .before .before .before .before .before .before .before .before .before .before .before .before .before .before .before in
     (s .pre .0, bounds-inside (s .args .came .place) _ (s .args .block .now) (c .before .before .before .before .before .before .before .before .before .before .before .bounds-of .ensures) (c .before .before .before .before .before .before .before .before .if1 .left))
 
-same-length : tie.Need-same-length
-same-length c = search needs
-
-same-length-2 : tie.Need-same-length-2
-same-length-2 c = search needs
-
-same-length-3 : tie.Need-same-length-3
-same-length-3 c = search needs
-
-returns-3 : tie.Need-returns-3
-returns-3 c = search needs
-
 pub run-here-spec : {M : Type 1} → statement M
 run-here-spec =
     tie.close
     (tie.spec
-    bounds-of-requires
-    returns
-    returns-2
-    run-requires
-    same-length
-    same-length-2
-    same-length-3
-    returns-3)
+    (search needs) returns returns-2 run-requires (search needs) (search needs) (search needs)
+    (search needs))

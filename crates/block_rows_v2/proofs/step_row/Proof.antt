@@ -5,7 +5,7 @@ use mathlib.Core.List.{List}
 use native.Mathlib.Omega.{arith}
 use lib.ListN.{length}
 use borrow.Rule.Slice.PartMut.{midOf, putMid}
-use Rattle.layout.specs.Answer.{ok}
+use Rattle.layout.specs.Res.{ok}
 use Rattle.layout.specs.Cursor.{done, stepIs}
 use Rattle.layout.specs.Laws.Splice.{wrote-length}
 use Rattle.row_decode_v2.specs.Says.{rowFrom}
@@ -34,12 +34,6 @@ row-found : (k : tie.After-known-told) → let n = k .before .before .before .be
     Finds (start n .args .block .now) (viewIn (here n .place) (start n .args .key .now)) (viewIn (k .before .moved .given .0 .0) (n .next-in-place .last .0)) (rowFrom (k .before .moved .given .0 .1 .0)) (rest n) (n .next-in-place .last .1 .1 .1 .0)
 row-found k = let n = k .before .before .before .before .before .before .before in moved-finds _ _ _ _ _ _ _ (start n .pre .0 .whole) (n .next-in-place .ensures) (k .before .moved .given .1)
 
-marked-requires : tie.Need-marked-requires
-marked-requires c κs = search needs
-
-stop-requires : tie.Need-stop-requires
-stop-requires c κs = search needs
-
 returns : tie.Need-returns
 returns c =
     let s = c .before .before .before .before .before .before .before .before in
@@ -47,24 +41,6 @@ returns c =
     λ most key₀ keys₀ rows₀ c₀ few kept g.
     gives-stop g (wrote-length (g .keys-are)) (s .pre .0 .inside) most key₀ refl (omega arith) (omega arith) (h .place) (c .before .marked .result) (s .args .key .now) refl
     (s .pre .1 (c .before .before .if1 .taken) _ ∙ ap (λ (q : Place). ok (stepIs (viewIn q (s .args .key .now)) done)) (sym (c .before .marked .ensures))) (c .stop .ensures)
-
-sub-next-in-place : tie.Need-sub-next-in-place
-sub-next-in-place c = search needs
-
-part-next-in-place-start : tie.Need-part-next-in-place-start
-part-next-in-place-start c = search needs
-
-part-next-in-place-end : tie.Need-part-next-in-place-end
-part-next-in-place-end c = search needs
-
-next-in-place-requires : tie.Need-next-in-place-requires
-next-in-place-requires c κs = search needs
-
-enum-known-moved : tie.Need-enum-known-moved
-enum-known-moved c = search needs
-
-put-nth-requires : tie.Need-put-nth-requires
-put-nth-requires c κs = search needs
 
 add-t27 : tie.Need-add-t27
 add-t27 c = omega (arith, row-found (c .before .before .before .before .before) .well .fits)
@@ -82,27 +58,6 @@ add-t29 c =
     let long : length (s .args .rows .now) < 2 ^ 64 = s .good .1 .1 .1 .0 .0 in
     omega (arith, s .pre .0 .words)
 
-enum-known-moved-2 : tie.Need-enum-known-moved-2
-enum-known-moved-2 c = search needs
-
-stop-requires-2 : tie.Need-stop-requires-2
-stop-requires-2 c κs = search needs
-
-enum-known-moved-3 : tie.Need-enum-known-moved-3
-enum-known-moved-3 c = search needs
-
-refuse-requires : tie.Need-refuse-requires
-refuse-requires c κs = search needs
-
-same-length : tie.Need-same-length
-same-length c = search needs
-
-same-length-2 : tie.Need-same-length-2
-same-length-2 c = search needs
-
-same-length-3 : tie.Need-same-length-3
-same-length-3 c = search needs
-
 returns-2 : tie.Need-returns-2
 returns-2 c =
     let k = c .before .before .before .before .before in
@@ -114,12 +69,6 @@ returns-2 c =
     (λ ks rs c₀ g. turn g (wrote-length (g .keys-are)) (s .pre .0 .inside) (row-found k) (c .before .before .before .put-nth .ensures)) same (λ z. absurd (omega arith)) in
     (more, refl, refl)
 
-same-length-4 : tie.Need-same-length-4
-same-length-4 c = search needs
-
-same-length-5 : tie.Need-same-length-5
-same-length-5 c = search needs
-
 returns-3 : tie.Need-returns-3
 returns-3 c =
     let n = c .before .before .before .before .before .before .before .before in
@@ -130,12 +79,6 @@ returns-3 c =
     λ most key₀ keys₀ rows₀ c₀ few kept g.
     gives-stop g (wrote-length (g .keys-are)) (s .pre .0 .inside) most key₀ (back g (wrote-length (g .keys-are)) (s .pre .0 .inside) (e .1)) (omega arith) (omega arith) (h .place) q (n .next-in-place .last .0)
     (done-stays (s .args .block .now) (length (rest n)) (h .place) q (s .args .key .now) (n .next-in-place .last .0) (s .pre .0 .whole) (e .0)) (e .0) (c .stop2 .ensures)
-
-same-length-6 : tie.Need-same-length-6
-same-length-6 c = search needs
-
-same-length-7 : tie.Need-same-length-7
-same-length-7 c = search needs
 
 returns-4 : tie.Need-returns-4
 returns-4 c =
@@ -151,29 +94,7 @@ pub step-row-spec : {M : Type 1} → statement M
 step-row-spec =
     tie.close
     (tie.spec
-    marked-requires
-    stop-requires
-    returns
-    sub-next-in-place
-    part-next-in-place-start
-    part-next-in-place-end
-    next-in-place-requires
-    enum-known-moved
-    put-nth-requires
-    add-t27
-    add-t28
-    add-t29
-    enum-known-moved-2
-    stop-requires-2
-    enum-known-moved-3
-    refuse-requires
-    same-length
-    same-length-2
-    same-length-3
-    returns-2
-    same-length-4
-    same-length-5
-    returns-3
-    same-length-6
-    same-length-7
-    returns-4)
+    (search needs) (search needs) returns (search needs) (search needs) (search needs) (search needs)
+    (search needs) (search needs) add-t27 add-t28 add-t29 (search needs) (search needs) (search needs)
+    (search needs) (search needs) (search needs) (search needs) returns-2 (search needs) (search needs)
+    returns-3 (search needs) (search needs) returns-4)

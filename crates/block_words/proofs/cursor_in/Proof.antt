@@ -11,55 +11,13 @@ use Rattle.block_words.proofs.cursor_in.Tie as tie
 returns : tie.Need-returns
 returns c = cursor-short _ (c .if1 .taken)
 
-shared-slice-read-order-in : tie.Need-shared-slice-read-order-in
-shared-slice-read-order-in c = search needs
-
-order-in-requires : tie.Need-order-in-requires
-order-in-requires c κs = search needs
-
-enum-known-ordered : tie.Need-enum-known-ordered
-enum-known-ordered c = search needs
-
-enum-told : tie.Need-enum-told
-enum-told c = search needs
-
 returns-2 : tie.Need-returns-2
 returns-2 c = cursor-no-order _ (c .before .before .before .before .if1 .left) (yes saysOrdered (c .before .before .order-in .ensures) (c .enum-told .given .1))
-
-shared-slice-read-truth-in : tie.Need-shared-slice-read-truth-in
-shared-slice-read-truth-in c = search needs
-
-truth-in-requires : tie.Need-truth-in-requires
-truth-in-requires c κs = search needs
-
-enum-known-marked : tie.Need-enum-known-marked
-enum-known-marked c = search needs
-
-enum-told-2 : tie.Need-enum-told-2
-enum-told-2 c = search needs
 
 returns-3 : tie.Need-returns-3
 returns-3 c =
     let after-ordered = c .before .before .before .before .before in
     cursor-no-mark _ (after-ordered .before .before .before .before .if1 .left) (yes saysOrdered (after-ordered .before .before .order-in .ensures) (after-ordered .ordered .given .1)) (yes saysTruth (c .before .before .truth-in .ensures) (c .enum-told2 .given .1))
-
-shared-slice-read-size : tie.Need-shared-slice-read-size
-shared-slice-read-size c = search needs
-
-size-requires : tie.Need-size-requires
-size-requires c κs = search needs
-
-shared-slice-read-size-2 : tie.Need-shared-slice-read-size-2
-shared-slice-read-size-2 c = search needs
-
-size-requires-2 : tie.Need-size-requires-2
-size-requires-2 c κs = search needs
-
-shared-slice-read-size-3 : tie.Need-shared-slice-read-size-3
-shared-slice-read-size-3 c = search needs
-
-size-requires-3 : tie.Need-size-requires-3
-size-requires-3 c κs = search needs
 
 returns-4 : tie.Need-returns-4
 returns-4 c =
@@ -73,21 +31,6 @@ pub cursor-in-spec : {M : Type 1} → statement M
 cursor-in-spec =
     tie.close
     (tie.spec
-    returns
-    shared-slice-read-order-in
-    order-in-requires
-    enum-known-ordered
-    enum-told
-    returns-2
-    shared-slice-read-truth-in
-    truth-in-requires
-    enum-known-marked
-    enum-told-2
-    returns-3
-    shared-slice-read-size
-    size-requires
-    shared-slice-read-size-2
-    size-requires-2
-    shared-slice-read-size-3
-    size-requires-3
-    returns-4)
+    returns (search needs) (search needs) (search needs) (search needs) returns-2 (search needs)
+    (search needs) (search needs) (search needs) returns-3 (search needs) (search needs) (search needs)
+    (search needs) (search needs) (search needs) returns-4)

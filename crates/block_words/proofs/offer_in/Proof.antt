@@ -16,15 +16,6 @@ entry k = k .before .before .before .before
 six-words : (w : tie.After-words) → length (entry (w .before .before) .args .builder .now) ≡ builderCount
 six-words w = state-counts (entry (w .before .before) .args .builder .now) (w .before .before .state-in .ensures) (w .words .given .1)
 
-state-in-requires : tie.Need-state-in-requires
-state-in-requires c κs = search needs
-
-enum-known-words : tie.Need-enum-known-words
-enum-known-words c = search needs
-
-enum-told : tie.Need-enum-told
-enum-told c = search needs
-
 returns : tie.Need-returns
 returns c =
     let s = entry (c .before .before) .args in
@@ -35,15 +26,6 @@ returns-2 c =
     let words = c .before .before in
     let s = entry (words .before .before) .args in
     λ value. offer-no-key (s .builder .now) (s .last-key .now) (s .fields .now) value (six-words words) (c .if1 .taken)
-
-fields-in-requires : tie.Need-fields-in-requires
-fields-in-requires c κs = search needs
-
-enum-known-loaded : tie.Need-enum-known-loaded
-enum-known-loaded c = search needs
-
-enum-told-2 : tie.Need-enum-told-2
-enum-told-2 c = search needs
 
 returns-3 : tie.Need-returns-3
 returns-3 c =
@@ -67,13 +49,5 @@ pub offer-in-spec : {M : Type 1} → statement M
 offer-in-spec =
     tie.close
     (tie.spec
-    state-in-requires
-    enum-known-words
-    enum-told
-    returns
-    returns-2
-    fields-in-requires
-    enum-known-loaded
-    enum-told-2
-    returns-3
-    returns-4)
+    (search needs) (search needs) (search needs) returns returns-2 (search needs) (search needs)
+    (search needs) returns-3 returns-4)

@@ -12,29 +12,8 @@ use Rattle.block_words.proofs.put_cursor.Tie as tie
 returns : tie.Need-returns
 returns c = stores-none _ (c .if1 .taken)
 
-order-word-requires : tie.Need-order-word-requires
-order-word-requires c κs = search needs
-
-slice-write-words : tie.Need-slice-write-words
-slice-write-words c = search needs
-
-slice-write-words-2 : tie.Need-slice-write-words-2
-slice-write-words-2 c = search needs
-
-slice-write-words-3 : tie.Need-slice-write-words-3
-slice-write-words-3 c = search needs
-
-slice-write-words-4 : tie.Need-slice-write-words-4
-slice-write-words-4 c = search needs
-
-truth-word-requires : tie.Need-truth-word-requires
-truth-word-requires c κs = search needs
-
 slice-write-words-5 : tie.Need-slice-write-words-5
 slice-write-words-5 c = simp length-set (omega (arith, c .before .before .if1 .left))
-
-same-length : tie.Need-same-length
-same-length c = search needs
 
 returns-2 : tie.Need-returns-2
 returns-2 c =
@@ -45,13 +24,5 @@ pub put-cursor-spec : {M : Type 1} → statement M
 put-cursor-spec =
     tie.close
     (tie.spec
-    returns
-    order-word-requires
-    slice-write-words
-    slice-write-words-2
-    slice-write-words-3
-    slice-write-words-4
-    truth-word-requires
-    slice-write-words-5
-    same-length
-    returns-2)
+    returns (search needs) (search needs) (search needs) (search needs) (search needs) (search needs)
+    slice-write-words-5 (search needs) returns-2)

@@ -15,18 +15,6 @@ returns c = iterator-no-words _ _ _ (c .if1 .taken)
 returns-2 : tie.Need-returns-2
 returns-2 c = iterator-no-key _ _ _ (c .before .if1 .left) (c .if2 .taken)
 
-put-cursor-requires : tie.Need-put-cursor-requires
-put-cursor-requires c κs = search needs
-
-copy-in-requires : tie.Need-copy-in-requires
-copy-in-requires c κs = search needs
-
-same-length : tie.Need-same-length
-same-length c = search needs
-
-same-length-2 : tie.Need-same-length-2
-same-length-2 c = search needs
-
 returns-3 : tie.Need-returns-3
 returns-3 c =
     let after-put-cursor = c .before .before .before .before .before .before .before .before .before in
@@ -38,11 +26,4 @@ returns-3 c =
 pub put-iterator-spec : {M : Type 1} → statement M
 put-iterator-spec =
     tie.close
-    (tie.spec
-    returns
-    returns-2
-    put-cursor-requires
-    copy-in-requires
-    same-length
-    same-length-2
-    returns-3)
+    (tie.spec returns returns-2 (search needs) (search needs) (search needs) (search needs) returns-3)

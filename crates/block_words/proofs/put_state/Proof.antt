@@ -12,26 +12,11 @@ use Rattle.block_words.proofs.put_state.Tie as tie
 returns : tie.Need-returns
 returns c = stores-none _ (c .if1 .taken)
 
-slice-write-words : tie.Need-slice-write-words
-slice-write-words c = search needs
-
-slice-write-words-2 : tie.Need-slice-write-words-2
-slice-write-words-2 c = search needs
-
-slice-write-words-3 : tie.Need-slice-write-words-3
-slice-write-words-3 c = search needs
-
-slice-write-words-4 : tie.Need-slice-write-words-4
-slice-write-words-4 c = search needs
-
 slice-write-words-5 : tie.Need-slice-write-words-5
 slice-write-words-5 c = simp length-set (omega (arith, c .if1 .left))
 
 slice-write-words-6 : tie.Need-slice-write-words-6
 slice-write-words-6 c = simp length-set (omega (arith, c .if1 .left))
-
-same-length : tie.Need-same-length
-same-length c = search needs
 
 returns-2 : tie.Need-returns-2
 returns-2 c = stores-all (c .before .args .words .now) (c .if1 .left) (all-stored (_ ∷ _ ∷ _ ∷ _ ∷ _ ∷ _ ∷ []) (c .before .args .words .now) (c .if1 .left))
@@ -40,12 +25,5 @@ pub put-state-spec : {M : Type 1} → statement M
 put-state-spec =
     tie.close
     (tie.spec
-    returns
-    slice-write-words
-    slice-write-words-2
-    slice-write-words-3
-    slice-write-words-4
-    slice-write-words-5
-    slice-write-words-6
-    same-length
-    returns-2)
+    returns (search needs) (search needs) (search needs) (search needs) slice-write-words-5
+    slice-write-words-6 (search needs) returns-2)

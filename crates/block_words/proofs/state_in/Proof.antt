@@ -1,7 +1,7 @@
 -- `state_in` loads a builder's numbers from six words; words of another number are none.
 -- Once their number is right no words are refused: each one that is read is the one that the definition names, and goes into its field unchanged.
 use mathlib.Core.Path.{sym}
-use Rattle.layout.specs.Answer.{ok}
+use Rattle.layout.specs.Res.{ok}
 use Rattle.row_words.specs.Words.{builderCount}
 use Rattle.block_words.specs.Says.{stateIn}
 use Rattle.row_words.proofs.Laws.{counted-not, counted-so}
@@ -14,42 +14,6 @@ returns c =
     let words = c .before .before .args .words .now in
     sym (counted-not words builderCount (ok (stateIn words)) (c .if1 .taken))
 
-shared-slice-read-size : tie.Need-shared-slice-read-size
-shared-slice-read-size c = search needs
-
-size-requires : tie.Need-size-requires
-size-requires c κs = search needs
-
-shared-slice-read-size-2 : tie.Need-shared-slice-read-size-2
-shared-slice-read-size-2 c = search needs
-
-size-requires-2 : tie.Need-size-requires-2
-size-requires-2 c κs = search needs
-
-shared-slice-read-size-3 : tie.Need-shared-slice-read-size-3
-shared-slice-read-size-3 c = search needs
-
-size-requires-3 : tie.Need-size-requires-3
-size-requires-3 c κs = search needs
-
-shared-slice-read-size-4 : tie.Need-shared-slice-read-size-4
-shared-slice-read-size-4 c = search needs
-
-size-requires-4 : tie.Need-size-requires-4
-size-requires-4 c κs = search needs
-
-shared-slice-read-size-5 : tie.Need-shared-slice-read-size-5
-shared-slice-read-size-5 c = search needs
-
-size-requires-5 : tie.Need-size-requires-5
-size-requires-5 c κs = search needs
-
-shared-slice-read-size-6 : tie.Need-shared-slice-read-size-6
-shared-slice-read-size-6 c = search needs
-
-size-requires-6 : tie.Need-size-requires-6
-size-requires-6 c κs = search needs
-
 returns-2 : tie.Need-returns-2
 returns-2 c =
     let after-size3 = c .before .before .before .before .before .before in
@@ -61,17 +25,5 @@ pub state-in-spec : {M : Type 1} → statement M
 state-in-spec =
     tie.close
     (tie.spec
-    returns
-    shared-slice-read-size
-    size-requires
-    shared-slice-read-size-2
-    size-requires-2
-    shared-slice-read-size-3
-    size-requires-3
-    shared-slice-read-size-4
-    size-requires-4
-    shared-slice-read-size-5
-    size-requires-5
-    shared-slice-read-size-6
-    size-requires-6
-    returns-2)
+    returns (search needs) (search needs) (search needs) (search needs) (search needs) (search needs)
+    (search needs) (search needs) (search needs) (search needs) (search needs) (search needs) returns-2)

@@ -14,13 +14,10 @@ returns-2 c =
     let s = c .before .before .before .before .before .args in
     step-no-key (s .cursor .now) (s .key .now) (s .row .now) (c .before .if1 .left) (c .if2 .taken)
 
-cursor-in-requires : tie.Need-cursor-in-requires
-cursor-in-requires c κs = search needs
-
 returns-3 : tie.Need-returns-3
 returns-3 c =
     let s = c .before .before .before .before .before .before .args in
     step-so (s .cursor .now) (s .key .now) (s .row .now) (c .before .before .if1 .left) (c .before .if2 .left) (c .cursor-in .ensures (s .key .now))
 
 pub step-in-spec : {M : Type 1} → statement M
-step-in-spec = tie.close (tie.spec returns returns-2 cursor-in-requires returns-3)
+step-in-spec = tie.close (tie.spec returns returns-2 (search needs) returns-3)

@@ -7,15 +7,6 @@ use borrow.Author.Needs.{needs}
 use Rattle.buf.proofs.eight.Statement.{statement}
 use Rattle.buf.proofs.eight.Tie as tie
 
-get-u64-requires : tie.Need-get-u64-requires
-get-u64-requires c κs = search needs
-
-enum-known-read : tie.Need-enum-known-read
-enum-known-read c = search needs
-
-enum-told : tie.Need-enum-told
-enum-told c = search needs
-
 returns : tie.Need-returns
 returns c = sym (ap orZero (yes saysWord (c .before .before .before .get-u64 .ensures) (c .before .read .given .1)))
 
@@ -23,4 +14,4 @@ returns-2 : tie.Need-returns-2
 returns-2 c = sym (ap orZero (yes saysWord (c .before .before .get-u64 .ensures) (c .enum-told .given .1)))
 
 pub eight-spec : {M : Type 1} → statement M
-eight-spec = tie.close (tie.spec get-u64-requires enum-known-read enum-told returns returns-2)
+eight-spec = tie.close (tie.spec (search needs) (search needs) (search needs) returns returns-2)

@@ -6,9 +6,9 @@ use mathlib.Core.List.{List}
 use lib.IntN.{ℤ}
 use mir.Syntax.{w64}
 use mir.Facts.{toZ-ofZ}
-use Rattle.layout.specs.Answer.{ok}
+use Rattle.layout.specs.Res.{ok}
 use Rattle.layout.specs.Fixed.{unbits}
-use Rattle.layout.specs.Laws.Answer.{handed}
+use Rattle.layout.specs.Laws.Res.{handed}
 use Rattle.layout.specs.Place.{numAt, fixedAt}
 use Rattle.layout.specs.Place.{signed, asSigned, signedAt}
 use Rattle.basics.specs.Answers.{yes, no}
@@ -20,24 +20,9 @@ use Rattle.buf.proofs.get_i64.Tie as tie
 signed-read : (d : List ℕ) (at v n : ℕ) (z : ℤ) → fixedAt 8 d at ≡ ok (numAt v n) → z ≡ unbits v → ok (signed z n) ≡ signedAt d at
 signed-read d at v n z e q = rw (e, q)
 
-get-u64-requires : tie.Need-get-u64-requires
-get-u64-requires c κs = search needs
-
-enum-known-word : tie.Need-enum-known-word
-enum-known-word c = search needs
-
-enum-told : tie.Need-enum-told
-enum-told c = search needs
-
-word-refusal-requires : tie.Need-word-refusal-requires
-word-refusal-requires c κs = search needs
-
 returns : tie.Need-returns
 returns c =
     handed asSigned (no saysWord refusalOfWord (c .before .before .before .get-u64 .ensures) (c .before .enum-told .given .1) refl (c .word-refusal .ensures))
-
-from-bits-requires : tie.Need-from-bits-requires
-from-bits-requires c κs = search needs
 
 returns-2 : tie.Need-returns-2
 returns-2 c =
@@ -48,11 +33,4 @@ returns-2 c =
 pub get-i64-spec : {M : Type 1} → statement M
 get-i64-spec =
     tie.close
-    (tie.spec
-    get-u64-requires
-    enum-known-word
-    enum-told
-    word-refusal-requires
-    returns
-    from-bits-requires
-    returns-2)
+    (tie.spec (search needs) (search needs) (search needs) (search needs) returns (search needs) returns-2)

@@ -6,17 +6,8 @@ use borrow.Author.Needs.{needs}
 use Rattle.buf.proofs.signed_refusal.Statement.{statement}
 use Rattle.buf.proofs.signed_refusal.Tie as tie
 
-enum-known-a : tie.Need-enum-known-a
-enum-known-a c = search needs
-
-enum-told : tie.Need-enum-told
-enum-told c = search needs
-
 returns : tie.Need-returns
 returns c = sym (ap refusalOfSigned (c .before .a .given .1))
 
-returns-2 : tie.Need-returns-2
-returns-2 c = search needs
-
 pub signed-refusal-spec : {M : Type 1} → statement M
-signed-refusal-spec = tie.close (tie.spec enum-known-a enum-told returns returns-2)
+signed-refusal-spec = tie.close (tie.spec (search needs) (search needs) returns (search needs))

@@ -12,32 +12,11 @@ returns c = first-none 4 (c .before .args .src .now) (c .before .args .buf .now)
 returns-2 : tie.Need-returns-2
 returns-2 c = first-short 4 (c .before .before .args .src .now) (c .before .before .args .buf .now) (c .before .if1 .left) (c .if2 .taken)
 
-shared-slice-read-a : tie.Need-shared-slice-read-a
-shared-slice-read-a c = search needs
-
-shared-slice-read-b : tie.Need-shared-slice-read-b
-shared-slice-read-b c = search needs
-
-shared-slice-read-c : tie.Need-shared-slice-read-c
-shared-slice-read-c c = search needs
-
-shared-slice-read-d : tie.Need-shared-slice-read-d
-shared-slice-read-d c = search needs
-
-slice-write-buf : tie.Need-slice-write-buf
-slice-write-buf c = search needs
-
 slice-write-buf-2 : tie.Need-slice-write-buf-2
 slice-write-buf-2 c = simp length-set (omega arith)
 
 slice-write-buf-3 : tie.Need-slice-write-buf-3
 slice-write-buf-3 c = simp length-set (omega arith)
-
-slice-write-buf-4 : tie.Need-slice-write-buf-4
-slice-write-buf-4 c = search needs
-
-same-length : tie.Need-same-length
-same-length c = search needs
 
 returns-3 : tie.Need-returns-3
 returns-3 c =
@@ -49,15 +28,5 @@ pub copy-4-spec : {M : Type 1} → statement M
 copy-4-spec =
     tie.close
     (tie.spec
-    returns
-    returns-2
-    shared-slice-read-a
-    shared-slice-read-b
-    shared-slice-read-c
-    shared-slice-read-d
-    slice-write-buf
-    slice-write-buf-2
-    slice-write-buf-3
-    slice-write-buf-4
-    same-length
-    returns-3)
+    returns returns-2 (search needs) (search needs) (search needs) (search needs) (search needs)
+    slice-write-buf-2 slice-write-buf-3 (search needs) (search needs) returns-3)

@@ -10,12 +10,6 @@ returns c = first-none 8 (c .before .before .before .args .src .now) (c .before 
 returns-2 : tie.Need-returns-2
 returns-2 c = first-short 8 (c .before .before .before .before .args .src .now) (c .before .before .before .before .args .buf .now) (c .before .if1 .left) (c .if2 .taken)
 
-copy-8-at-requires : tie.Need-copy-8-at-requires
-copy-8-at-requires c κs = search needs
-
-same-length : tie.Need-same-length
-same-length c = search needs
-
 returns-3 : tie.Need-returns-3
 returns-3 c =
     let k = c .before .before .before .before in
@@ -23,4 +17,4 @@ returns-3 c =
     first-all 8 (a .src .now) (a .buf .now) (k .before .if1 .left) (k .if2 .left) (c .before .before .copy-8-at .ensures)
 
 pub copy-8-spec : {M : Type 1} → statement M
-copy-8-spec = tie.close (tie.spec returns returns-2 copy-8-at-requires same-length returns-3)
+copy-8-spec = tie.close (tie.spec returns returns-2 (search needs) (search needs) returns-3)

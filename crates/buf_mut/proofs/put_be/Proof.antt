@@ -21,9 +21,6 @@ Inv-loop buf₀ at v n i₀ k₀ buf i k = (k ≤ n) × (k + i ≡ at + n) × (s
 abbrev μ-loop : tie.MeasureT-loop
 μ-loop buf₀ at v n i₀ k₀ buf i k = k
 
-rest-from-requires : tie.Need-rest-from-requires Inv-loop μ-loop
-rest-from-requires c κs = search needs
-
 returns : tie.Need-returns Inv-loop μ-loop
 returns c =
     let a = c .before .before .before .args in
@@ -82,18 +79,5 @@ pub put-be-spec : {M : Type 1} → statement M
 put-be-spec =
     tie.close
     (tie.spec
-    Inv-loop
-    μ-loop
-    rest-from-requires
-    returns
-    loop-holds
-    sub-k
-    mul-buf
-    shr-buf
-    cast-buf
-    slice-write-buf
-    add-i
-    loop-less
-    loop-again
-    same-length
-    returns-2)
+    Inv-loop μ-loop (search needs) returns loop-holds sub-k mul-buf shr-buf cast-buf slice-write-buf add-i
+    loop-less loop-again same-length returns-2)

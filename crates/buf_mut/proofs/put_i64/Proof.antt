@@ -8,15 +8,6 @@ use Rattle.layout.specs.Fixed.{bits}
 use Rattle.buf_mut.proofs.put_i64.Statement.{statement}
 use Rattle.buf_mut.proofs.put_i64.Tie as tie
 
-to-bits-requires : tie.Need-to-bits-requires
-to-bits-requires c κs = search needs
-
-put-be-requires : tie.Need-put-be-requires
-put-be-requires c κs = search needs
-
-same-length : tie.Need-same-length
-same-length c = search needs
-
 returns : tie.Need-returns
 returns c =
     let s = c .before .before .before .before .before .before in
@@ -24,4 +15,4 @@ returns c =
     rw same at (c .before .before .put-be .ensures)
 
 pub put-i64-spec : {M : Type 1} → statement M
-put-i64-spec = tie.close (tie.spec to-bits-requires put-be-requires same-length returns)
+put-i64-spec = tie.close (tie.spec (search needs) (search needs) (search needs) returns)

@@ -5,7 +5,7 @@ use mathlib.Core.Path.{_≡_, sym, _∙_}
 use mathlib.Core.List.{List}
 use lib.ListN.{length}
 use borrow.Author.Needs.{needs}
-use Rattle.layout.specs.Answer.{ok}
+use Rattle.layout.specs.Res.{ok}
 use Rattle.basics.specs.Answers.{yes}
 use Rattle.row_flags.specs.Says.{fieldsFrom}
 use Rattle.build_in_place_v2.specs.Says.{viewFrom}
@@ -24,29 +24,14 @@ found : (c : tie.After-known-told) (v : List ℕ) → length v ≡ start c .args
     ≡ ok (planIs (c .before .planned .given .0 .0) (c .before .planned .given .0 .1 .0) (c .before .planned .given .0 .1 .1 .0))
 found c v long = yes saysPlanned (c .before .before .before .plan-row .ensures v long) (c .before .planned .given .1)
 
-plan-row-requires : tie.Need-plan-row-requires
-plan-row-requires c κs = search needs
-
-enum-known-planned : tie.Need-enum-known-planned
-enum-known-planned c = search needs
-
-enum-told : tie.Need-enum-told
-enum-told c = search needs
-
 returns : tie.Need-returns
 returns c v long = rw (c .enum-told .given .1) (accept-no _ _ _ _ _ (yes saysPlanned (c .before .before .plan-row .ensures v long) (c .enum-told .given .1)))
-
-restart-too-far-requires : tie.Need-restart-too-far-requires
-restart-too-far-requires c κs = search needs
 
 returns-2 : tie.Need-returns-2
 returns-2 c v long = accept-far _ _ _ _ _ (found (c .before .before) v long) (sym (c .before .restart-too-far .ensures) ∙ c .if1 .taken)
 
 returns-3 : tie.Need-returns-3
 returns-3 c v long = accept-short _ _ _ _ _ (found (c .before .before .before) v long) (sym (c .before .before .restart-too-far .ensures) ∙ c .before .if1 .left) (c .if2 .taken)
-
-no-place-left-requires : tie.Need-no-place-left-requires
-no-place-left-requires c κs = search needs
 
 returns-4 : tie.Need-returns-4
 returns-4 c v long = accept-places _ _ _ _ _ (found (c .before .before .before .before .before) v long) (sym (c .before .before .before .before .restart-too-far .ensures) ∙ c .before .before .before .if1 .left) (c .before .before .if2 .left) (sym (c .before .no-place-left .ensures) ∙ c .if3 .taken)
@@ -58,13 +43,5 @@ pub accept-row-spec : {M : Type 1} → statement M
 accept-row-spec =
     tie.close
     (tie.spec
-    plan-row-requires
-    enum-known-planned
-    enum-told
-    returns
-    restart-too-far-requires
-    returns-2
-    returns-3
-    no-place-left-requires
-    returns-4
-    returns-5)
+    (search needs) (search needs) (search needs) returns (search needs) returns-2 returns-3 (search needs)
+    returns-4 returns-5)

@@ -17,12 +17,6 @@ find-row-requires c κs = c .before .if1 .left
 accept-row-requires : tie.Need-accept-row-requires
 accept-row-requires c κs = c .before .before .before .before .before .if1 .left
 
-planned-refusal-requires : tie.Need-planned-refusal-requires
-planned-refusal-requires c κs = search needs
-
-same-length : tie.Need-same-length
-same-length c = search needs
-
 returns-2 : tie.Need-returns-2
 returns-2 c =
     grows-refused _ _ _ _ _ _ (c .before .before .before .before .before .before .before .if1 .left)
@@ -31,15 +25,6 @@ returns-2 c =
 grow-requires : tie.Need-grow-requires
 grow-requires c κs = (c .before .before .before .before .before .before .before .if1 .left, tested-is _ _ _ _ _ (c .before .before .before .before .before .find-row .ensures _ refl .good (c .before .before .before .if2 .left)))
 
-same-length-2 : tie.Need-same-length-2
-same-length-2 c = search needs
-
-same-length-3 : tie.Need-same-length-3
-same-length-3 c = search needs
-
-same-length-4 : tie.Need-same-length-4
-same-length-4 c = search needs
-
 returns-3 : tie.Need-returns-3
 returns-3 c = grows _ _ _ _ _ _ (c .before .before .before .before .before .before .before .before .before .before .before .before .before .before .if1 .left) (tested-is _ _ _ _ _ (c .before .before .before .before .before .before .before .before .before .before .before .before .find-row .ensures _ refl .good (c .before .before .before .before .before .before .before .before .before .before .if2 .left))) (c .before .before .before .before .before .before .grow .ensures)
 
@@ -47,14 +32,5 @@ pub add-in-place-spec : {M : Type 1} → statement M
 add-in-place-spec =
     tie.close
     (tie.spec
-    returns
-    find-row-requires
-    accept-row-requires
-    planned-refusal-requires
-    same-length
-    returns-2
-    grow-requires
-    same-length-2
-    same-length-3
-    same-length-4
-    returns-3)
+    returns find-row-requires accept-row-requires (search needs) (search needs) returns-2 grow-requires
+    (search needs) (search needs) (search needs) returns-3)

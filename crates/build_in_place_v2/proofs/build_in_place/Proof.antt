@@ -6,34 +6,16 @@ use Rattle.build_in_place_v2.proofs.Writes.{ends-bad, ends-none, ends-b
 use Rattle.build_in_place_v2.proofs.build_in_place.Statement.{statement}
 use Rattle.build_in_place_v2.proofs.build_in_place.Tie as tie
 
-is-bad-state-requires : tie.Need-is-bad-state-requires
-is-bad-state-requires c κs = search needs
-
 returns : tie.Need-returns
 returns c = λ last. ends-bad _ _ _ last (state-refused _ (c .before .is-bad-state .ensures last) (c .if1 .taken))
 
 returns-2 : tie.Need-returns-2
 returns-2 c = λ last. ends-none _ _ _ last (state-taken _ (c .before .before .before .is-bad-state .ensures last) (c .before .before .if1 .left)) (c .if2 .taken)
 
-put-trailer-requires : tie.Need-put-trailer-requires
-put-trailer-requires c κs = search needs
-
-enum-known-put : tie.Need-enum-known-put
-enum-known-put c = search needs
-
-enum-known-put-2 : tie.Need-enum-known-put-2
-enum-known-put-2 c = search needs
-
-same-length : tie.Need-same-length
-same-length c = search needs
-
 returns-3 : tie.Need-returns-3
 returns-3 c =
     let k = c .before .before .before .before .before .before .before in
     λ last. ends-block _ _ _ last (state-taken _ (k .before .before .before .is-bad-state .ensures last) (k .before .before .if1 .left)) (k .if2 .left) (c .before .before .before .before .before .put-trailer .ensures) (c .before .put .given .1)
-
-same-length-2 : tie.Need-same-length-2
-same-length-2 c = search needs
 
 returns-4 : tie.Need-returns-4
 returns-4 c =
@@ -44,13 +26,5 @@ pub build-in-place-spec : {M : Type 1} → statement M
 build-in-place-spec =
     tie.close
     (tie.spec
-    is-bad-state-requires
-    returns
-    returns-2
-    put-trailer-requires
-    enum-known-put
-    enum-known-put-2
-    same-length
-    returns-3
-    same-length-2
-    returns-4)
+    (search needs) returns returns-2 (search needs) (search needs) (search needs) (search needs) returns-3
+    (search needs) returns-4)

@@ -9,12 +9,6 @@ use Rattle.build_in_place_v2.proofs.compute_prefix.Tie as tie
 slice-aggregate-common-prefix : tie.Need-slice-aggregate-common-prefix
 slice-aggregate-common-prefix c = sym (length-take-le _ _ (c .before .before .before .pre))
 
-common-prefix-requires : tie.Need-common-prefix-requires
-common-prefix-requires c κs = search needs
-
-returns : tie.Need-returns
-returns c = search needs
-
 pub compute-prefix-spec : {M : Type 1} → statement M
 compute-prefix-spec =
-    tie.close (tie.spec slice-aggregate-common-prefix common-prefix-requires returns)
+    tie.close (tie.spec slice-aggregate-common-prefix (search needs) (search needs))

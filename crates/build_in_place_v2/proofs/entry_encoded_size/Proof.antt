@@ -4,14 +4,8 @@ use borrow.Author.Needs.{needs}
 use Rattle.build_in_place_v2.proofs.entry_encoded_size.Statement.{statement}
 use Rattle.build_in_place_v2.proofs.entry_encoded_size.Tie as tie
 
-sub-encoded-size : tie.Need-sub-encoded-size
-sub-encoded-size c = search needs
-
-encoded-size-requires : tie.Need-encoded-size-requires
-encoded-size-requires c κs = search needs
-
 returns : tie.Need-returns
 returns c = c .encoded-size .ensures
 
 pub entry-encoded-size-spec : {M : Type 1} → statement M
-entry-encoded-size-spec = tie.close (tie.spec sub-encoded-size encoded-size-requires returns)
+entry-encoded-size-spec = tie.close (tie.spec (search needs) (search needs) returns)

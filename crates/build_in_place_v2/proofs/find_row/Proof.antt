@@ -5,7 +5,7 @@ use mathlib.Core.List.{List}
 use native.Mathlib.Omega.{arith}
 use lib.ListN.{length, replicate, length-drop, length-replicate}
 use borrow.Author.Needs.{needs}
-use Rattle.layout.specs.Answer.{ok}
+use Rattle.layout.specs.Res.{ok}
 use Rattle.layout.specs.Builder.{Builder, stateTests}
 use Rattle.layout.specs.Laws.Builder.{state-tells}
 use Rattle.row_flags.specs.Says.{fieldsFrom}
@@ -46,33 +46,6 @@ small c =
     let n = start (c .before .before .before) .args .value-len in
     size-small _ _ _ _ _ (measured c (replicate n 0) (length-replicate {A = ℕ} n 0))
 
-is-bad-state-requires : tie.Need-is-bad-state-requires
-is-bad-state-requires c κs = search needs
-
-found-row-requires : tie.Need-found-row-requires
-found-row-requires c κs = search needs
-
-found-row-requires-2 : tie.Need-found-row-requires-2
-found-row-requires-2 c κs = search needs
-
-found-row-requires-3 : tie.Need-found-row-requires-3
-found-row-requires-3 c κs = search needs
-
-found-row-requires-4 : tie.Need-found-row-requires-4
-found-row-requires-4 c κs = search needs
-
-found-row-requires-5 : tie.Need-found-row-requires-5
-found-row-requires-5 c κs = search needs
-
-found-row-requires-6 : tie.Need-found-row-requires-6
-found-row-requires-6 c κs = search needs
-
-found-row-requires-7 : tie.Need-found-row-requires-7
-found-row-requires-7 c κs = search needs
-
-found-row-requires-8 : tie.Need-found-row-requires-8
-found-row-requires-8 c κs = search needs
-
 returns : tie.Need-returns
 returns c v long = found-none (c .found-row .ensures) (accept-no _ _ _ _ _ (sym (plan-state _ _ _ _ _ (state-refused _ (c .before .before .is-bad-state .ensures _) (c .before .if1 .taken)))))
 
@@ -84,12 +57,6 @@ shared-bytes-requires c κs = omega (arith, state-tells _ _ _ tt (state (c .befo
 
 entry-encoded-size-requires : tie.Need-entry-encoded-size-requires
 entry-encoded-size-requires c κs = share-fits _ _ _ (c .shared-bytes .ensures)
-
-enum-known-entry-size : tie.Need-enum-known-entry-size
-enum-known-entry-size c = search needs
-
-enum-told : tie.Need-enum-told
-enum-told c = search needs
 
 returns-2 : tie.Need-returns-2
 returns-2 c v long = found-none (c .found-row2 .ensures) (accept-no _ _ _ _ _ (sym (plan-unsized _ _ _ _ _ (measured (c .before .before .before) v long) (ap saysSized (c .before .enum-told .given .1)))))
@@ -103,17 +70,8 @@ current-size-requires c κs = (omega (arith, c .if2 .left, state-tells _ _ _ tt 
 add-size : tie.Need-add-size
 add-size c = omega (arith, c .current-size .ensures .1, small (c .before .before .before .before .before .before) (ap saysSized (c .before .before .before .before .entry-size .given .1)))
 
-restart-overhead-requires : tie.Need-restart-overhead-requires
-restart-overhead-requires c κs = search needs
-
 add-size-2 : tie.Need-add-size-2
 add-size-2 c = omega (arith, c .before .current-size .ensures .1, c .restart-overhead .ensures .1, small (c .before .before .before .before .before .before .before) (ap saysSized (c .before .before .before .before .before .entry-size .given .1)))
-
-has-room-requires : tie.Need-has-room-requires
-has-room-requires c κs = search needs
-
-restart-too-far-requires : tie.Need-restart-too-far-requires
-restart-too-far-requires c κs = search needs
 
 returns-4 : tie.Need-returns-4
 returns-4 c v long =
@@ -124,9 +82,6 @@ returns-5 : tie.Need-returns-5
 returns-5 c v long =
     let fit = plan-fits _ _ _ _ _ (measured (c .before .before .before .before .before .before .before .before .before .before .before .before .before) v long) (ap saysSized (c .before .before .before .before .before .before .before .before .before .before .before .entry-size .given .1)) (c .before .before .before .before .before .before .before .current-size .ensures .0) (c .before .before .before .before .before .before .restart-overhead .ensures .0) (c .before .before .before .before .before .has-room .ensures) (c .before .before .before .before .if3 .taken) in
     found-none (c .found-row5 .ensures) (accept-short _ _ _ _ _ (sym fit) (sym (c .before .before .before .restart-too-far .ensures) ∙ c .before .before .if4 .left) (c .before .if5 .taken))
-
-no-place-left-requires : tie.Need-no-place-left-requires
-no-place-left-requires c κs = search needs
 
 returns-6 : tie.Need-returns-6
 returns-6 c v long =
@@ -148,32 +103,8 @@ pub find-row-spec : {M : Type 1} → statement M
 find-row-spec =
     tie.close
     (tie.spec
-    is-bad-state-requires
-    found-row-requires
-    returns
-    is-restart-point-requires
-    shared-bytes-requires
-    entry-encoded-size-requires
-    enum-known-entry-size
-    enum-told
-    found-row-requires-2
-    returns-2
-    found-row-requires-3
-    returns-3
-    current-size-requires
-    add-size
-    restart-overhead-requires
-    add-size-2
-    has-room-requires
-    restart-too-far-requires
-    found-row-requires-4
-    returns-4
-    found-row-requires-5
-    returns-5
-    no-place-left-requires
-    found-row-requires-6
-    returns-6
-    found-row-requires-7
-    returns-7
-    found-row-requires-8
-    returns-8)
+    (search needs) (search needs) returns is-restart-point-requires shared-bytes-requires
+    entry-encoded-size-requires (search needs) (search needs) (search needs) returns-2 (search needs)
+    returns-3 current-size-requires add-size (search needs) add-size-2 (search needs) (search needs)
+    (search needs) returns-4 (search needs) returns-5 (search needs) (search needs) returns-6 (search needs)
+    returns-7 (search needs) returns-8)

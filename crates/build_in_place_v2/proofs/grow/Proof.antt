@@ -28,25 +28,10 @@ part-copy-in-start c =
     let a = c .before .before .before .before .before .before .before .before .before .before .before .before .before .before .args in
     omega (arith, tested-fits (a .s) (a .last-key .now) (a .«data» .now) (a .restarts .now) (a .key .now) (fieldsFrom (a .row) (a .value .now)) (c .before .before .before .before .before .before .before .before .before .before .before .before .before .before .pre .1) .own)
 
-part-copy-in-end : tie.Need-part-copy-in-end
-part-copy-in-end c = search needs
-
-copy-in-requires : tie.Need-copy-in-requires
-copy-in-requires c κs = search needs
-
 add-t20 : tie.Need-add-t20
 add-t20 c =
     let a = c .before .before .before .before .before .before .before .before .before .before .before .before .before .before .before .before .before .before .before .args in
     omega (arith, tested-rows (a .s) (a .last-key .now) (a .«data» .now) (a .restarts .now) (a .key .now) (fieldsFrom (a .row) (a .value .now)) (c .before .before .before .before .before .before .before .before .before .before .before .before .before .before .before .before .before .before .before .pre .1))
-
-same-length : tie.Need-same-length
-same-length c = search needs
-
-same-length-2 : tie.Need-same-length-2
-same-length-2 c = search needs
-
-same-length-3 : tie.Need-same-length-3
-same-length-3 c = search needs
 
 returns : tie.Need-returns
 returns c =
@@ -57,14 +42,5 @@ pub grow-spec : {M : Type 1} → statement M
 grow-spec =
     tie.close
     (tie.spec
-    write-row-requires
-    put-restart-requires
-    sub-copy-in
-    part-copy-in-start
-    part-copy-in-end
-    copy-in-requires
-    add-t20
-    same-length
-    same-length-2
-    same-length-3
-    returns)
+    write-row-requires put-restart-requires sub-copy-in part-copy-in-start (search needs) (search needs)
+    add-t20 (search needs) (search needs) (search needs) returns)

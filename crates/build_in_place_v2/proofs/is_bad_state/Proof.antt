@@ -27,9 +27,6 @@ returns-5 c = λ last. state-bad _ _ _ (λ o. absurd (omega (arith, o .in-places
 returns-6 : tie.Need-returns-6
 returns-6 c = λ last. state-bad _ _ _ (λ o. absurd (omega (arith, o .allowed)))
 
-is-miscounted-requires : tie.Need-is-miscounted-requires
-is-miscounted-requires c κs = search needs
-
 returns-7 : tie.Need-returns-7
 returns-7 c = λ last. state-bad _ _ _ (λ o. miscounted-not _ _ (c .before .is-miscounted .ensures) (c .if7 .taken) (o .counted))
 
@@ -41,9 +38,6 @@ mul-if8 c =
 
 returns-8 : tie.Need-returns-8
 returns-8 c = λ last. state-bad _ _ _ (λ o. absurd (omega (arith, o .least)))
-
-stray-bytes-requires : tie.Need-stray-bytes-requires
-stray-bytes-requires c κs = search needs
 
 returns-9 : tie.Need-returns-9
 returns-9 c = λ last. state-bad _ _ _ (λ o. stray-some _ _ (c .before .stray-bytes .ensures) (c .if9 .taken) (o .no-rows))
@@ -60,17 +54,5 @@ pub is-bad-state-spec : {M : Type 1} → statement M
 is-bad-state-spec =
     tie.close
     (tie.spec
-    returns
-    returns-2
-    returns-3
-    returns-4
-    returns-5
-    returns-6
-    is-miscounted-requires
-    returns-7
-    mul-if8
-    returns-8
-    stray-bytes-requires
-    returns-9
-    returns-10
-    returns-11)
+    returns returns-2 returns-3 returns-4 returns-5 returns-6 (search needs) returns-7 mul-if8 returns-8
+    (search needs) returns-9 returns-10 returns-11)

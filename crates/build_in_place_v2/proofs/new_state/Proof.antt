@@ -6,9 +6,6 @@ use Rattle.build_in_place_v2.proofs.Writes.{made-not, made-good}
 use Rattle.build_in_place_v2.proofs.new_state.Statement.{statement}
 use Rattle.build_in_place_v2.proofs.new_state.Tie as tie
 
-empty-state-requires : tie.Need-empty-state-requires
-empty-state-requires c κs = search needs
-
 returns : tie.Need-returns
 returns c = made-not _ _ (c .before .empty-state .ensures) (new-large _ _ (c .if1 .taken))
 
@@ -18,13 +15,10 @@ returns-2 c = made-not _ _ (c .before .before .empty-state .ensures) (new-none _
 returns-3 : tie.Need-returns-3
 returns-3 c = made-not _ _ (c .before .before .before .empty-state .ensures) (new-long _ _ (c .before .before .if1 .left) (c .if3 .taken))
 
-empty-state-requires-2 : tie.Need-empty-state-requires-2
-empty-state-requires-2 c κs = search needs
-
 returns-4 : tie.Need-returns-4
 returns-4 c = made-good _ _ (c .empty-state2 .ensures) (new-good _ _ (c .before .before .before .if1 .left) (c .before .before .if2 .left) (c .before .if3 .left))
 
 pub new-state-spec : {M : Type 1} → statement M
 new-state-spec =
     tie.close
-    (tie.spec empty-state-requires returns returns-2 returns-3 empty-state-requires-2 returns-4)
+    (tie.spec (search needs) returns returns-2 returns-3 (search needs) returns-4)

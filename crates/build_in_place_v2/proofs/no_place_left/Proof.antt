@@ -7,8 +7,5 @@ use Rattle.build_in_place_v2.proofs.no_place_left.Tie as tie
 returns : tie.Need-returns
 returns c = rw (c .if1 .taken)
 
-returns-2 : tie.Need-returns-2
-returns-2 c = search needs
-
 pub no-place-left-spec : {M : Type 1} → statement M
-no-place-left-spec = tie.close (tie.spec returns returns-2)
+no-place-left-spec = tie.close (tie.spec returns (search needs))

@@ -6,7 +6,7 @@ use mathlib.Core.List.{List}
 use native.Mathlib.Omega.{arith}
 use lib.ListN.{length, replicate, length-drop, length-replicate}
 use borrow.Author.Needs.{needs}
-use Rattle.layout.specs.Answer.{ok}
+use Rattle.layout.specs.Res.{ok}
 use Rattle.layout.specs.Builder.{Builder, stateTests}
 use Rattle.layout.specs.Laws.Builder.{state-tells}
 use Rattle.basics.specs.Answers.{no}
@@ -47,9 +47,6 @@ small c =
     let n = start (c .before .before .before) .args .value-len in
     size-small _ _ _ _ _ (measured c (replicate n 0) (length-replicate {A = ℕ} n 0))
 
-is-bad-state-requires : tie.Need-is-bad-state-requires
-is-bad-state-requires c κs = search needs
-
 returns : tie.Need-returns
 returns c v long = plan-state _ _ _ _ _ (state-refused _ (c .before .is-bad-state .ensures _) (c .if1 .taken))
 
@@ -61,15 +58,6 @@ shared-bytes-requires c κs = omega (arith, state-tells _ _ _ tt (state (c .befo
 
 entry-encoded-size-requires : tie.Need-entry-encoded-size-requires
 entry-encoded-size-requires c κs = share-fits _ _ _ (c .shared-bytes .ensures)
-
-enum-known-entry-size : tie.Need-enum-known-entry-size
-enum-known-entry-size c = search needs
-
-enum-told : tie.Need-enum-told
-enum-told c = search needs
-
-size-refusal-requires : tie.Need-size-refusal-requires
-size-refusal-requires c κs = search needs
 
 returns-2 : tie.Need-returns-2
 returns-2 c v long = plan-unsized _ _ _ _ _ (measured (c .before .before .before) v long) (no saysSized sizedRefusal refl (c .before .enum-told .given .1) refl (c .size-refusal .ensures))
@@ -83,14 +71,8 @@ current-size-requires c κs = (omega (arith, c .if2 .left, state-tells _ _ _ tt 
 add-size : tie.Need-add-size
 add-size c = omega (arith, c .current-size .ensures .1, small (c .before .before .before .before .before .before) (ap saysSized (c .before .before .before .before .entry-size .given .1)))
 
-restart-overhead-requires : tie.Need-restart-overhead-requires
-restart-overhead-requires c κs = search needs
-
 add-size-2 : tie.Need-add-size-2
 add-size-2 c = omega (arith, c .before .current-size .ensures .1, c .restart-overhead .ensures .1, small (c .before .before .before .before .before .before .before) (ap saysSized (c .before .before .before .before .before .entry-size .given .1)))
-
-has-room-requires : tie.Need-has-room-requires
-has-room-requires c κs = search needs
 
 returns-4 : tie.Need-returns-4
 returns-4 c v long = plan-fits _ _ _ _ _ (measured (c .before .before .before .before .before .before .before .before .before) v long) (ap saysSized (c .before .before .before .before .before .before .before .entry-size .given .1)) (c .before .before .before .current-size .ensures .0) (c .before .before .restart-overhead .ensures .0) (c .before .has-room .ensures) (c .if3 .taken)
@@ -102,20 +84,6 @@ pub plan-row-spec : {M : Type 1} → statement M
 plan-row-spec =
     tie.close
     (tie.spec
-    is-bad-state-requires
-    returns
-    is-restart-point-requires
-    shared-bytes-requires
-    entry-encoded-size-requires
-    enum-known-entry-size
-    enum-told
-    size-refusal-requires
-    returns-2
-    returns-3
-    current-size-requires
-    add-size
-    restart-overhead-requires
-    add-size-2
-    has-room-requires
-    returns-4
-    returns-5)
+    (search needs) returns is-restart-point-requires shared-bytes-requires entry-encoded-size-requires
+    (search needs) (search needs) (search needs) returns-2 returns-3 current-size-requires add-size
+    (search needs) add-size-2 (search needs) returns-4 returns-5)

@@ -31,9 +31,6 @@ slice-write-restarts c = place c
 add-result : tie.Need-add-result
 add-result c = omega (arith, place c)
 
-same-length : tie.Need-same-length
-same-length c = search needs
-
 returns : tie.Need-returns
 returns c = rw (c .if1 .taken) (refl, refl)
 
@@ -43,11 +40,4 @@ returns-2 c = rw (c .if1 .left) (omega arith, refl)
 pub put-restart-spec : {M : Type 1} → statement M
 put-restart-spec =
     tie.close
-    (tie.spec
-    cast-restarts
-    mul-restarts
-    slice-write-restarts
-    add-result
-    same-length
-    returns
-    returns-2)
+    (tie.spec cast-restarts mul-restarts slice-write-restarts add-result (search needs) returns returns-2)

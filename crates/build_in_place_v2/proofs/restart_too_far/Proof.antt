@@ -7,8 +7,5 @@ use Rattle.build_in_place_v2.proofs.restart_too_far.Tie as tie
 returns : tie.Need-returns
 returns c = rw (c .if1 .taken)
 
-returns-2 : tie.Need-returns-2
-returns-2 c = search needs
-
 pub restart-too-far-spec : {M : Type 1} → statement M
-restart-too-far-spec = tie.close (tie.spec returns returns-2)
+restart-too-far-spec = tie.close (tie.spec returns (search needs))

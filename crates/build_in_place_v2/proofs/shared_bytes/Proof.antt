@@ -9,11 +9,8 @@ use Rattle.build_in_place_v2.proofs.shared_bytes.Tie as tie
 returns : tie.Need-returns
 returns c = rw (c .if1 .taken) (share-restart _ _)
 
-compute-prefix-requires : tie.Need-compute-prefix-requires
-compute-prefix-requires c κs = search needs
-
 returns-2 : tie.Need-returns-2
 returns-2 c = rw (c .before .if1 .left) (c .compute-prefix .ensures ∙ share-plain _ _)
 
 pub shared-bytes-spec : {M : Type 1} → statement M
-shared-bytes-spec = tie.close (tie.spec returns compute-prefix-requires returns-2)
+shared-bytes-spec = tie.close (tie.spec returns (search needs) returns-2)

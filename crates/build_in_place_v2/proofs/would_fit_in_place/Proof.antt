@@ -14,15 +14,6 @@ returns c =
     let a = c .before .before .before .before .args in
     fit-strange (a .s) (a .last-key .now) (a .data-len) (a .places-len) (a .key .now) (fieldsFrom (a .row) (a .value .now)) (c .if1 .taken)
 
-plan-row-requires : tie.Need-plan-row-requires
-plan-row-requires c κs = search needs
-
-enum-told : tie.Need-enum-told
-enum-told c = search needs
-
-enum-known-planned : tie.Need-enum-known-planned
-enum-known-planned c = search needs
-
 returns-2 : tie.Need-returns-2
 returns-2 c = fit-said _ _ _ _ _ _ (c .before .before .before .if1 .left) (yes saysPlanned (c .before .before .plan-row .ensures _ refl) (c .enum-told .given .1))
 
@@ -32,4 +23,4 @@ returns-3 c = fit-refused _ _ _ _ _ _ (c .before .before .before .before .if1 .l
 pub would-fit-in-place-spec : {M : Type 1} → statement M
 would-fit-in-place-spec =
     tie.close
-    (tie.spec returns plan-row-requires enum-told enum-known-planned returns-2 returns-3)
+    (tie.spec returns (search needs) (search needs) (search needs) returns-2 returns-3)

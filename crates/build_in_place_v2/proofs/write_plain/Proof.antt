@@ -10,41 +10,17 @@ use Rattle.build_in_place_v2.proofs.write_plain.Tie as tie
 put-length-requires : tie.Need-put-length-requires
 put-length-requires c κs = (omega (arith, c .before .before .before .before .pre .own, c .before .before .before .before .pre .key-small), first-room (c .before .before .before .before .pre))
 
-sub-put-length : tie.Need-sub-put-length
-sub-put-length c = search needs
-
 put-length-requires-2 : tie.Need-put-length-requires-2
 put-length-requires-2 c κs = (omega (arith, c .before .before .before .before .before .before .before .before .pre .key-small), second-room (c .before .before .before .before .before .before .before .before .pre) (c .before .before .before .put-length .ensures))
 
 put-length-requires-3 : tie.Need-put-length-requires-3
 put-length-requires-3 c κs = (c .before .before .before .before .before .before .before .before .before .before .before .before .pre .value-small, third-room (c .before .before .before .before .before .before .before .before .before .before .before .before .pre) (c .before .before .before .before .before .before .before .put-length .ensures) (c .before .before .before .put-length2 .ensures))
 
-sub-d : tie.Need-sub-d
-sub-d c = search needs
-
 add-d : tie.Need-add-d
 add-d c = omega (arith, ends-room (c .before .before .before .before .before .before .before .before .before .before .before .before .before .before .before .pre) (c .before .before .before .before .before .before .before .before .before .before .put-length .ensures) (c .before .before .before .before .before .before .put-length2 .ensures) (c .before .before .put-length3 .ensures))
 
 add-e : tie.Need-add-e
 add-e c = omega (arith, ends-room (c .before .before .before .before .before .before .before .before .before .before .before .before .before .before .before .pre) (c .before .before .before .before .before .before .before .before .before .before .put-length .ensures) (c .before .before .before .before .before .before .put-length2 .ensures) (c .before .before .put-length3 .ensures))
-
-sub-copy-in : tie.Need-sub-copy-in
-sub-copy-in c = search needs
-
-part-copy-in-start : tie.Need-part-copy-in-start
-part-copy-in-start c = search needs
-
-part-copy-in-end : tie.Need-part-copy-in-end
-part-copy-in-end c = search needs
-
-copy-in-requires : tie.Need-copy-in-requires
-copy-in-requires c κs = search needs
-
-copy-in-requires-2 : tie.Need-copy-in-requires-2
-copy-in-requires-2 c κs = search needs
-
-put-u64-requires : tie.Need-put-u64-requires
-put-u64-requires c κs = search needs
 
 add-data : tie.Need-add-data
 add-data c =
@@ -77,21 +53,6 @@ pub write-plain-spec : {M : Type 1} → statement M
 write-plain-spec =
     tie.close
     (tie.spec
-    put-length-requires
-    sub-put-length
-    put-length-requires-2
-    put-length-requires-3
-    sub-d
-    add-d
-    add-e
-    sub-copy-in
-    part-copy-in-start
-    part-copy-in-end
-    copy-in-requires
-    copy-in-requires-2
-    put-u64-requires
-    add-data
-    slice-write-data
-    add-result
-    same-length
-    returns)
+    put-length-requires (search needs) put-length-requires-2 put-length-requires-3 (search needs) add-d
+    add-e (search needs) (search needs) (search needs) (search needs) (search needs) (search needs) add-data
+    slice-write-data add-result same-length returns)

@@ -7,16 +7,10 @@ use borrow.Author.Needs.{needs}
 use Rattle.compare_by_value.proofs.iterator_over.Statement.{statement}
 use Rattle.compare_by_value.proofs.iterator_over.Tie as tie
 
-slice-aggregate-copy-in : tie.Need-slice-aggregate-copy-in
-slice-aggregate-copy-in c = search needs
-
-copy-in-requires : tie.Need-copy-in-requires
-copy-in-requires c κs = search needs
-
 returns : tie.Need-returns
 returns c =
     let start = c .before .before .before .before in
     ap (iteratorOver (start .args .p)) (copied-whole (start .args .key .now) refl (start .pre) (c .before .copy-in .ensures))
 
 pub iterator-over-spec : {M : Type 1} → statement M
-iterator-over-spec = tie.close (tie.spec slice-aggregate-copy-in copy-in-requires returns)
+iterator-over-spec = tie.close (tie.spec (search needs) (search needs) returns)

@@ -9,18 +9,6 @@ use borrow.Author.Needs.{needs}
 use Rattle.compare_by_value.proofs.put_added.Statement.{statement}
 use Rattle.compare_by_value.proofs.put_added.Tie as tie
 
-put-state-requires : tie.Need-put-state-requires
-put-state-requires c κs = search needs
-
-copy-in-requires : tie.Need-copy-in-requires
-copy-in-requires c κs = search needs
-
-same-length : tie.Need-same-length
-same-length c = search needs
-
-same-length-2 : tie.Need-same-length-2
-same-length-2 c = search needs
-
 returns : tie.Need-returns
 returns c =
     let s = c .before .before .before .before .before .before .before .before .before .before .before .before .before .before in
@@ -33,9 +21,4 @@ returns c =
 pub put-added-spec : {M : Type 1} → statement M
 put-added-spec =
     tie.close
-    (tie.spec
-    put-state-requires
-    copy-in-requires
-    same-length
-    same-length-2
-    returns)
+    (tie.spec (search needs) (search needs) (search needs) (search needs) returns)

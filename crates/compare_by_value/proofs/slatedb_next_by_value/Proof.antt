@@ -5,7 +5,7 @@ use mathlib.Core.Bool.{Bool}
 use mathlib.Core.List.{List}
 use mathlib.Core.Path.{_≡_}
 use lib.ListN.{length}
-use Rattle.layout.specs.Answer.{ok}
+use Rattle.layout.specs.Res.{ok}
 use Rattle.layout.specs.Limits.{maxKey}
 use Rattle.basics.specs.Answers.{yes}
 use Rattle.step_in_place_v2.specs.Says.{viewIn}
@@ -40,24 +40,6 @@ module _ (k : tie.After-loaded) {c : BlockIteratorV2} {r : Bool} {ws′ key′ :
   bytes-put : key′ ≡ c .key
   bytes-put = put-bytes c (entry (k .before .before) .args .cursor .now) (entry (k .before .before) .args .key .now) (cursor-counts _ _ _ (told k .2)) (told k .1) p
 
-step-in-requires : tie.Need-step-in-requires
-step-in-requires c κs = search needs
-
-enum-known-loaded : tie.Need-enum-known-loaded
-enum-known-loaded c = search needs
-
-enum-told : tie.Need-enum-told
-enum-told c = search needs
-
-same-length : tie.Need-same-length
-same-length c = search needs
-
-same-length-2 : tie.Need-same-length-2
-same-length-2 c = search needs
-
-same-length-3 : tie.Need-same-length-3
-same-length-3 c = search needs
-
 returns : tie.Need-returns
 returns c =
     let s = entry (c .before .before) .args in
@@ -65,42 +47,6 @@ returns c =
 
 iterator-over-requires : tie.Need-iterator-over-requires
 iterator-over-requires c κs = told (c .before .before) .1
-
-next-requires : tie.Need-next-requires
-next-requires c κs = search needs
-
-enum-known-answer : tie.Need-enum-known-answer
-enum-known-answer c = search needs
-
-put-iterator-requires : tie.Need-put-iterator-requires
-put-iterator-requires c κs = search needs
-
-put-row-requires : tie.Need-put-row-requires
-put-row-requires c κs = search needs
-
-enum-told-2 : tie.Need-enum-told-2
-enum-told-2 c = search needs
-
-put-iterator-requires-2 : tie.Need-put-iterator-requires-2
-put-iterator-requires-2 c κs = search needs
-
-enum-known-answer-2 : tie.Need-enum-known-answer-2
-enum-known-answer-2 c = search needs
-
-number-requires : tie.Need-number-requires
-number-requires c κs = search needs
-
-same-length-4 : tie.Need-same-length-4
-same-length-4 c = search needs
-
-same-length-5 : tie.Need-same-length-5
-same-length-5 c = search needs
-
-same-length-6 : tie.Need-same-length-6
-same-length-6 c = search needs
-
-same-length-7 : tie.Need-same-length-7
-same-length-7 c = search needs
 
 returns-2 : tie.Need-returns-2
 returns-2 c =
@@ -111,18 +57,6 @@ returns-2 c =
     let t = told known in
     next-found _ (start .args .cursor .now) (start .args .key .now) (start .args .out .now) (start .args .row .now) _ (t .0) (t .1) (t .2) _ _ (rw (after-next .before .before .iterator-over .ensures) at (after-next .next .ensures)) (after-put-iterator .before .before .before .before .answer .given .1) (words-put known (after-put-iterator .put-iterator .ensures)) (bytes-put known (after-put-iterator .put-iterator .ensures)) (stored (t .0) (c .before .before .put-row .ensures))
 
-same-length-8 : tie.Need-same-length-8
-same-length-8 c = search needs
-
-same-length-9 : tie.Need-same-length-9
-same-length-9 c = search needs
-
-same-length-10 : tie.Need-same-length-10
-same-length-10 c = search needs
-
-same-length-11 : tie.Need-same-length-11
-same-length-11 c = search needs
-
 returns-3 : tie.Need-returns-3
 returns-3 c =
     let after-put-iterator2 = c .before .before .before .before in
@@ -131,18 +65,6 @@ returns-3 c =
     let start = entry (known .before .before) in
     let t = told known in
     next-done _ (start .args .cursor .now) (start .args .key .now) (start .args .out .now) (start .args .row .now) _ (t .0) (t .1) (t .2) _ _ (rw (after-next .before .before .iterator-over .ensures) at (after-next .next .ensures)) (after-put-iterator2 .before .before .before .enum-told2 .given .1) (words-put known (after-put-iterator2 .put-iterator2 .ensures)) (bytes-put known (after-put-iterator2 .put-iterator2 .ensures))
-
-same-length-12 : tie.Need-same-length-12
-same-length-12 c = search needs
-
-same-length-13 : tie.Need-same-length-13
-same-length-13 c = search needs
-
-same-length-14 : tie.Need-same-length-14
-same-length-14 c = search needs
-
-same-length-15 : tie.Need-same-length-15
-same-length-15 c = search needs
 
 returns-4 : tie.Need-returns-4
 returns-4 c =
@@ -156,34 +78,8 @@ pub slatedb-next-by-value-spec : {M : Type 1} → statement M
 slatedb-next-by-value-spec =
     tie.close
     (tie.spec
-    step-in-requires
-    enum-known-loaded
-    enum-told
-    same-length
-    same-length-2
-    same-length-3
-    returns
-    iterator-over-requires
-    next-requires
-    enum-known-answer
-    put-iterator-requires
-    put-row-requires
-    enum-told-2
-    put-iterator-requires-2
-    enum-known-answer-2
-    number-requires
-    same-length-4
-    same-length-5
-    same-length-6
-    same-length-7
-    returns-2
-    same-length-8
-    same-length-9
-    same-length-10
-    same-length-11
-    returns-3
-    same-length-12
-    same-length-13
-    same-length-14
-    same-length-15
-    returns-4)
+    (search needs) (search needs) (search needs) (search needs) (search needs) (search needs) returns
+    iterator-over-requires (search needs) (search needs) (search needs) (search needs) (search needs)
+    (search needs) (search needs) (search needs) (search needs) (search needs) (search needs) (search needs)
+    returns-2 (search needs) (search needs) (search needs) (search needs) returns-3 (search needs)
+    (search needs) (search needs) (search needs) returns-4)

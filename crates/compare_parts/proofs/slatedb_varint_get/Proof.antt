@@ -8,30 +8,6 @@ use Rattle.compare_parts.proofs.slatedb_varint_get.Tie as tie
 returns : tie.Need-returns
 returns c = reads-short _ _ (c .before .before .before .args .words .now) (c .if1 .taken)
 
-decode-varint-requires : tie.Need-decode-varint-requires
-decode-varint-requires c κs = search needs
-
-enum-known-read : tie.Need-enum-known-read
-enum-known-read c = search needs
-
-cast-words : tie.Need-cast-words
-cast-words c = search needs
-
-slice-write-words : tie.Need-slice-write-words
-slice-write-words c = search needs
-
-slice-write-words-2 : tie.Need-slice-write-words-2
-slice-write-words-2 c = search needs
-
-enum-known-read-2 : tie.Need-enum-known-read-2
-enum-known-read-2 c = search needs
-
-number-requires : tie.Need-number-requires
-number-requires c κs = search needs
-
-same-length : tie.Need-same-length
-same-length c = search needs
-
 returns-2 : tie.Need-returns-2
 returns-2 c =
     let tested = c .before .before .before .before in
@@ -46,14 +22,5 @@ pub slatedb-varint-get-spec : {M : Type 1} → statement M
 slatedb-varint-get-spec =
     tie.close
     (tie.spec
-    returns
-    decode-varint-requires
-    enum-known-read
-    cast-words
-    slice-write-words
-    slice-write-words-2
-    enum-known-read-2
-    number-requires
-    same-length
-    returns-2
-    returns-3)
+    returns (search needs) (search needs) (search needs) (search needs) (search needs) (search needs)
+    (search needs) (search needs) returns-2 returns-3)

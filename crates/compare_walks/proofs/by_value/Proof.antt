@@ -6,7 +6,7 @@ use native.Mathlib.Omega.{arith}
 use lib.ListN.{length}
 use lib.Seq.{length-take-le}
 use borrow.Author.Needs.{needs}
-use Rattle.layout.specs.Answer.{bind}
+use Rattle.layout.specs.Res.{bind}
 use Rattle.layout.specs.Limits.{maxKey}
 use Rattle.basics.specs.Answers.{yes}
 use Rattle.row_decode_v2.specs.Says.{rowFrom}
@@ -44,22 +44,10 @@ loop-holds c = (walking-start _ _ _, search needs, search needs)
 slice-aggregate-next : tie.Need-slice-aggregate-next Inv-loop μ-loop
 slice-aggregate-next c = sym (c .before .before .loop .inv .1)
 
-next-requires : tie.Need-next-requires Inv-loop μ-loop
-next-requires c κs = search needs
-
-enum-known-answer : tie.Need-enum-known-answer Inv-loop μ-loop
-enum-known-answer c = search needs
-
-slice-aggregate-with-row : tie.Need-slice-aggregate-with-row Inv-loop μ-loop
-slice-aggregate-with-row c = search needs
-
 with-row-requires : tie.Need-with-row-requires Inv-loop μ-loop
 with-row-requires c κs =
     let f = row-found (c .before) in
     (f .some, search needs, search needs)
-
-add-rows : tie.Need-add-rows Inv-loop μ-loop
-add-rows c = search needs
 
 loop-less : tie.Need-loop-less Inv-loop μ-loop
 loop-less c = omega arith
@@ -70,16 +58,10 @@ loop-again c =
     let f = row-found k in
     (walking-more _ _ _ _ _ (k .before .before .before .before .before .before .before .loop .inv .0) (k .before .before .before .before .before .before .loop-test .taken) _ _ _ _ (f .is) (c .before .with-row .ensures), search needs, whole (k .before .before .before .before))
 
-enum-told : tie.Need-enum-told Inv-loop μ-loop
-enum-told c = search needs
-
 returns : tie.Need-returns Inv-loop μ-loop
 returns c =
     let n = c .before .before .before in
     walking-done _ _ _ _ _ (n .before .before .before .loop .inv .0) (n .before .before .loop-test .taken) (ends _ _ _ (n .before .before .before .loop .key) _ (n .before .before .before .loop .inv .1) (yes saysNext (n .next .ensures .answer) (c .enum-told .given .1)) (n .next .ensures .view) (n .next .ensures .lent))
-
-enum-known-answer-2 : tie.Need-enum-known-answer-2 Inv-loop μ-loop
-enum-known-answer-2 c = search needs
 
 returns-2 : tie.Need-returns-2 Inv-loop μ-loop
 returns-2 c =
@@ -93,19 +75,6 @@ pub by-value-spec : {M : Type 1} → statement M
 by-value-spec =
     tie.close
     (tie.spec
-    Inv-loop
-    μ-loop
-    loop-holds
-    slice-aggregate-next
-    next-requires
-    enum-known-answer
-    slice-aggregate-with-row
-    with-row-requires
-    add-rows
-    loop-less
-    loop-again
-    enum-told
-    returns
-    enum-known-answer-2
-    returns-2
+    Inv-loop μ-loop loop-holds slice-aggregate-next (search needs) (search needs) (search needs)
+    with-row-requires (search needs) loop-less loop-again (search needs) returns (search needs) returns-2
     returns-3)

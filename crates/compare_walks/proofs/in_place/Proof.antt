@@ -5,7 +5,7 @@ use mathlib.Core.Path.{_≡_, sym}
 use native.Mathlib.Omega.{arith}
 use lib.ListN.{length, replicate}
 use borrow.Author.Needs.{needs}
-use Rattle.layout.specs.Answer.{bind}
+use Rattle.layout.specs.Res.{bind}
 use Rattle.layout.specs.Limits.{maxKey}
 use Rattle.row_decode_v2.specs.Says.{rowFrom}
 use Rattle.step_in_place_v2.specs.Says.{viewIn}
@@ -52,23 +52,8 @@ loop-holds c = (walking-start _ _ _, search needs, search needs)
 slice-aggregate-run-here : tie.Need-slice-aggregate-run-here Inv-loop μ-loop
 slice-aggregate-run-here c = sym (c .before .before .loop .inv .1)
 
-run-here-requires : tie.Need-run-here-requires Inv-loop μ-loop
-run-here-requires c κs = search needs
-
-slice-aggregate-next-in-place : tie.Need-slice-aggregate-next-in-place Inv-loop μ-loop
-slice-aggregate-next-in-place c = search needs
-
 slice-aggregate-next-in-place-2 : tie.Need-slice-aggregate-next-in-place-2 Inv-loop μ-loop
 slice-aggregate-next-in-place-2 c = sym (c .before .before .before .before .before .before .before .before .loop .inv .2)
-
-next-in-place-requires : tie.Need-next-in-place-requires Inv-loop μ-loop
-next-in-place-requires c κs = search needs
-
-enum-known-moved : tie.Need-enum-known-moved Inv-loop μ-loop
-enum-known-moved c = search needs
-
-slice-aggregate-with-row : tie.Need-slice-aggregate-with-row Inv-loop μ-loop
-slice-aggregate-with-row c = search needs
 
 with-row-requires : tie.Need-with-row-requires Inv-loop μ-loop
 with-row-requires c κs =
@@ -90,16 +75,10 @@ loop-again c =
     let f = row-found k in
     (walking-more _ _ _ _ _ (here n) (few n) _ _ _ _ (f .is) (c .with-row .ensures), search needs, search needs)
 
-enum-told : tie.Need-enum-told Inv-loop μ-loop
-enum-told c = search needs
-
 returns : tie.Need-returns Inv-loop μ-loop
 returns c =
     let n = c .before .before .before .before in
     walking-done _ _ _ _ _ (here n) (few n) (moved-ends _ _ _ _ _ _ _ (carried-whole n) (key-whole n) (n .next-in-place .ensures) (c .enum-told .given .1))
-
-enum-known-moved-2 : tie.Need-enum-known-moved-2 Inv-loop μ-loop
-enum-known-moved-2 c = search needs
 
 returns-2 : tie.Need-returns-2 Inv-loop μ-loop
 returns-2 c =
@@ -123,24 +102,6 @@ pub in-place-spec : {M : Type 1} → statement M
 in-place-spec =
     tie.close
     (tie.spec
-    Inv-loop
-    μ-loop
-    loop-holds
-    slice-aggregate-run-here
-    run-here-requires
-    slice-aggregate-next-in-place
-    slice-aggregate-next-in-place-2
-    next-in-place-requires
-    enum-known-moved
-    slice-aggregate-with-row
-    with-row-requires
-    add-rows
-    loop-less
-    loop-again
-    enum-told
-    returns
-    enum-known-moved-2
-    returns-2
-    loop-less-2
-    loop-again-2
-    returns-3)
+    Inv-loop μ-loop loop-holds slice-aggregate-run-here (search needs) (search needs)
+    slice-aggregate-next-in-place-2 (search needs) (search needs) (search needs) with-row-requires add-rows
+    loop-less loop-again (search needs) returns (search needs) returns-2 loop-less-2 loop-again-2 returns-3)

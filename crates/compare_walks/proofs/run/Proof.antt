@@ -6,7 +6,7 @@ use native.Mathlib.Omega.{arith}
 use lib.Dec.{eqb}
 use lib.ListN.{length, take}
 use borrow.Author.Needs.{needs}
-use Rattle.layout.specs.Answer.{Res}
+use Rattle.layout.specs.Res.{Res}
 use Rattle.layout.specs.Limits.{maxKey}
 use Rattle.layout.specs.RowRead.{mayShare}
 use Rattle.trailer.specs.Says.{regionFrom}
@@ -54,12 +54,6 @@ slice-aggregate-plain-at c =
     let s = c .before .before .before .before .before .before .before .before .before in
     sym (inside-long (s .args .block .now) (s .args .b .size) (regionFrom (s .args .b .region)) (viewIn (l .p) (l .key)) (l .inv .1))
 
-plain-at-requires : tie.Need-plain-at-requires Inv-loop μ-loop
-plain-at-requires c κs = search needs
-
-same-length : tie.Need-same-length Inv-loop μ-loop
-same-length c = search needs
-
 returns : tie.Need-returns Inv-loop μ-loop
 returns c =
     let l = c .before .before .before .before .before .before .before .loop in
@@ -74,9 +68,6 @@ slice-aggregate-pass-plain c =
 pass-plain-requires : tie.Need-pass-plain-requires Inv-loop μ-loop
 pass-plain-requires c κs = (c .before .before .before .before .before .before .before .before .before .loop .inv .2, fits (c .before .before))
 
-add-rows : tie.Need-add-rows Inv-loop μ-loop
-add-rows c = search needs
-
 add-p : tie.Need-add-p Inv-loop μ-loop
 add-p c =
     let k = c .before .before .before .before .before .before .before .before .before in
@@ -84,9 +75,6 @@ add-p c =
     let s = start k in
     let long : length (s .args .block .now) < 2 ^ 64 = s .good .0 .0 in
     omega (arith, inside-region (s .args .block .now) (s .args .b .size) (regionFrom (s .args .b .region)) (viewIn (l .p) (l .key)) (l .inv .1))
-
-same-length-2 : tie.Need-same-length-2 Inv-loop μ-loop
-same-length-2 c = search needs
 
 returns-2 : tie.Need-returns-2 Inv-loop μ-loop
 returns-2 c =
@@ -121,9 +109,6 @@ loop-again c =
       omega (arith, l .inv .3),
     )
 
-same-length-3 : tie.Need-same-length-3 Inv-loop μ-loop
-same-length-3 c = search needs
-
 returns-3 : tie.Need-returns-3 Inv-loop μ-loop
 returns-3 c = record { most = c .before .loop .inv .3; on = c .before .loop .inv .0 }
 
@@ -131,21 +116,6 @@ pub run-spec : {M : Type 1} → statement M
 run-spec =
     tie.close
     (tie.spec
-    Inv-loop
-    μ-loop
-    loop-holds
-    slice-aggregate-plain-at
-    plain-at-requires
-    same-length
-    returns
-    slice-aggregate-pass-plain
-    pass-plain-requires
-    add-rows
-    add-p
-    same-length-2
-    returns-2
-    add-p-2
-    loop-less
-    loop-again
-    same-length-3
-    returns-3)
+    Inv-loop μ-loop loop-holds slice-aggregate-plain-at (search needs) (search needs) returns
+    slice-aggregate-pass-plain pass-plain-requires (search needs) add-p (search needs) returns-2 add-p-2
+    loop-less loop-again (search needs) returns-3)

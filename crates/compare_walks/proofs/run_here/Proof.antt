@@ -5,9 +5,6 @@ use borrow.Author.Needs.{needs}
 use Rattle.compare_walks.proofs.run_here.Statement.{statement}
 use Rattle.compare_walks.proofs.run_here.Tie as tie
 
-bounds-of-requires : tie.Need-bounds-of-requires
-bounds-of-requires c κs = search needs
-
 returns : tie.Need-returns
 returns c = record { most = omega arith; on = λ want w. w }
 
@@ -16,11 +13,5 @@ run-requires c κs =
     let s = c .before .before .before .before .before .before .before .before in
     (search needs, bounds-inside (s .args .came .place) _ (s .args .block .now) (c .before .before .before .before .bounds-of .ensures) (c .before .if1 .left))
 
-same-length : tie.Need-same-length
-same-length c = search needs
-
-returns-2 : tie.Need-returns-2
-returns-2 c = search needs
-
 pub run-here-spec : {M : Type 1} → statement M
-run-here-spec = tie.close (tie.spec bounds-of-requires returns run-requires same-length returns-2)
+run-here-spec = tie.close (tie.spec (search needs) returns run-requires (search needs) (search needs))

@@ -9,31 +9,10 @@ use borrow.Author.Needs.{needs}
 use Rattle.compare_walks.proofs.tell.Statement.{statement}
 use Rattle.compare_walks.proofs.tell.Tie as tie
 
-enum-known-walked : tie.Need-enum-known-walked
-enum-known-walked c = search needs
-
-slice-write-sums : tie.Need-slice-write-sums
-slice-write-sums c = search needs
-
-slice-write-sums-2 : tie.Need-slice-write-sums-2
-slice-write-sums-2 c = search needs
-
-enum-known-walked-2 : tie.Need-enum-known-walked-2
-enum-known-walked-2 c = search needs
-
-number-requires : tie.Need-number-requires
-number-requires c κs = search needs
-
-same-length : tie.Need-same-length
-same-length c = search needs
-
 returns : tie.Need-returns
 returns c =
     let s = c .before .before .before .before .before in
     told-ended (s .args .sums .now) _ _ _ (s .pre) (ap saysWalked (c .before .before .walked .given .1)) (sym (ap (λ (o : Bool). cond o doneCode 0) (c .if1 .taken)))
-
-same-length-2 : tie.Need-same-length-2
-same-length-2 c = search needs
 
 returns-2 : tie.Need-returns-2
 returns-2 c =
@@ -47,13 +26,5 @@ pub tell-spec : {M : Type 1} → statement M
 tell-spec =
     tie.close
     (tie.spec
-    enum-known-walked
-    slice-write-sums
-    slice-write-sums-2
-    enum-known-walked-2
-    number-requires
-    same-length
-    returns
-    same-length-2
-    returns-2
-    returns-3)
+    (search needs) (search needs) (search needs) (search needs) (search needs) (search needs) returns
+    (search needs) returns-2 returns-3)

@@ -12,34 +12,10 @@ returns c =
     let start = c .before .before .before in
     walks-short (start .args .block .now) (start .args .order) (start .args .limit) (start .args .sums .now) (c .if1 .taken)
 
-order-in-requires : tie.Need-order-in-requires
-order-in-requires c κs = search needs
-
-enum-known-ordered : tie.Need-enum-known-ordered
-enum-known-ordered c = search needs
-
-enum-told : tie.Need-enum-told
-enum-told c = search needs
-
 returns-2 : tie.Need-returns-2
 returns-2 c =
     let start = c .before .before .before .before .before .before in
     walks-no-order (start .args .block .now) (start .args .order) (start .args .limit) (start .args .sums .now) (c .before .before .before .if1 .left) (yes saysOrdered (c .before .before .order-in .ensures) (c .enum-told .given .1))
-
-new-requires : tie.Need-new-requires
-new-requires c κs = search needs
-
-enum-told-2 : tie.Need-enum-told-2
-enum-told-2 c = search needs
-
-by-value-requires : tie.Need-by-value-requires
-by-value-requires c κs = search needs
-
-tell-requires : tie.Need-tell-requires
-tell-requires c κs = search needs
-
-same-length : tie.Need-same-length
-same-length c = search needs
 
 returns-3 : tie.Need-returns-3
 returns-3 c =
@@ -47,21 +23,6 @@ returns-3 c =
     let known = opened .before .before in
     let start = known .before .before .before .before .before .before in
     walks-told (start .args .block .now) (start .args .order) (start .args .limit) (start .args .sums .now) _ _ (known .before .before .before .if1 .left) (yes saysOrdered (known .before .before .order-in .ensures) (known .ordered .given .1)) (opened .new .ensures) (c .before .before .before .before .before .before .enum-told2 .given .1) (c .before .before .before .before .by-value .ensures) (c .before .before .tell .ensures)
-
-in-place-requires : tie.Need-in-place-requires
-in-place-requires c κs = search needs
-
-tell-requires-2 : tie.Need-tell-requires-2
-tell-requires-2 c κs = search needs
-
-enum-known-answer : tie.Need-enum-known-answer
-enum-known-answer c = search needs
-
-number-requires : tie.Need-number-requires
-number-requires c κs = search needs
-
-same-length-2 : tie.Need-same-length-2
-same-length-2 c = search needs
 
 returns-4 : tie.Need-returns-4
 returns-4 c =
@@ -81,21 +42,6 @@ pub walk-flat-spec : {M : Type 1} → statement M
 walk-flat-spec =
     tie.close
     (tie.spec
-    returns
-    order-in-requires
-    enum-known-ordered
-    enum-told
-    returns-2
-    new-requires
-    enum-told-2
-    by-value-requires
-    tell-requires
-    same-length
-    returns-3
-    in-place-requires
-    tell-requires-2
-    enum-known-answer
-    number-requires
-    same-length-2
-    returns-4
-    returns-5)
+    returns (search needs) (search needs) (search needs) returns-2 (search needs) (search needs)
+    (search needs) (search needs) (search needs) returns-3 (search needs) (search needs) (search needs)
+    (search needs) (search needs) returns-4 returns-5)

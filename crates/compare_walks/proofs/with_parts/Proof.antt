@@ -5,27 +5,6 @@ use borrow.Author.Needs.{needs}
 use Rattle.compare_walks.proofs.with_parts.Statement.{statement}
 use Rattle.compare_walks.proofs.with_parts.Tie as tie
 
-sub-last : tie.Need-sub-last
-sub-last c = search needs
-
-wrapping-add-u64-requires : tie.Need-wrapping-add-u64-requires
-wrapping-add-u64-requires c κs = search needs
-
-shared-slice-read-wide : tie.Need-shared-slice-read-wide
-shared-slice-read-wide c = search needs
-
-wide-requires : tie.Need-wide-requires
-wide-requires c κs = search needs
-
-wrapping-add-u64-requires-2 : tie.Need-wrapping-add-u64-requires-2
-wrapping-add-u64-requires-2 c κs = search needs
-
-wrapping-add-u64-requires-3 : tie.Need-wrapping-add-u64-requires-3
-wrapping-add-u64-requires-3 c κs = search needs
-
-wrapping-add-u64-requires-4 : tie.Need-wrapping-add-u64-requires-4
-wrapping-add-u64-requires-4 c κs = search needs
-
 returns : tie.Need-returns
 returns c =
     let s = c .before .before .before .before .before .before .before in
@@ -36,11 +15,5 @@ pub with-parts-spec : {M : Type 1} → statement M
 with-parts-spec =
     tie.close
     (tie.spec
-    sub-last
-    wrapping-add-u64-requires
-    shared-slice-read-wide
-    wide-requires
-    wrapping-add-u64-requires-2
-    wrapping-add-u64-requires-3
-    wrapping-add-u64-requires-4
+    (search needs) (search needs) (search needs) (search needs) (search needs) (search needs) (search needs)
     returns)

@@ -11,14 +11,14 @@ use native.Mathlib.Nat.{zero-add}
 use lib.Dec.{ltb}
 use lib.ListN.{length}
 use borrow.Author.Tests.{lt-ltb, le-ltb, eq-eqb, not-false}
-use Rattle.layout.specs.Answer.{ok, bind}
+use Rattle.layout.specs.Res.{ok, bind}
 use Rattle.layout.specs.Key.{Key, Rank, rankIs, noRank, mayFollow, Rising}
 use Rattle.layout.specs.RowRead.{RowRead, readRow, rowAt, headAt, keyOf}
 use Rattle.layout.specs.Trailer.{Trailer, trailerOf, dataOf, Region, regionOf, allOffsets, rowIn}
 use Rattle.layout.specs.Check.{Passed, passedIs, readRank, passedRow, checkRow, checkFrom, check}
 use Rattle.layout.specs.Cursor.{Keyed, keyed}
 use Rattle.demands.specs.Reads.{regionRows, regionsRows, allRows, ranksOf, Accepts}
-use Rattle.layout.specs.Laws.Answer.{bind-then, guard-then, ok-inj, ltb-cases}
+use Rattle.layout.specs.Laws.Res.{bind-then, guard-then, ok-inj, ltb-cases}
 use Rattle.layout.specs.Laws.Trailer.{regionOf-tells, trailerOf-tells, OffsetsTell, allOffsets-tell, region-good}
 use Rattle.layout.specs.Laws.Tells.{readRow-ends, rowIn-ends}
 use Rattle.demands.specs.Laws.Reads.{region-at, region-cons, region-over, region-more, RegionsAre, next as next-region, regions-are, regions-cons, allRows-none, allRows-next}

@@ -9,14 +9,14 @@ use native.Mathlib.Omega.{arith}
 use native.Mathlib.Numerals.{add-one}
 use lib.Dec.{ltb, eqb}
 use lib.ListN.{length}
-use Rattle.layout.specs.Answer.{Res, ok, refuse}
+use Rattle.layout.specs.Res.{Res, ok, refuse}
 use Rattle.layout.specs.Limits.{maxKey}
 use Rattle.layout.specs.Key.{Key}
 use Rattle.layout.specs.RowRead.{RowRead, keyLength, keyOf}
 use Rattle.layout.specs.Trailer.{Trailer, trailerOf, dataOf, offsetAt, Region, regionOf, rowIn}
 use Rattle.layout.specs.Cursor.{ascending, Cursor, cursorIs, marked, opened, Keyed, keyed, found, done, stepIs, pastRow, stepUp, next}
 use Rattle.demands.specs.Reads.{regionRows, regionsRows, Reads, allRows}
-use Rattle.layout.specs.Laws.Answer.{ltb-cases}
+use Rattle.layout.specs.Laws.Res.{ltb-cases}
 use Rattle.layout.specs.Laws.Trailer.{RegionTells, regionOf-tells, trailerOf-tells, OffsetsTell, allOffsets-tell}
 use Rattle.layout.specs.Laws.Tells.{RowEnds, rowIn-ends}
 use Rattle.layout.specs.Laws.Carry.{keyOf-length}
@@ -26,8 +26,8 @@ use Rattle.demands.specs.Laws.Reads.{region-at, region-over, RegionsAre,
 -- a cursor that stands in a region before the rows `here` of it, after which the regions `rest` come
 pub record InRegion (b : List ℕ) (t : Trailer) (c : Cursor) (here : List Keyed) (rest : List (List Keyed)) : Type 0 where
   pub g : Region
-  pub goes-up : c .direction ≡ ascending
-  pub unmarked : c .mark ≡ false
+  pub goes-up : c .order ≡ ascending
+  pub unmarked : c .done ≡ false
   pub trailer-good : trailerOf b ≡ ok t
   pub inside : c .region < t .count
   pub used : regionOf b t (c .region) ≡ ok g
@@ -221,7 +221,7 @@ module _ (b : List ℕ) (t : Trailer) (c : Cursor) (room : ℕ) where
       some r qs e = let y : _≡_ {A = ℕ} 0 1 = cc in omega arith
 
 -- once it has said so, it says so ever after, and stays as it is
-pub marked-stays : (b : List ℕ) (t : Trailer) (c : Cursor) (room : ℕ) → trailerOf b ≡ ok t → c .region < t .count → c .keyLen ≤ maxKey → c .mark ≡ true
+pub marked-stays : (b : List ℕ) (t : Trailer) (c : Cursor) (room : ℕ) → trailerOf b ≡ ok t → c .region < t .count → c .keyLen ≤ maxKey → c .done ≡ true
     → next c b room ≡ ok (stepIs c done)
 marked-stays b t c room e h k m = next-marked c b room t e h k m
 

@@ -8,7 +8,7 @@ use native.Mathlib.Nat.{zero-add}
 use native.Mathlib.Omega.{arith}
 use lib.ListN.{length, length-append}
 use borrow.Author.Tests.{lt-ltb, le-ltb}
-use Rattle.layout.specs.Answer.{ok, refuse}
+use Rattle.layout.specs.Res.{ok, refuse}
 use Rattle.layout.specs.Limits.{maxKey}
 use Rattle.layout.specs.Key.{Key}
 use Rattle.layout.specs.RowRead.{RowRead, keyLength, keyOf}
@@ -160,8 +160,8 @@ pub record After (b : List ℕ) (t : Trailer) (c : Cursor) (rows : List Keyed) :
   pub fs : List (List Keyed)
   pub ps : List Keyed
   pub qs : List Keyed
-  pub goes-down : c .direction ≡ descending
-  pub unmarked : c .mark ≡ false
+  pub goes-down : c .order ≡ descending
+  pub unmarked : c .done ≡ false
   pub trailer-good : trailerOf b ≡ ok t
   pub inside : c .region < t .count
   pub fits : c .keyLen ≤ maxKey
@@ -186,7 +186,7 @@ module _ (b : List ℕ) (t : Trailer) (c : Cursor) (room : ℕ) where
 
   -- the row k of a region, which ends where the cursor stands, found and given
   gives-in : (region : ℕ) (g : Region) (fs : List (List Keyed)) (ps : List Keyed) (k : Keyed) (qs : List Keyed) → next c b room ≡ stepBackIn c b t room region g
-      → c .direction ≡ descending → c .mark ≡ false → trailerOf b ≡ ok t → region < t .count → c .keyLen ≤ maxKey → regionOf b t region ≡ ok g → Front b t region fs
+      → c .order ≡ descending → c .done ≡ false → trailerOf b ≡ ok t → region < t .count → c .keyLen ≤ maxKey → regionOf b t region ≡ ok g → Front b t region fs
       → regionRows (t .size) (dataOf b t) g (g .start) [] ≡ ok (ps ++ (k ∷ qs)) → c .at ≡ k .row .next → GivesBack k (allRows fs ++ ps)
   gives-in region g fs ps k qs e dir un tr i f u fr h s =
       let tells = regionOf-tells b t region g u in

@@ -8,7 +8,7 @@ use native.Mathlib.Nat.{le-of-suc-le-suc, not-suc-le-zero}
 use lib.ListN.{length, getD}
 use borrow.Author.Tests.{not-true, not-false}
 use Rattle.layout.specs.Key.{Key, below, leading, isBelow, notAbove, firstAtOrAbove, firstAbove}
-use Rattle.layout.specs.Laws.Answer.{bool-cases}
+use Rattle.layout.specs.Laws.Res.{bool-cases}
 
 module _ (p : Key → Bool) where
   leading-before : (xs : List Key) (i : ℕ) → i < leading p xs → p (getD xs i []) ≡ true

@@ -12,7 +12,7 @@ use lib.Dec.{ltb, eqb}
 use lib.ListN.{length, take, drop, getD, length-append, length-drop}
 use lib.Seq.{drop-drop}
 use borrow.Author.Tests.{eq-eqb, ne-eqb}
-use Rattle.layout.specs.Answer.{ok}
+use Rattle.layout.specs.Res.{ok}
 use Rattle.layout.specs.Key.{Key}
 use Rattle.layout.specs.Row.{Fields, Row, rowBytes, plainRow}
 use Rattle.layout.specs.RowRead.{RowRead, mayShare, readRow, keyOf}
@@ -20,7 +20,7 @@ use Rattle.layout.specs.Block.{isRestart, shareOf, laidRow, rowsFrom, offsetsFr
 use Rattle.layout.specs.Trailer.{Trailer, trailerIs, dataOf, offsetAt, Region, regionOf, rowIn}
 use Rattle.layout.specs.Cursor.{Keyed, keyed}
 use Rattle.demands.specs.Reads.{regionRows, regionsRows, Reads, allRows, contentOf}
-use Rattle.layout.specs.Laws.Answer.{ltb-cases, clash}
+use Rattle.layout.specs.Laws.Res.{ltb-cases, clash}
 use Rattle.layout.specs.Laws.Place.{past, within}
 use Rattle.layout.specs.Laws.Row.{placesOf, readRow-law, placesOf-fields, placesOf-key}
 use Rattle.layout.specs.Laws.Block.{RowOk, AllOk, AllFit, shares-is, shares-ok, laidRow-least, first-restart, offsets-few}

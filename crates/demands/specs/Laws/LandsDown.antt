@@ -10,14 +10,14 @@ use native.Mathlib.Numerals.{add-one}
 use lib.ListN.{length, take, drop, take-append-drop}
 use lib.Seq.{take-add, take-at, drop-at, take-append-le, take-nil}
 use borrow.Author.Tests.{lt-ltb, le-ltb}
-use Rattle.layout.specs.Answer.{Res, ok}
+use Rattle.layout.specs.Res.{Res, ok}
 use Rattle.layout.specs.Key.{Key, below, same, leading, notAbove}
 use Rattle.layout.specs.RowRead.{RowRead, keyOf}
 use Rattle.layout.specs.Trailer.{Trailer, trailerOf, dataOf, Region, regionOf, rowIn}
 use Rattle.layout.specs.Cursor.{descending, Cursor, cursorIs, Keyed, keyed}
 use Rattle.layout.specs.Seek.{Found, restartKey, restartBelow, lastEqual, startDown, lastAtOrBelow, doneDown, walkDown, soughtIs, seek}
 use Rattle.demands.specs.Reads.{regionRows, regionsRows, Reads, allRows, keysOf}
-use Rattle.layout.specs.Laws.Answer.{bool-cases, ltb-cases, ok-inj, clash}
+use Rattle.layout.specs.Laws.Res.{bool-cases, ltb-cases, ok-inj, clash}
 use Rattle.layout.specs.Laws.Key.{AtMost, at-most-refl, below-false, le-below, below-le, same-is}
 use Rattle.layout.specs.Laws.Trailer.{RegionTells, regionOf-tells, trailerOf-tells}
 use Rattle.layout.specs.Laws.Tells.{rowIn-ends}

@@ -11,7 +11,7 @@ use lib.Dec.{eqb}
 use lib.ListN.{length, drop, length-append, length-drop, drop-of-length-le}
 use lib.Seq.{drop-at, drop-drop, drop-append-le}
 use borrow.Author.Tests.{lt-ltb, le-ltb}
-use Rattle.layout.specs.Answer.{Res, ok}
+use Rattle.layout.specs.Res.{Res, ok}
 use Rattle.layout.specs.Limits.{maxKey}
 use Rattle.layout.specs.Key.{Key, below, leading, isBelow}
 use Rattle.layout.specs.RowRead.{RowRead, keyOf}
@@ -19,7 +19,7 @@ use Rattle.layout.specs.Trailer.{Trailer, trailerOf, dataOf, Region, regionOf, 
 use Rattle.layout.specs.Cursor.{ascending, Cursor, cursorIs, Keyed, keyed}
 use Rattle.layout.specs.Seek.{restartBelow, Stop, stopIs, walkRegion, doneUp, walkUp, soughtIs, seek}
 use Rattle.demands.specs.Reads.{regionRows, regionsRows, Reads, allRows, keysOf}
-use Rattle.layout.specs.Laws.Answer.{ltb-cases, ok-inj}
+use Rattle.layout.specs.Laws.Res.{ltb-cases, ok-inj}
 use Rattle.layout.specs.Laws.Trailer.{regionOf-tells}
 use Rattle.layout.specs.Laws.Tells.{rowIn-ends}
 use Rattle.layout.specs.Laws.Carry.{keyOf-length}

@@ -8,12 +8,12 @@ use lib.Dec.{ltb}
 use lib.ListN.{length, drop, length-append, length-drop, List·getD-append}
 use lib.Seq.{take-append-le, drop-append-le}
 use borrow.Author.Tests.{le-ltb}
-use Rattle.layout.specs.Answer.{ok}
+use Rattle.layout.specs.Res.{ok}
 use Rattle.layout.specs.Limits.{maxValue}
 use Rattle.layout.specs.Varint.{readVarint}
 use Rattle.layout.specs.Place.{NumAt, varintAt, fixedAt, SignedAt, signedAt}
 use Rattle.layout.specs.RowRead.{Lengths, seqAt, lengthsAt, mayShare, headTests, headAt, Flags, Body, bodyTests, bodyAt, TimeAt, timeAt, Times, timesAt, RowRead, rowAt, readRow}
-use Rattle.layout.specs.Laws.Answer.{bind-then, guard-then, ok-inj}
+use Rattle.layout.specs.Laws.Res.{bind-then, guard-then, ok-inj}
 use Rattle.layout.specs.Laws.Varint.{readVarint-local}
 use Rattle.layout.specs.Laws.Place.{varintAt-ends, fixedAt-ends}
 use Rattle.layout.specs.Laws.Tells.{bodyAt-tells, timeAt-ends, timesAt-ends}

@@ -9,13 +9,13 @@ use native.Mathlib.Omega.{arith}
 use lib.Dec.{eqb}
 use lib.ListN.{length}
 use borrow.Author.Tests.{lt-ltb, le-ltb}
-use Rattle.layout.specs.Answer.{Res, ok, refuse}
+use Rattle.layout.specs.Res.{Res, ok, refuse}
 use Rattle.layout.specs.Key.{Key}
 use Rattle.layout.specs.RowRead.{RowRead, readRow, keyOf}
 use Rattle.layout.specs.Trailer.{Trailer, dataOf, Region, regionOf, rowIn}
 use Rattle.layout.specs.Cursor.{Keyed, keyed}
 use Rattle.demands.specs.Reads.{regionRows, regionsRows, allRows, AllOf}
-use Rattle.layout.specs.Laws.Answer.{bind-then, ok-inj, ltb-cases}
+use Rattle.layout.specs.Laws.Res.{bind-then, ok-inj, ltb-cases}
 use Rattle.layout.specs.Laws.Trailer.{regionOf-tells}
 use Rattle.layout.specs.Laws.Tells.{rowIn-ends}
 

@@ -7,7 +7,7 @@ use mathlib.Core.List.{List, [], _∷_}
 use mathlib.Core.Logic.{⊎-elim}
 use native.Mathlib.Omega.{arith}
 use lib.Dec.{ltb}
-use Rattle.layout.specs.Answer.{Res, ok, refuse, bind, guard}
+use Rattle.layout.specs.Res.{Res, ok, refuse, bind, guard}
 use Rattle.layout.specs.Varint.{Num, readVarint}
 use Rattle.layout.specs.Place.{varintAt, fixedAt}
 use Rattle.layout.specs.Key.{Key}
@@ -17,7 +17,7 @@ use Rattle.layout.specs.Trailer.{Trailer, trailerOf, Region, regionOf}
 use Rattle.layout.specs.Cursor.{Direction, ascending, descending}
 use Rattle.layout.specs.Seek.{searchIn, search as searchSpan, restartKey, restartBelow, searchRestarts, walkRegion, walkUp, seekUp, lastEqual, startDown, lastAtOrBelow, walkDown, seekDown, Sought, seekAlong, seek}
 use Rattle.layout.specs.Laws.Varint.{VarintAnswer, reads, ends, spells-wrong, readVarint-answers}
-use Rattle.layout.specs.Laws.Answer.{ltb-cases, clash}
+use Rattle.layout.specs.Laws.Res.{ltb-cases, clash}
 
 -- 1 to 3, or 9 to 16
 abbrev pub listed : ℕ → Bool

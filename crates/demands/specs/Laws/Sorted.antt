@@ -11,7 +11,7 @@ use borrow.Author.Tests.{not-true}
 use Rattle.layout.specs.Key.{Key, below, Rank, rankIs, mayFollow, Rising, leading, isBelow, notAbove}
 use Rattle.layout.specs.Cursor.{Keyed}
 use Rattle.demands.specs.Reads.{ranksOf, AllOf, keysOf}
-use Rattle.layout.specs.Laws.Answer.{bool-cases, clash}
+use Rattle.layout.specs.Laws.Res.{bool-cases, clash}
 use Rattle.layout.specs.Laws.Key.{AtMost, at-most-trans, below-false, le-below, below-trans}
 
 -- ---- rows that all pass a test

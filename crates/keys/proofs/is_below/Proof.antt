@@ -7,18 +7,6 @@ use Rattle.keys.proofs.Laws.{compared}
 use Rattle.keys.proofs.is_below.Statement.{statement}
 use Rattle.keys.proofs.is_below.Tie as tie
 
-compare-requires : tie.Need-compare-requires
-compare-requires c κs = search needs
-
-enum-told : tie.Need-enum-told
-enum-told c = search needs
-
-enum-told-2 : tie.Need-enum-told-2
-enum-told-2 c = search needs
-
-enum-told-3 : tie.Need-enum-told-3
-enum-told-3 c = search needs
-
 returns : tie.Need-returns
 returns c = sym (ap isLess (compared _ _ (c .before .before .compare .ensures) (c .enum-told .given .1))) ∙ compare-less-below _ _
 
@@ -31,4 +19,4 @@ returns-3 c = sym (ap isLess (compared _ _ (c .before .before .compare .ensures)
 pub is-below-spec : {M : Type 1} → statement M
 is-below-spec =
     tie.close
-    (tie.spec compare-requires enum-told enum-told-2 enum-told-3 returns returns-2 returns-3)
+    (tie.spec (search needs) (search needs) (search needs) (search needs) returns returns-2 returns-3)

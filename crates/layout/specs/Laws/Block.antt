@@ -16,7 +16,7 @@ use Rattle.layout.specs.Row.{Fields, Row, ifSo}
 use Rattle.layout.specs.RowRead.{mayShare}
 use Rattle.layout.specs.Block.{isRestart, shareOf, laidRow, rowsFrom, offsetsFrom, blockRows, offsets}
 use Rattle.layout.specs.Builder.{restartsOf}
-use Rattle.layout.specs.Laws.Answer.{bool-cases, eqb-cases}
+use Rattle.layout.specs.Laws.Res.{bool-cases, eqb-cases}
 use Rattle.layout.specs.Laws.Key.{common-left, common-right, common-take}
 use Rattle.layout.specs.Laws.Row.{FieldsOk, KeyOk, rowBytes-least}
 

@@ -8,12 +8,12 @@ use native.Mathlib.Omega.{arith}
 use lib.Dec.{ltb, eqb}
 use lib.ListN.{length}
 use borrow.Author.Tests.{lt-ltb, le-ltb, le-leb, lt-leb, eq-eqb, ne-eqb, ltb-false, eqb-true, eqb-false, not-false}
-use Rattle.layout.specs.Answer.{Res, ok, refuse, guard}
+use Rattle.layout.specs.Res.{Res, ok, refuse, guard}
 use Rattle.layout.specs.Limits.{maxKey, maxBlock, maxInterval, maxOffset, maxRestarts, leastRow}
 use Rattle.layout.specs.Key.{Key}
 use Rattle.layout.specs.Row.{Fields, valueOf, lengthTests}
 use Rattle.layout.specs.Builder.{Builder, fresh, newBuilder, restartsOf, stateTests, atRestart, presentSize, grownSize, fits, wouldFit, grown, add, build}
-use Rattle.layout.specs.Laws.Answer.{guard-then, eqb-cases}
+use Rattle.layout.specs.Laws.Res.{guard-then, eqb-cases}
 
 -- ---- new
 
@@ -38,16 +38,16 @@ module _ (size interval : ℕ) where
 -- ---- state 18: whichever test fails, in whatever order they are made
 
 pub record StateOk (b : Builder) (dataLen placesLen : ℕ) : Type 0 where
-  pub block : b .size ≤ maxBlock
-  pub some : 1 ≤ b .interval
-  pub few : b .interval ≤ maxInterval
+  pub block : b .blockSize ≤ maxBlock
+  pub some : 1 ≤ b .restartInterval
+  pub few : b .restartInterval ≤ maxInterval
   pub in-data : b .used ≤ dataLen
   pub in-places : b .restarts ≤ placesLen
   pub allowed : b .restarts ≤ maxRestarts
-  pub counted : b .restarts ≡ restartsOf (b .rows) (b .interval)
-  pub least : leastRow * b .rows ≤ b .used
-  pub no-rows : b .rows ≡ 0 → b .used ≡ 0
-  pub last-fits : b .lastLen ≤ maxKey
+  pub counted : b .restarts ≡ restartsOf (b .counter) (b .restartInterval)
+  pub least : leastRow * b .counter ≤ b .used
+  pub no-rows : b .counter ≡ 0 → b .used ≡ 0
+  pub last-fits : b .lastKeyLen ≤ maxKey
 
 -- a test of 18 adds no other answer
 only : (t : Bool) {x : Res (Unit {0})} → (x ≡ ok tt) ⊎ (x ≡ refuse 18) → (guard t 18 x ≡ ok tt) ⊎ (guard t 18 x ≡ refuse 18)
@@ -59,60 +59,60 @@ module _ (b : Builder) (dataLen placesLen : ℕ) where
   unfolding stateTests
   state-good s =
       rw (
-        le-ltb maxBlock (b .size) (s .block),
-        ne-eqb (b .interval) 0 (omega (arith, s .some)),
-        le-ltb maxInterval (b .interval) (s .few),
+        le-ltb maxBlock (b .blockSize) (s .block),
+        ne-eqb (b .restartInterval) 0 (omega (arith, s .some)),
+        le-ltb maxInterval (b .restartInterval) (s .few),
         le-ltb dataLen (b .used) (s .in-data),
         le-ltb placesLen (b .restarts) (s .in-places),
         le-ltb maxRestarts (b .restarts) (s .allowed),
-        eq-eqb (b .restarts) (restartsOf (b .rows) (b .interval)) (s .counted),
-        le-ltb (b .used) (leastRow * b .rows) (s .least),
+        eq-eqb (b .restarts) (restartsOf (b .counter) (b .restartInterval)) (s .counted),
+        le-ltb (b .used) (leastRow * b .counter) (s .least),
         nothing,
-        le-ltb maxKey (b .lastLen) (s .last-fits),
+        le-ltb maxKey (b .lastKeyLen) (s .last-fits),
       )
     where
-      nothing : (eqb (b .rows) 0 && ltb 0 (b .used)) ≡ false
-      nothing = ⊎-elim (λ t. rw (t .0) (le-ltb 0 (b .used) (omega (arith, s .no-rows (t .1))))) (λ t. rw (t .0)) (eqb-cases (b .rows) 0)
+      nothing : (eqb (b .counter) 0 && ltb 0 (b .used)) ≡ false
+      nothing = ⊎-elim (λ t. rw (t .0) (le-ltb 0 (b .used) (omega (arith, s .no-rows (t .1))))) (λ t. rw (t .0)) (eqb-cases (b .counter) 0)
 
   pub state-tells : (u : Unit {0}) → stateTests b dataLen placesLen ≡ ok u → StateOk b dataLen placesLen
   unfolding stateTests
   state-tells u e =
-      guard-then (ltb maxBlock (b .size)) 18 _ u e λ t₁ e₁.
-      guard-then (eqb (b .interval) 0) 18 _ u e₁ λ t₂ e₂.
-      guard-then (ltb maxInterval (b .interval)) 18 _ u e₂ λ t₃ e₃.
+      guard-then (ltb maxBlock (b .blockSize)) 18 _ u e λ t₁ e₁.
+      guard-then (eqb (b .restartInterval) 0) 18 _ u e₁ λ t₂ e₂.
+      guard-then (ltb maxInterval (b .restartInterval)) 18 _ u e₂ λ t₃ e₃.
       guard-then (ltb dataLen (b .used)) 18 _ u e₃ λ t₄ e₄.
       guard-then (ltb placesLen (b .restarts)) 18 _ u e₄ λ t₅ e₅.
       guard-then (ltb maxRestarts (b .restarts)) 18 _ u e₅ λ t₆ e₆.
-      guard-then (not (eqb (b .restarts) (restartsOf (b .rows) (b .interval)))) 18 _ u e₆ λ t₇ e₇.
-      guard-then (ltb (b .used) (leastRow * b .rows)) 18 _ u e₇ λ t₈ e₈.
-      guard-then (eqb (b .rows) 0 && ltb 0 (b .used)) 18 _ u e₈ λ t₉ e₉.
-      guard-then (ltb maxKey (b .lastLen)) 18 _ u e₉ λ t₀ e₀.
+      guard-then (not (eqb (b .restarts) (restartsOf (b .counter) (b .restartInterval)))) 18 _ u e₆ λ t₇ e₇.
+      guard-then (ltb (b .used) (leastRow * b .counter)) 18 _ u e₇ λ t₈ e₈.
+      guard-then (eqb (b .counter) 0 && ltb 0 (b .used)) 18 _ u e₈ λ t₉ e₉.
+      guard-then (ltb maxKey (b .lastKeyLen)) 18 _ u e₉ λ t₀ e₀.
       record {
-        block = ltb-false maxBlock (b .size) t₁;
-        some = omega (arith, eqb-false (b .interval) 0 t₂);
-        few = ltb-false maxInterval (b .interval) t₃;
+        block = ltb-false maxBlock (b .blockSize) t₁;
+        some = omega (arith, eqb-false (b .restartInterval) 0 t₂);
+        few = ltb-false maxInterval (b .restartInterval) t₃;
         in-data = ltb-false dataLen (b .used) t₄;
         in-places = ltb-false placesLen (b .restarts) t₅;
         allowed = ltb-false maxRestarts (b .restarts) t₆;
-        counted = eqb-true (b .restarts) (restartsOf (b .rows) (b .interval)) (not-false (eqb (b .restarts) (restartsOf (b .rows) (b .interval))) t₇);
-        least = ltb-false (b .used) (leastRow * b .rows) t₈;
-        no-rows = λ z. let q : ltb 0 (b .used) ≡ false = rw (eq-eqb (b .rows) 0 z) at t₉ in omega (arith, ltb-false 0 (b .used) q);
-        last-fits = ltb-false maxKey (b .lastLen) t₀;
+        counted = eqb-true (b .restarts) (restartsOf (b .counter) (b .restartInterval)) (not-false (eqb (b .restarts) (restartsOf (b .counter) (b .restartInterval))) t₇);
+        least = ltb-false (b .used) (leastRow * b .counter) t₈;
+        no-rows = λ z. let q : ltb 0 (b .used) ≡ false = rw (eq-eqb (b .counter) 0 z) at t₉ in omega (arith, ltb-false 0 (b .used) q);
+        last-fits = ltb-false maxKey (b .lastKeyLen) t₀;
       }
 
   either : (stateTests b dataLen placesLen ≡ ok tt) ⊎ (stateTests b dataLen placesLen ≡ refuse 18)
   unfolding stateTests
   either =
-      only (ltb maxBlock (b .size))
-      (only (eqb (b .interval) 0)
-      (only (ltb maxInterval (b .interval))
+      only (ltb maxBlock (b .blockSize))
+      (only (eqb (b .restartInterval) 0)
+      (only (ltb maxInterval (b .restartInterval))
       (only (ltb dataLen (b .used))
       (only (ltb placesLen (b .restarts))
       (only (ltb maxRestarts (b .restarts))
-      (only (not (eqb (b .restarts) (restartsOf (b .rows) (b .interval))))
-      (only (ltb (b .used) (leastRow * b .rows))
-      (only (eqb (b .rows) 0 && ltb 0 (b .used))
-      (only (ltb maxKey (b .lastLen)) (inl refl))))))))))
+      (only (not (eqb (b .restarts) (restartsOf (b .counter) (b .restartInterval))))
+      (only (ltb (b .used) (leastRow * b .counter))
+      (only (eqb (b .counter) 0 && ltb 0 (b .used))
+      (only (ltb maxKey (b .lastKeyLen)) (inl refl))))))))))
 
   -- a state that is not right answers 18
   pub state-bad : (StateOk b dataLen placesLen → ⊥) → stateTests b dataLen placesLen ≡ refuse 18
@@ -121,17 +121,17 @@ module _ (b : Builder) (dataLen placesLen : ℕ) where
 -- ---- the fit question, adding, building
 
 module _ (b : Builder) (key : Key) (f : Fields) where
-  pub fits-empty : b .rows ≡ 0 → fits b key f ≡ true
+  pub fits-empty : b .counter ≡ 0 → fits b key f ≡ true
   unfolding fits
-  fits-empty h = rw (eq-eqb (b .rows) 0 h)
+  fits-empty h = rw (eq-eqb (b .counter) 0 h)
 
-  pub fits-room : (b .rows ≡ 0 → ⊥) → grownSize b key f ≤ b .size → fits b key f ≡ true
+  pub fits-room : (b .counter ≡ 0 → ⊥) → grownSize b key f ≤ b .blockSize → fits b key f ≡ true
   unfolding fits
-  fits-room h k = rw (ne-eqb (b .rows) 0 h, le-leb (grownSize b key f) (b .size) k)
+  fits-room h k = rw (ne-eqb (b .counter) 0 h, le-leb (grownSize b key f) (b .blockSize) k)
 
-  pub fits-not : (b .rows ≡ 0 → ⊥) → b .size < grownSize b key f → fits b key f ≡ false
+  pub fits-not : (b .counter ≡ 0 → ⊥) → b .blockSize < grownSize b key f → fits b key f ≡ false
   unfolding fits
-  fits-not h k = rw (ne-eqb (b .rows) 0 h, lt-leb (grownSize b key f) (b .size) k)
+  fits-not h k = rw (ne-eqb (b .counter) 0 h, lt-leb (grownSize b key f) (b .blockSize) k)
 
 module _ (b : Builder) (dataLen placesLen : ℕ) (key : Key) (f : Fields) where
   pub fit-state : {n : ℕ} → stateTests b dataLen placesLen ≡ refuse n → wouldFit b dataLen placesLen key f ≡ refuse n
@@ -185,14 +185,14 @@ module _ (b : Builder) (dataLen placesLen : ℕ) where
   build-state e = rw e
 
   module _ (s : stateTests b dataLen placesLen ≡ ok tt) where
-    pub build-none : b .rows ≡ 0 → build b dataLen placesLen ≡ refuse 7
+    pub build-none : b .counter ≡ 0 → build b dataLen placesLen ≡ refuse 7
     unfolding build
-    build-none h = rw (s, eq-eqb (b .rows) 0 h)
+    build-none h = rw (s, eq-eqb (b .counter) 0 h)
 
-    pub build-short : (b .rows ≡ 0 → ⊥) → dataLen < presentSize b → build b dataLen placesLen ≡ refuse 6
+    pub build-short : (b .counter ≡ 0 → ⊥) → dataLen < presentSize b → build b dataLen placesLen ≡ refuse 6
     unfolding build
-    build-short h k = rw (s, ne-eqb (b .rows) 0 h, lt-ltb dataLen (presentSize b) k)
+    build-short h k = rw (s, ne-eqb (b .counter) 0 h, lt-ltb dataLen (presentSize b) k)
 
-    pub build-good : (b .rows ≡ 0 → ⊥) → presentSize b ≤ dataLen → build b dataLen placesLen ≡ ok (presentSize b)
+    pub build-good : (b .counter ≡ 0 → ⊥) → presentSize b ≤ dataLen → build b dataLen placesLen ≡ ok (presentSize b)
     unfolding build
-    build-good h k = rw (s, ne-eqb (b .rows) 0 h, le-ltb dataLen (presentSize b) k)
+    build-good h k = rw (s, ne-eqb (b .counter) 0 h, le-ltb dataLen (presentSize b) k)

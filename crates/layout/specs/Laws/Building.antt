@@ -7,12 +7,12 @@ use mathlib.Core.List.{List}
 use native.Mathlib.Omega.{arith}
 use lib.Dec.{eqb}
 use lib.ListN.{length, drop}
-use Rattle.layout.specs.Answer.{ok}
+use Rattle.layout.specs.Res.{ok}
 use Rattle.layout.specs.Key.{Key, common}
 use Rattle.layout.specs.Row.{Fields, valueOf, ifSo, present, rowBytes, lengthTests}
 use Rattle.layout.specs.Block.{isRestart, shareOf, laidRow}
-use Rattle.layout.specs.Builder.{Builder, isEmpty, stateTests, wouldFit, add}
-use Rattle.layout.specs.Laws.Answer.{bind-then}
+use Rattle.layout.specs.Builder.{Builder, hasNoRows, stateTests, wouldFit, add}
+use Rattle.layout.specs.Laws.Res.{bind-then}
 use Rattle.layout.specs.Laws.Builder.{StateOk, state-tells}
 use Rattle.layout.specs.Laws.Row.{length-rowBytes}
 use Rattle.layout.specs.Laws.Varint.{varint-few}
@@ -21,8 +21,8 @@ pub restart-rule : (interval i : ℕ) → eqb (i % interval) 0 ≡ isRestart int
 unfolding isRestart
 restart-rule interval i = refl
 
-pub empty-rule : (b : Builder) → eqb (b .rows) 0 ≡ isEmpty b
-unfolding isEmpty
+pub empty-rule : (b : Builder) → eqb (b .counter) 0 ≡ hasNoRows b
+unfolding hasNoRows
 empty-rule b = refl
 
 module _ (before key : Key) where

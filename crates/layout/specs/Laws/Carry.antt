@@ -8,7 +8,7 @@ use native.Mathlib.Omega.{arith}
 use lib.ListN.{length, take, drop, length-append, length-drop, take-append-drop}
 use lib.Seq.{take-take, length-take-le}
 use borrow.Author.Tests.{le-ltb}
-use Rattle.layout.specs.Answer.{Res, ok}
+use Rattle.layout.specs.Res.{Res, ok}
 use Rattle.layout.specs.Limits.{maxKey}
 use Rattle.layout.specs.Place.{splice}
 use Rattle.layout.specs.Key.{Key, below, rankIs, mayFollow}

@@ -8,14 +8,14 @@ use native.Mathlib.Omega.{arith}
 use lib.Dec.{ltb, eqb}
 use lib.ListN.{length, take, drop}
 use borrow.Author.Tests.{lt-ltb, le-ltb}
-use Rattle.layout.specs.Answer.{Res, ok, refuse, bind}
+use Rattle.layout.specs.Res.{Res, ok, refuse, bind}
 use Rattle.layout.specs.Limits.{maxKey}
 use Rattle.layout.specs.Place.{splice}
 use Rattle.layout.specs.Key.{below, rankIs, noRank, mayFollow}
 use Rattle.layout.specs.RowRead.{RowRead, keyLength}
 use Rattle.layout.specs.Trailer.{Trailer, trailerOf, dataOf, Region, regionOf, allOffsets, rowIn}
 use Rattle.layout.specs.Check.{Passed, passedIs, readRank, checkRow, checkFrom, check}
-use Rattle.layout.specs.Laws.Answer.{spend}
+use Rattle.layout.specs.Laws.Res.{spend}
 use Rattle.layout.specs.Laws.Carry.{Carries, read-carried, suffixOf, key-new, key-parts, follows-suffix}
 use Rattle.layout.specs.Laws.Tells.{row-shares, rowIn-ends}
 

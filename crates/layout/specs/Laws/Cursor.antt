@@ -10,13 +10,13 @@ use native.Mathlib.Omega.{arith}
 use lib.Dec.{ltb, eqb}
 use lib.ListN.{length}
 use borrow.Author.Tests.{lt-ltb, le-ltb, le-leb, lt-leb, eq-eqb, ne-eqb, ltb-false}
-use Rattle.layout.specs.Answer.{ok, refuse}
+use Rattle.layout.specs.Res.{ok, refuse}
 use Rattle.layout.specs.Limits.{maxKey}
 use Rattle.layout.specs.Key.{Key}
 use Rattle.layout.specs.RowRead.{RowRead, keyLength, keyOf}
 use Rattle.layout.specs.Trailer.{Trailer, trailerOf, dataOf, Region, regionOf, allOffsets, rowIn}
 use Rattle.layout.specs.Cursor.{Direction, ascending, descending, Cursor, marked, opened, openBlock, found, done, stepIs, pastRow, stepUp, Keyed, keyed, rowEndingAt, backPast, stepBackIn, stepDown, next, exhausted, isEmpty}
-use Rattle.layout.specs.Laws.Answer.{bind-then, guard-then, cond-ok, ok-inj}
+use Rattle.layout.specs.Laws.Res.{bind-then, guard-then, cond-ok, ok-inj}
 use Rattle.layout.specs.Laws.Carry.{keyOf-length}
 use Rattle.layout.specs.Laws.Tells.{rowIn-ends}
 
@@ -54,15 +54,15 @@ module _ (c : Cursor) (b : List ℕ) (room : ℕ) where
       next-key k = rw (e, lt-leb (t .count) (c .region) h, lt-ltb maxKey (c .keyLen) k)
 
       module _ (k : c .keyLen ≤ maxKey) where
-        pub next-marked : c .mark ≡ true → next c b room ≡ ok (stepIs c done)
+        pub next-marked : c .done ≡ true → next c b room ≡ ok (stepIs c done)
         unfolding next
         next-marked m = rw (e, lt-leb (t .count) (c .region) h, le-ltb maxKey (c .keyLen) k, m)
 
-        pub next-up : c .mark ≡ false → c .direction ≡ ascending → next c b room ≡ stepUp c b t room
+        pub next-up : c .done ≡ false → c .order ≡ ascending → next c b room ≡ stepUp c b t room
         unfolding next
         next-up m d = rw (e, lt-leb (t .count) (c .region) h, le-ltb maxKey (c .keyLen) k, m, d)
 
-        pub next-down : c .mark ≡ false → c .direction ≡ descending → next c b room ≡ stepDown c b t room
+        pub next-down : c .done ≡ false → c .order ≡ descending → next c b room ≡ stepDown c b t room
         unfolding next
         next-down m d = rw (e, lt-leb (t .count) (c .region) h, le-ltb maxKey (c .keyLen) k, m, d)
 
@@ -192,6 +192,6 @@ module _ (c : Cursor) (b : List ℕ) where
   unfolding isEmpty
   empty-trailer e = rw e
 
-  pub empty-is : (t : Trailer) → trailerOf b ≡ ok t → isEmpty c b ≡ ok (exhausted (c .direction) c t)
+  pub empty-is : (t : Trailer) → trailerOf b ≡ ok t → isEmpty c b ≡ ok (exhausted (c .order) c t)
   unfolding isEmpty
   empty-is t e = rw e

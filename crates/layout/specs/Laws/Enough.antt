@@ -8,14 +8,14 @@ use mathlib.Core.Logic.{⊎-elim}
 use native.Mathlib.Omega.{arith}
 use lib.ListN.{length}
 use borrow.Author.Tests.{lt-ltb, le-ltb}
-use Rattle.layout.specs.Answer.{Res, ok, refuse}
+use Rattle.layout.specs.Res.{Res, ok, refuse}
 use Rattle.layout.specs.Key.{Key, below, mayFollow}
 use Rattle.layout.specs.RowRead.{RowRead, keyOf}
 use Rattle.layout.specs.Trailer.{Trailer, dataOf, Region, regionOf, rowIn}
 use Rattle.layout.specs.Check.{Passed, passedIs, readRank, checkRow, checkFrom}
 use Rattle.layout.specs.Cursor.{rowEndingAt}
 use Rattle.layout.specs.Seek.{walkRegion, lastEqual, lastAtOrBelow}
-use Rattle.layout.specs.Laws.Answer.{bind-then, guard-then, ok-inj, ltb-cases}
+use Rattle.layout.specs.Laws.Res.{bind-then, guard-then, ok-inj, ltb-cases}
 use Rattle.layout.specs.Laws.Tells.{rowIn-ends}
 
 -- a fold over places up to `end`, with what it carries: past the end it stops, and a step goes on from a later place

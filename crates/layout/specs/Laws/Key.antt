@@ -11,7 +11,7 @@ use lib.ListN.{length, take, drop, getD, drop-of-length-le}
 use lib.Seq.{drop-cons}
 use borrow.Author.Tests.{lt-ltb, le-ltb, eq-eqb, ne-eqb}
 use Rattle.layout.specs.Key.{Key, below, same, less, equal, greater, compare, common}
-use Rattle.layout.specs.Laws.Answer.{ltb-cases, eqb-cases, bool-cases}
+use Rattle.layout.specs.Laws.Res.{ltb-cases, eqb-cases, bool-cases}
 
 -- a is at most b
 abbrev pub AtMost : Key → Key → Type 0

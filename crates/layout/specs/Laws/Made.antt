@@ -11,14 +11,14 @@ use lib.Dec.{ltb, leb, eqb}
 use lib.ListN.{length, take, set, length-append, length-set}
 use lib.Seq.{take-suc-set}
 use borrow.Author.Tests.{ltb-false, leb-false, eqb-false}
-use Rattle.layout.specs.Answer.{ok}
+use Rattle.layout.specs.Res.{ok}
 use Rattle.layout.specs.Limits.{maxKey, maxValue, maxBlock, maxInterval, maxOffset}
 use Rattle.layout.specs.Place.{splice}
 use Rattle.layout.specs.Key.{Key}
 use Rattle.layout.specs.Row.{Fields, Row, valueOf, ifSo, keyLengthTests, lengthTests, Typed}
 use Rattle.layout.specs.Block.{isRestart, laidRow, rowsFrom, offsetsFrom, blockRows, offsets, trailer, blockBytes}
 use Rattle.layout.specs.Builder.{Builder, fresh, newBuilder, restartsOf, stateTests, atRestart, nextRow, presentSize, grownSize, wouldFit, grown, add, dataAfter, placesAfter, build, blockAfter}
-use Rattle.layout.specs.Laws.Answer.{bind-then, guard-then, ok-inj}
+use Rattle.layout.specs.Laws.Res.{bind-then, guard-then, ok-inj}
 use Rattle.layout.specs.Laws.Tells.{keyLengthTests-tells}
 use Rattle.layout.specs.Laws.Splice.{length-splice, take-past-splice}
 use Rattle.layout.specs.Laws.Block.{RowOk, AllOk, AllFit, lastKey, onlyIf, blockRows-snoc, offsets-snoc, lastKey-snoc, offsets-count, blockRows-least, offsets-few}
@@ -26,15 +26,15 @@ use Rattle.layout.specs.Laws.Builder.{StateOk, state-good, build-good}
 use Rattle.layout.specs.Laws.Trailer.{length-trailer}
 
 pub record Made (n : ℕ) (rs : List Row) (b : Builder) (bytes places : List ℕ) : Type 0 where
-  pub interval-is : b .interval ≡ n
-  pub block : b .size ≤ maxBlock
+  pub interval-is : b .restartInterval ≡ n
+  pub block : b .blockSize ≤ maxBlock
   pub some : 1 ≤ n
   pub few : n ≤ maxInterval
   pub used-is : b .used ≡ length (blockRows n rs)
   pub restarts-are : b .restarts ≡ length (offsets n rs)
-  pub rows-are : b .rows ≡ length rs
-  pub lastLen-is : b .lastLen ≡ length (lastKey [] rs)
-  pub last-is : b .last ≡ lastKey [] rs
+  pub rows-are : b .counter ≡ length rs
+  pub lastLen-is : b .lastKeyLen ≡ length (lastKey [] rs)
+  pub last-is : b .lastKey ≡ lastKey [] rs
   pub in-data : b .used ≤ length bytes
   pub in-places : b .restarts ≤ length places
   pub bytes-are : take (b .used) bytes ≡ blockRows n rs
@@ -229,7 +229,7 @@ made-builds n rs b bytes places m h =
     let same : trailer (take (b .restarts) places) ≡ trailer (offsets n rs) = ap trailer (m .places-are) in
     let long : b .used + length (trailer (take (b .restarts) places)) ≡ presentSize b = rw (same, length-trailer (offsets n rs)) (omega (arith, m .restarts-are)) in
     let fit : b .used + length (trailer (take (b .restarts) places)) ≤ length bytes = omega (arith, m .room h) in
-    let ne : b .rows ≡ 0 → ⊥ = λ z. absurd (omega (arith, m .rows-are)) in (
+    let ne : b .counter ≡ 0 → ⊥ = λ z. absurd (omega (arith, m .rows-are)) in (
       build-good b (length bytes) (length places) (state-good b (length bytes) (length places) (made-state m)) ne (m .room h) ∙ ap ok (sym size),
       ap (λ (k : ℕ). take k (splice bytes (b .used) (trailer (take (b .restarts) places)))) (size ∙ sym long)
           ∙ take-past-splice bytes (b .used) (trailer (take (b .restarts) places)) fit

@@ -7,11 +7,11 @@ use lib.Dec.{ltb}
 use lib.ListN.{length, take, drop, getD, length-append, length-drop, drop-of-length-le}
 use lib.Seq.{drop-at, drop-drop, drop-cons, getD-drop}
 use borrow.Author.Tests.{lt-ltb, le-ltb, ltb-false}
-use Rattle.layout.specs.Answer.{ok, refuse}
+use Rattle.layout.specs.Res.{ok, refuse}
 use Rattle.layout.specs.Varint.{readVarint, varint, num}
 use Rattle.layout.specs.Fixed.{big, unbig}
 use Rattle.layout.specs.Place.{NumAt, numAt, varintAt, fixedAt, SignedAt, signedAt}
-use Rattle.layout.specs.Laws.Answer.{bind-then, guard-then, ok-inj}
+use Rattle.layout.specs.Laws.Res.{bind-then, guard-then, ok-inj}
 use Rattle.layout.specs.Laws.Varint.{readVarint-varint, readVarint-len, readVarint-none}
 use Rattle.layout.specs.Laws.Fixed.{length-big, unbig-take-big}
 

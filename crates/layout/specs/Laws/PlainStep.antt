@@ -5,7 +5,7 @@ use mathlib.Core.Bool.{false}
 use mathlib.Core.List.{List}
 use native.Mathlib.Omega.{arith}
 use lib.Dec.{eqb}
-use Rattle.layout.specs.Answer.{ok}
+use Rattle.layout.specs.Res.{ok}
 use Rattle.layout.specs.Limits.{maxKey}
 use Rattle.layout.specs.RowRead.{mayShare, readRow, keyOf}
 use Rattle.layout.specs.Trailer.{Trailer, trailerOf, dataOf, Region, regionOf}
@@ -24,7 +24,7 @@ plain-reads d at end prevLen start p m e h =
     rw (plain-is d at end prevLen (eqb at start) k, ← e′)
 
 pub plain-step : (c : Cursor) (b : List ℕ) (room : ℕ) (t : Trailer) (g : Region) {most : ℕ} (p : Plain)
-    → c .direction ≡ ascending → c .mark ≡ false
+    → c .order ≡ ascending → c .done ≡ false
     → trailerOf b ≡ ok t → c .region < t .count → c .keyLen ≤ maxKey
     → regionOf b t (c .region) ≡ ok g → g .start ≤ c .at → c .at < g .end
     → most ≡ mayShare (eqb (c .at) (g .start)) (c .keyLen) → p ≡ plainAt (dataOf b t) (c .at) (g .end) most → 0 < p .next

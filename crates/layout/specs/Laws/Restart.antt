@@ -9,12 +9,12 @@ use native.Mathlib.Omega.{arith}
 use lib.Dec.{ltb}
 use lib.ListN.{length}
 use borrow.Author.Tests.{ltb-false}
-use Rattle.layout.specs.Answer.{ok}
+use Rattle.layout.specs.Res.{ok}
 use Rattle.layout.specs.Key.{Key, same}
 use Rattle.layout.specs.RowRead.{valueAt, headAt, KeyRead, readKey}
 use Rattle.layout.specs.Trailer.{Trailer}
 use Rattle.layout.specs.Seek.{Found, middle, restartKey, restartBelow, searchRestarts, lastEqual, startDown}
-use Rattle.layout.specs.Laws.Answer.{bind-then, guard-then, cond-ok, ok-inj, ltb-cases}
+use Rattle.layout.specs.Laws.Res.{bind-then, guard-then, cond-ok, ok-inj, ltb-cases}
 use Rattle.layout.specs.Laws.Search.{search-closed}
 
 -- ---- the key read alone

@@ -8,14 +8,14 @@ use native.Mathlib.Omega.{arith}
 use lib.ListN.{length, take, drop, length-append}
 use lib.Seq.{take-at, drop-at, take-nil}
 use borrow.Author.Tests.{le-ltb, ne-eqb}
-use Rattle.layout.specs.Answer.{ok}
+use Rattle.layout.specs.Res.{ok}
 use Rattle.layout.specs.Limits.{maxKey, maxValue}
 use Rattle.layout.specs.Varint.{varint}
 use Rattle.layout.specs.Fixed.{big, bits}
 use Rattle.layout.specs.Key.{Key}
 use Rattle.layout.specs.Row.{Kind, value, tombstone, merge, Time, Absent, At, Fields, kept, keptLength, valueOf, ifSo, present, flagsOf, timeBytes, rowBytes, rowSize, keyLengthTests, TimeOk, plain, SameRow}
 use Rattle.layout.specs.RowRead.{Lengths, lengthsIs, lengthsAt, valueAt, seqAt, mayShare, headTests, headAt, Flags, flagsIs, flagsAt, heldAs, Body, bodyIs, bodyTests, bodyAt, timeIs, timeAt, timesIs, timesAt, RowRead, rowIs, rowAt, readRow, keyOf, kindOf, heldBytes, fieldsOf}
-use Rattle.layout.specs.Laws.Answer.{ok-inj}
+use Rattle.layout.specs.Laws.Res.{ok-inj}
 use Rattle.layout.specs.Laws.Varint.{length-varint, varint-few}
 use Rattle.layout.specs.Laws.Fixed.{length-big, bits-fit, unbits-bits}
 use Rattle.layout.specs.Laws.Place.{past, within, byte-at, varintAt-law, fixedAt-law}

@@ -7,7 +7,7 @@ use mathlib.Core.List.{List, _++_}
 use native.Mathlib.Omega.{arith}
 use lib.ListN.{length, take, getD}
 use borrow.Author.Tests.{lt-ltb, le-ltb, eq-eqb, ne-eqb}
-use Rattle.layout.specs.Answer.{ok, refuse}
+use Rattle.layout.specs.Res.{ok, refuse}
 use Rattle.layout.specs.Limits.{maxKey, maxValue}
 use Rattle.layout.specs.Place.{NumAt, varintAt, fixedAt, SignedAt, signedAt}
 use Rattle.layout.specs.Key.{Key}

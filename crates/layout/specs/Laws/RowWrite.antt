@@ -9,12 +9,12 @@ use lib.Dec.{ltb}
 use lib.IntN.{ℤ}
 use lib.ListN.{length}
 use borrow.Author.Tests.{ltb-false}
-use Rattle.layout.specs.Answer.{Res, ok, refuse, bind}
+use Rattle.layout.specs.Res.{Res, ok, refuse, bind}
 use Rattle.layout.specs.Limits.{maxKey, maxValue}
 use Rattle.layout.specs.Varint.{varint, varintLength}
 use Rattle.layout.specs.Fixed.{big, bits}
 use Rattle.layout.specs.Row.{Kind, Absent, At, Fields, keptLength, valueOf, ifSo, present, flagsOf, timeBytes, rowBytes, rowSize, keyLengthTests, lengthTests, sizeAlone, encodeRow}
-use Rattle.layout.specs.Laws.Answer.{bind-then, guard-then, ok-inj}
+use Rattle.layout.specs.Laws.Res.{bind-then, guard-then, ok-inj}
 use Rattle.layout.specs.Laws.Row.{length-kept, rowBytes-size}
 use Rattle.layout.specs.Laws.RowExits.{encode-no, encode-short, encode-is}
 use Rattle.layout.specs.Laws.Tells.{keyLengthTests-tells}

@@ -7,9 +7,9 @@ use mathlib.Core.Logic.{⊎-elim}
 use native.Mathlib.Omega.{arith}
 use native.Mathlib.Nat.{pow-succ', sub-eq-zero-of-le}
 use borrow.Author.Tests.{lt-ltb, le-ltb}
-use Rattle.layout.specs.Answer.{Res, ok, refuse, bind}
+use Rattle.layout.specs.Res.{Res, ok, refuse, bind}
 use Rattle.layout.specs.Seek.{Found, foundIs, tick, middle, searchIn, search}
-use Rattle.layout.specs.Laws.Answer.{bind-ok, ltb-cases}
+use Rattle.layout.specs.Laws.Res.{bind-ok, ltb-cases}
 
 pub middle-low : (low high : ℕ) → low < high → low ≤ middle low high
 unfolding middle

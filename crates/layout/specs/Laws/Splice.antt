@@ -11,9 +11,9 @@ use lib.ListN.{length, take, drop, set, length-append, length-take, length-drop,
 use lib.Seq.{take-add, take-take, drop-drop, drop-append-le, take-at, drop-at, length-take-le, sets, sets-eq}
 use borrow.Author.Tests.{lt-ltb, le-ltb, ltb-true, ltb-false}
 use borrow.Rule.Slice.PartMut.{midOf, putMid}
-use Rattle.layout.specs.Answer.{ok, refuse, guard}
+use Rattle.layout.specs.Res.{ok, refuse, guard}
 use Rattle.layout.specs.Place.{splice, putAt, afterPut}
-use Rattle.layout.specs.Laws.Answer.{guard-then, ok-inj}
+use Rattle.layout.specs.Laws.Res.{guard-then, ok-inj}
 
 -- ys is xs with w written at `at`, which it had room for, and n is the place after it
 pub record Wrote (xs : List ℕ) (at : ℕ) (w ys : List ℕ) (n : ℕ) : Type 0 where

@@ -8,13 +8,13 @@ use mathlib.Core.Logic.{⊎-elim}
 use lib.Dec.{ltb, leb, eqb}
 use lib.ListN.{length}
 use borrow.Author.Tests.{ltb-false}
-use Rattle.layout.specs.Answer.{Res, ok, guard}
+use Rattle.layout.specs.Res.{Res, ok, guard}
 use Rattle.layout.specs.Limits.{maxKey}
 use Rattle.layout.specs.Key.{Key}
 use Rattle.layout.specs.RowRead.{RowRead, keyLength, keyOf}
 use Rattle.layout.specs.Trailer.{Trailer, trailerOf, dataOf, Region, regionOf, rowIn}
 use Rattle.layout.specs.Cursor.{Direction, ascending, descending, Cursor, marked, Answer, found, done, Step, stepIs, give, pastRow, stepUp, Keyed, rowEndingAt, backPast, stepBackIn, stepDown, stepAlong, next}
-use Rattle.layout.specs.Laws.Answer.{bind-then, guard-then, cond-ok, ok-inj}
+use Rattle.layout.specs.Laws.Res.{bind-then, guard-then, cond-ok, ok-inj}
 use Rattle.layout.specs.Laws.Carry.{keyOf-length}
 use Rattle.layout.specs.Laws.Cursor.{ended}
 use Rattle.layout.specs.Laws.Tells.{rowIn-ends}
@@ -24,7 +24,7 @@ use Rattle.layout.specs.Laws.Tells.{rowIn-ends}
 pub data Stepped (c : Cursor) (b : List ℕ) : Step → Type 0 where
   stays : Stepped c b (stepIs c done)
   ends : Stepped c b (stepIs (marked c) done)
-  goes-up : (t : Trailer) (g : Region) (r : RowRead) → c .direction ≡ ascending → rowIn (dataOf b t) g (c .at) (c .keyLen) ≡ ok r
+  goes-up : (t : Trailer) (g : Region) (r : RowRead) → c .order ≡ ascending → rowIn (dataOf b t) g (c .at) (c .keyLen) ≡ ok r
       → Stepped c b (stepIs (pastRow c g r (keyOf (dataOf b t) (c .key) r)) (found r (keyOf (dataOf b t) (c .key) r)))
   goes-back : (t : Trailer) (region : ℕ) (g : Region) (k : Keyed) → rowEndingAt (c .at) (dataOf b t) g (c .at) (g .start) [] ≡ ok k
       → Stepped c b (stepIs (backPast c region (k .row)) (found (k .row) (k .key)))
@@ -49,7 +49,7 @@ module _ (c : Cursor) (b : List ℕ) (room : ℕ) (s : Step) where
   none : (to : Cursor) → Stepped c b (stepIs to done) → _≡_ {A = Res Step} (ok (stepIs to done)) (ok s) → Inverted c b (λ n. ok (stepIs to done)) s
   none to h e = rw (← ok-inj e) (record { how = h; again = λ n. refl })
 
-  up : (t : Trailer) → c .direction ≡ ascending → stepUp c b t room ≡ ok s → Inverted c b (λ n. stepUp c b t n) s
+  up : (t : Trailer) → c .order ≡ ascending → stepUp c b t room ≡ ok s → Inverted c b (λ n. stepUp c b t n) s
   unfolding stepUp
   up t heads e =
       bind-then (regionOf b t (c .region)) _ s e λ g p₁ e₁.
@@ -108,12 +108,12 @@ next-tells c b room s e =
     let says : (n : ℕ) → next c b n ≡ ok (stepIs c done) = λ n. rw (p₁, p₂, p₃, u .0) in
     record { few = few; how = i .how; again = λ n. says n ∙ i .again n })
     (λ u.
-    let i = along (c .direction) refl t (u .1) in
-    let goes : (n : ℕ) → next c b n ≡ stepAlong (c .direction) c b t n = λ n. rw (p₁, p₂, p₃, u .0) in
+    let i = along (c .order) refl t (u .1) in
+    let goes : (n : ℕ) → next c b n ≡ stepAlong (c .order) c b t n = λ n. rw (p₁, p₂, p₃, u .0) in
     record { few = few; how = i .how; again = λ n. goes n ∙ i .again n })
-    (cond-ok (c .mark) _ _ s e₃)
+    (cond-ok (c .done) _ _ s e₃)
   where
-    along : (d : Direction) → c .direction ≡ d → (t : Trailer) → stepAlong d c b t room ≡ ok s → Inverted c b (λ n. stepAlong d c b t n) s
+    along : (d : Direction) → c .order ≡ d → (t : Trailer) → stepAlong d c b t room ≡ ok s → Inverted c b (λ n. stepAlong d c b t n) s
     along ascending h t u = up c b room s t h u
     along descending h t u = down c b room s t u
 

@@ -9,13 +9,13 @@ use native.Mathlib.Omega.{arith}
 use lib.Dec.{ltb, eqb}
 use lib.ListN.{length, getD}
 use borrow.Author.Tests.{le-ltb, ltb-false, eqb-false}
-use Rattle.layout.specs.Answer.{ok}
+use Rattle.layout.specs.Res.{ok}
 use Rattle.layout.specs.Limits.{maxKey, maxValue}
 use Rattle.layout.specs.Place.{varintAt, fixedAt, signedAt}
 use Rattle.layout.specs.Row.{keyLengthTests}
 use Rattle.layout.specs.RowRead.{Lengths, valueAt, seqAt, lengthsAt, mayShare, headTests, headAt, Flags, flagsAt, Body, bodyTests, bodyAt, TimeAt, timeAt, Times, timesAt, RowRead, rowIs, rowAt, readRow, keyLength, KeyRead, readKey}
 use Rattle.layout.specs.Trailer.{Region, rowIn}
-use Rattle.layout.specs.Laws.Answer.{bind-then, guard-then, ok-inj}
+use Rattle.layout.specs.Laws.Res.{bind-then, guard-then, ok-inj}
 use Rattle.layout.specs.Laws.Place.{varintAt-ends, signedAt-ends}
 
 pub lengthsAt-ends : (d : List ℕ) (at : ℕ) (l : Lengths) → lengthsAt d at ≡ ok l → (at + 3 ≤ l .body) × (l .body ≤ length d)

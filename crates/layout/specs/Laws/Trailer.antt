@@ -9,12 +9,12 @@ use lib.Dec.{ltb, leb, eqb}
 use lib.ListN.{length, drop, getD, length-append}
 use lib.Seq.{take-at, drop-at}
 use borrow.Author.Tests.{lt-ltb, le-ltb, le-leb, lt-leb, eq-eqb, ne-eqb, ltb-true, ltb-false, leb-false, eqb-false}
-use Rattle.layout.specs.Answer.{Res, ok, refuse}
+use Rattle.layout.specs.Res.{Res, ok, refuse}
 use Rattle.layout.specs.Fixed.{big}
 use Rattle.layout.specs.Place.{NumAt, fixedAt}
 use Rattle.layout.specs.Block.{offsetBytes, trailer}
 use Rattle.layout.specs.Trailer.{shortAt, countOf, Trailer, trailerIs, trailerOf, dataOf, offsetAt, risingFrom, allOffsets, Region, regionIs, firstOf, regionOf}
-use Rattle.layout.specs.Laws.Answer.{guard-then, cond-ok, ok-inj, ltb-cases, eqb-cases, spend}
+use Rattle.layout.specs.Laws.Res.{guard-then, cond-ok, ok-inj, ltb-cases, eqb-cases, spend}
 use Rattle.layout.specs.Laws.Fixed.{length-big, unbig-take-big}
 use Rattle.layout.specs.Laws.Place.{past}
 use Rattle.layout.specs.Laws.Block.{AllFit}

@@ -14,9 +14,9 @@ use lib.ListN.{length, getD, drop, drop-of-length-le}
 use lib.Pow.{pow-add, pow-mono}
 use lib.Seq.{drop-cons}
 use borrow.Author.Tests.{lt-ltb, le-ltb}
-use Rattle.layout.specs.Answer.{Res, ok, refuse, bind}
+use Rattle.layout.specs.Res.{Res, ok, refuse, bind}
 use Rattle.layout.specs.Varint.{varintIn, varint, varintLength, Num, num, above, readVarintIn, readVarint}
-use Rattle.layout.specs.Laws.Answer.{ltb-cases, eqb-cases, bind-then, cond-ok, ok-inj}
+use Rattle.layout.specs.Laws.Res.{ltb-cases, eqb-cases, bind-then, cond-ok, ok-inj}
 
 -- ---- what is written reads back
 

@@ -20,15 +20,6 @@ is n h = ap (λ (y : ℤ). negsuc 0 -ℤ y) (toZ-pos w64 {n = 184467440737095516
 fits : (n : ℕ) → 9223372036854775808 ≤ n → SFits w64 (negsuc 0 -ℤ toZ w64 (18446744073709551615 - n))
 fits n h = subst (SFits w64) (sym (is n h)) (record { sfits = omega arith })
 
-cast-result : tie.Need-cast-result
-cast-result c = search needs
-
-sub-result : tie.Need-sub-result
-sub-result c = search needs
-
-cast-result-2 : tie.Need-cast-result-2
-cast-result-2 c = search needs
-
 sub-result-2 : tie.Need-sub-result-2
 sub-result-2 c = fits _ (c .if1 .left)
 
@@ -43,4 +34,4 @@ returns-2 c =
 
 pub from-bits-spec : {M : Type 1} → statement M
 from-bits-spec =
-    tie.close (tie.spec cast-result sub-result cast-result-2 sub-result-2 returns returns-2)
+    tie.close (tie.spec (search needs) (search needs) (search needs) sub-result-2 returns returns-2)

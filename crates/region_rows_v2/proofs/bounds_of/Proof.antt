@@ -2,7 +2,7 @@
 -- Each exit is one law, over what was read on the way to it.
 use mathlib.Core.Path.{_≡_, ap, sym, _∙_}
 use mathlib.Core.List.{[]}
-use Rattle.layout.specs.Answer.{ok}
+use Rattle.layout.specs.Res.{ok}
 use Rattle.layout.specs.Trailer.{trailerOf, regionOf}
 use Rattle.layout.specs.Cursor.{ascending, Cursor}
 use Rattle.basics.specs.Answers.{yes}
@@ -39,39 +39,15 @@ module _ (m : tie.After-region-of) where
 region-read : (n : tie.After-known-told2) → let k = known (n .before .before .before) in regionOf (start k .args .block .now) (trailerFrom (k .before .read .given .0 .0)) (start k .args .p .region) ≡ ok (regionFrom (n .before .bounds .given .0 .0))
 region-read n = sym (used (n .before .before .before)) ∙ yes saysRegion (n .before .before .before .region-of .ensures) (n .before .bounds .given .1)
 
-enum-told : tie.Need-enum-told
-enum-told c = search needs
-
-enum-told-2 : tie.Need-enum-told-2
-enum-told-2 c = search needs
-
-no-bounds-requires : tie.Need-no-bounds-requires
-no-bounds-requires c κs = search needs
-
 returns : tie.Need-returns
 returns c =
     let s = c .before .before .before .before in
     c .no-bounds .ensures ∙ none-down (viewIn (s .args .p) []) (s .args .block .now) (ap saysOrder (c .before .enum-told2 .given .1))
 
-no-bounds-requires-2 : tie.Need-no-bounds-requires-2
-no-bounds-requires-2 c κs = search needs
-
 returns-2 : tie.Need-returns-2
 returns-2 c =
     let s = c .before .before .before .before .before in
     c .no-bounds2 .ensures ∙ none-marked (viewIn (s .args .p) []) (s .args .block .now) (heads (c .before .before)) (c .before .if1 .taken)
-
-trailer-of-requires : tie.Need-trailer-of-requires
-trailer-of-requires c κs = search needs
-
-enum-known-read : tie.Need-enum-known-read
-enum-known-read c = search needs
-
-enum-told-3 : tie.Need-enum-told-3
-enum-told-3 c = search needs
-
-no-bounds-requires-3 : tie.Need-no-bounds-requires-3
-no-bounds-requires-3 c κs = search needs
 
 returns-3 : tie.Need-returns-3
 returns-3 c =
@@ -80,35 +56,17 @@ returns-3 c =
     c .no-bounds3 .ensures
     ∙ none-trailer (viewIn (s .args .p) []) (s .args .block .now) (heads (e .before)) (e .if1 .left) (yes saysTrailer (c .before .before .before .trailer-of .ensures) (c .before .enum-told3 .given .1))
 
-no-bounds-requires-4 : tie.Need-no-bounds-requires-4
-no-bounds-requires-4 c κs = search needs
-
 returns-4 : tie.Need-returns-4
 returns-4 c =
     let k = c .before .before .before .before in
     c .no-bounds4 .ensures
     ∙ none-region (cursor k) (start k .args .block .now) (heads (k .before .before .before .before .before)) (k .before .before .before .before .if1 .left) _ (trailer-read k) (c .before .if2 .taken)
 
-no-bounds-requires-5 : tie.Need-no-bounds-requires-5
-no-bounds-requires-5 c κs = search needs
-
 returns-5 : tie.Need-returns-5
 returns-5 c =
     let k = c .before .before .before .before .before .before in
     c .no-bounds5 .ensures
     ∙ none-key (cursor k) (start k .args .block .now) (heads (k .before .before .before .before .before)) (k .before .before .before .before .if1 .left) _ (trailer-read k) (c .before .before .before .if2 .left) (c .before .if3 .taken)
-
-region-of-requires : tie.Need-region-of-requires
-region-of-requires c κs = search needs
-
-enum-known-bounds : tie.Need-enum-known-bounds
-enum-known-bounds c = search needs
-
-enum-told-4 : tie.Need-enum-told-4
-enum-told-4 c = search needs
-
-no-bounds-requires-6 : tie.Need-no-bounds-requires-6
-no-bounds-requires-6 c κs = search needs
 
 returns-6 : tie.Need-returns-6
 returns-6 c =
@@ -117,9 +75,6 @@ returns-6 c =
     c .no-bounds6 .ensures
     ∙ none-bounds (cursor k) (start k .args .block .now) (heads (k .before .before .before .before .before)) (k .before .before .before .before .if1 .left) _ (trailer-read k) (m .before .before .before .if2 .left) (m .before .if3 .left)
     (sym (used m) ∙ yes saysRegion (m .region-of .ensures) (c .before .enum-told4 .given .1))
-
-no-bounds-requires-7 : tie.Need-no-bounds-requires-7
-no-bounds-requires-7 c κs = search needs
 
 returns-7 : tie.Need-returns-7
 returns-7 c =
@@ -140,26 +95,6 @@ pub bounds-of-spec : {M : Type 1} → statement M
 bounds-of-spec =
     tie.close
     (tie.spec
-    enum-told
-    enum-told-2
-    no-bounds-requires
-    returns
-    no-bounds-requires-2
-    returns-2
-    trailer-of-requires
-    enum-known-read
-    enum-told-3
-    no-bounds-requires-3
-    returns-3
-    no-bounds-requires-4
-    returns-4
-    no-bounds-requires-5
-    returns-5
-    region-of-requires
-    enum-known-bounds
-    enum-told-4
-    no-bounds-requires-6
-    returns-6
-    no-bounds-requires-7
-    returns-7
-    returns-8)
+    (search needs) (search needs) (search needs) returns (search needs) returns-2 (search needs)
+    (search needs) (search needs) (search needs) returns-3 (search needs) returns-4 (search needs) returns-5
+    (search needs) (search needs) (search needs) (search needs) returns-6 (search needs) returns-7 returns-8)

@@ -13,41 +13,9 @@ Inv-loop text block₀ digits₀ i₀ i-end block digits i = (length block ≡ 5
 abbrev μ-loop : tie.MeasureT-loop
 μ-loop text block₀ digits₀ i₀ i-end block digits i = i-end - i
 
-loop-holds : tie.Need-loop-holds Inv-loop μ-loop
-loop-holds c = search needs
-
-slice-aggregate-taken : tie.Need-slice-aggregate-taken Inv-loop μ-loop
-slice-aggregate-taken c = search needs
-
-shared-slice-read-taken : tie.Need-shared-slice-read-taken Inv-loop μ-loop
-shared-slice-read-taken c = search needs
-
-taken-requires : tie.Need-taken-requires Inv-loop μ-loop
-taken-requires c κs = search needs
-
-add-i : tie.Need-add-i Inv-loop μ-loop
-add-i c = search needs
-
-loop-less : tie.Need-loop-less Inv-loop μ-loop
-loop-less c = search needs
-
-loop-again : tie.Need-loop-again Inv-loop μ-loop
-loop-again c = search needs
-
-returns : tie.Need-returns Inv-loop μ-loop
-returns c = search needs
-
 pub report-all-spec : {M : Type 1} → statement M
 report-all-spec =
     tie.close
     (tie.spec
-    Inv-loop
-    μ-loop
-    loop-holds
-    slice-aggregate-taken
-    shared-slice-read-taken
-    taken-requires
-    add-i
-    loop-less
-    loop-again
-    returns)
+    Inv-loop μ-loop (search needs) (search needs) (search needs) (search needs) (search needs)
+    (search needs) (search needs) (search needs))

@@ -4,7 +4,7 @@ use Prim.Native.Nat.{_<_, _+_}
 use mathlib.Core.Path.{_≡_, refl, ap, _∙_}
 use native.Mathlib.Omega.{arith}
 use lib.ListN.{length}
-use Rattle.layout.specs.Answer.{ok}
+use Rattle.layout.specs.Res.{ok}
 use Rattle.layout.specs.Place.{numAt, fixedAt}
 use Rattle.layout.specs.RowRead.{Held, bodyIs, seqAt}
 use Rattle.layout.specs.Laws.Place.{fixedAt-ends}
@@ -25,29 +25,8 @@ module _ (k : tie.After-known-told) where
 returns : tie.Need-returns
 returns c = body-long _ _ (c .if1 .taken)
 
-add-value-at : tie.Need-add-value-at
-add-value-at c = search needs
-
-add-seq-at : tie.Need-add-seq-at
-add-seq-at c = search needs
-
-add-next : tie.Need-add-next
-add-next c = search needs
-
 returns-2 : tie.Need-returns-2
 returns-2 c = body-short _ _ (c .before .before .if1 .left) (c .if2 .taken)
-
-get-u64-requires : tie.Need-get-u64-requires
-get-u64-requires c κs = search needs
-
-enum-known-word : tie.Need-enum-known-word
-enum-known-word c = search needs
-
-enum-told : tie.Need-enum-told
-enum-told c = search needs
-
-word-refusal-requires : tie.Need-word-refusal-requires
-word-refusal-requires c κs = search needs
 
 returns-3 : tie.Need-returns-3
 returns-3 c =
@@ -64,18 +43,6 @@ shared-slice-read-decode-flags c =
     let h : k .before .word .given .0 .1 .0 < length (e .before .before .before .before .args .s .now) = omega arith in
     h
 
-decode-flags-requires : tie.Need-decode-flags-requires
-decode-flags-requires c κs = search needs
-
-enum-known-decoded : tie.Need-enum-known-decoded
-enum-known-decoded c = search needs
-
-enum-told-2 : tie.Need-enum-told-2
-enum-told-2 c = search needs
-
-flags-refusal-requires : tie.Need-flags-refusal-requires
-flags-refusal-requires c κs = search needs
-
 returns-4 : tie.Need-returns-4
 returns-4 c =
     let r = c .before .before .before in
@@ -83,9 +50,6 @@ returns-4 c =
     let e = k .before .before .before .before in
     body-flags _ _ (e .before .before .if1 .left) (e .if2 .left) (seq-read k)
     (no saysFlags refusalOfFlags (r .decode-flags .ensures) (c .before .enum-told2 .given .1) refl (c .flags-refusal .ensures))
-
-held-as-requires : tie.Need-held-as-requires
-held-as-requires c κs = search needs
 
 returns-5 : tie.Need-returns-5
 returns-5 c =
@@ -101,21 +65,6 @@ pub body-at-spec : {M : Type 1} → statement M
 body-at-spec =
     tie.close
     (tie.spec
-    returns
-    add-value-at
-    add-seq-at
-    add-next
-    returns-2
-    get-u64-requires
-    enum-known-word
-    enum-told
-    word-refusal-requires
-    returns-3
-    shared-slice-read-decode-flags
-    decode-flags-requires
-    enum-known-decoded
-    enum-told-2
-    flags-refusal-requires
-    returns-4
-    held-as-requires
-    returns-5)
+    returns (search needs) (search needs) (search needs) returns-2 (search needs) (search needs)
+    (search needs) (search needs) returns-3 shared-slice-read-decode-flags (search needs) (search needs)
+    (search needs) (search needs) returns-4 (search needs) returns-5)

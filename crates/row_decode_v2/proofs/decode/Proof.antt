@@ -6,11 +6,8 @@ use borrow.Author.Needs.{needs}
 use Rattle.row_decode_v2.proofs.decode.Statement.{statement}
 use Rattle.row_decode_v2.proofs.decode.Tie as tie
 
-decode-at-requires : tie.Need-decode-at-requires
-decode-at-requires c κs = search needs
-
 returns : tie.Need-returns
 returns c = c .decode-at .ensures ∙ single-is _ _
 
 pub decode-spec : {M : Type 1} → statement M
-decode-spec = tie.close (tie.spec decode-at-requires returns)
+decode-spec = tie.close (tie.spec (search needs) returns)

@@ -2,7 +2,7 @@
 -- Each exit is a law of the definition, over the parts that were read on the way to it.
 use mathlib.Core.Path.{_≡_, refl, ap, _∙_}
 use native.Mathlib.Omega.{arith}
-use Rattle.layout.specs.Answer.{ok}
+use Rattle.layout.specs.Res.{ok}
 use Rattle.layout.specs.RowRead.{RowRead, headAt, bodyAt}
 use Rattle.layout.specs.Laws.Tells.{headAt-tells}
 use Rattle.layout.specs.Laws.RowExits.{row-head, row-body, row-times, row-past, row-good}
@@ -22,18 +22,6 @@ module _ (k : tie.After-known-told2) where
       bodyAt (h .before .before .before .before .before .args .s .now) (lengthsFrom (h .before .headed .given .0 .0)) ≡ ok (bodyFrom (k .before .rest .given .0 .0))
   body-read = yes saysBody (k .before .before .before .body-at .ensures) (k .before .rest .given .1)
 
-head-at-requires : tie.Need-head-at-requires
-head-at-requires c κs = search needs
-
-enum-known-headed : tie.Need-enum-known-headed
-enum-known-headed c = search needs
-
-enum-told : tie.Need-enum-told
-enum-told c = search needs
-
-head-refusal-requires : tie.Need-head-refusal-requires
-head-refusal-requires c κs = search needs
-
 returns : tie.Need-returns
 returns c = row-head _ _ _ _ _ (no saysHead refusalOfHead (c .before .before .before .head-at .ensures) (c .before .enum-told .given .1) refl (c .head-refusal .ensures))
 
@@ -42,31 +30,10 @@ body-at-requires c κs =
     let h = headAt-tells _ _ _ _ _ (head-read c) in
     (h .inside, omega (arith, h .fits))
 
-enum-known-rest : tie.Need-enum-known-rest
-enum-known-rest c = search needs
-
-enum-told-2 : tie.Need-enum-told-2
-enum-told-2 c = search needs
-
-body-refusal-requires : tie.Need-body-refusal-requires
-body-refusal-requires c κs = search needs
-
 returns-2 : tie.Need-returns-2
 returns-2 c =
     let r = c .before .before .before in
     row-body _ _ _ _ _ (head-read (r .before)) (no saysBody refusalOfBody (r .body-at .ensures) (c .before .enum-told2 .given .1) refl (c .body-refusal .ensures))
-
-times-at-requires : tie.Need-times-at-requires
-times-at-requires c κs = search needs
-
-enum-known-last : tie.Need-enum-known-last
-enum-known-last c = search needs
-
-enum-told-3 : tie.Need-enum-told-3
-enum-told-3 c = search needs
-
-times-refusal-requires : tie.Need-times-refusal-requires
-times-refusal-requires c κs = search needs
 
 returns-3 : tie.Need-returns-3
 returns-3 c =
@@ -82,9 +49,6 @@ returns-4 c =
     let k = r .before .before in
     row-past _ _ _ _ _ (head-read (k .before .before .before .before)) (body-read k) (yes saysTimes (r .times-at .ensures) (m .before .last .given .1)) (c .if1 .taken)
 
-row-of-requires : tie.Need-row-of-requires
-row-of-requires c κs = search needs
-
 returns-5 : tie.Need-returns-5
 returns-5 c =
     let e = c .before in
@@ -98,21 +62,6 @@ pub decode-at-spec : {M : Type 1} → statement M
 decode-at-spec =
     tie.close
     (tie.spec
-    head-at-requires
-    enum-known-headed
-    enum-told
-    head-refusal-requires
-    returns
-    body-at-requires
-    enum-known-rest
-    enum-told-2
-    body-refusal-requires
-    returns-2
-    times-at-requires
-    enum-known-last
-    enum-told-3
-    times-refusal-requires
-    returns-3
-    returns-4
-    row-of-requires
-    returns-5)
+    (search needs) (search needs) (search needs) (search needs) returns body-at-requires (search needs)
+    (search needs) (search needs) returns-2 (search needs) (search needs) (search needs) (search needs)
+    returns-3 returns-4 (search needs) returns-5)

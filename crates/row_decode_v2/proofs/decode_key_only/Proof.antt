@@ -2,7 +2,7 @@
 -- No sum wraps: a head that was read has its suffix start inside the data, and a key that is not too long.
 use mathlib.Core.Path.{_≡_, refl}
 use native.Mathlib.Omega.{arith}
-use Rattle.layout.specs.Answer.{ok}
+use Rattle.layout.specs.Res.{ok}
 use Rattle.layout.specs.RowRead.{headAt}
 use Rattle.layout.specs.Laws.Tells.{headAt-tells}
 use Rattle.layout.specs.Laws.RowExits.{key-head, key-short, key-past, key-good}
@@ -15,18 +15,6 @@ use Rattle.row_decode_v2.proofs.decode_key_only.Tie as tie
 module _ (k : tie.After-known-told) where
   head-read : let a = k .before .before .before .before .before .args in headAt (a .s .now) (a .at) (a .previous-len) (a .restart) ≡ ok (lengthsFrom (k .before .headed .given .0 .0))
   head-read = yes saysHead (k .before .before .before .head-at .ensures) (k .before .headed .given .1)
-
-head-at-requires : tie.Need-head-at-requires
-head-at-requires c κs = search needs
-
-enum-known-headed : tie.Need-enum-known-headed
-enum-known-headed c = search needs
-
-enum-told : tie.Need-enum-told
-enum-told c = search needs
-
-head-refusal-requires : tie.Need-head-refusal-requires
-head-refusal-requires c κs = search needs
 
 returns : tie.Need-returns
 returns c = key-head _ _ _ _ _ (no saysHead refusalOfHead (c .before .before .before .head-at .ensures) (c .before .enum-told .given .1) refl (c .head-refusal .ensures))
@@ -49,12 +37,5 @@ pub decode-key-only-spec : {M : Type 1} → statement M
 decode-key-only-spec =
     tie.close
     (tie.spec
-    head-at-requires
-    enum-known-headed
-    enum-told
-    head-refusal-requires
-    returns
-    add-suffix-end
-    returns-2
-    returns-3
+    (search needs) (search needs) (search needs) (search needs) returns add-suffix-end returns-2 returns-3
     returns-4)

@@ -2,7 +2,7 @@
 -- Each exit is a law of the definition, over the tests that were passed on the way to it.
 use Prim.Native.Nat.{_≤_}
 use mathlib.Core.Path.{_≡_, refl}
-use Rattle.layout.specs.Answer.{ok}
+use Rattle.layout.specs.Res.{ok}
 use Rattle.layout.specs.RowRead.{Lengths, lengthsIs, lengthsAt, mayShare}
 use Rattle.layout.specs.Laws.RowExits.{head-no, head-share, head-empty, head-long, head-good}
 use Rattle.basics.specs.Answers.{yes, no}
@@ -22,51 +22,21 @@ module _ (e : tie.Else1) where
   shares : let k = e .before .before in let a = k .before .before .before .before .before .args in lengths k .shared ≤ mayShare (a .restart) (a .previous-len)
   shares = rw (e .before .may-share .ensures) at (e .if1 .left)
 
-lengths-at-requires : tie.Need-lengths-at-requires
-lengths-at-requires c κs = search needs
-
-enum-known-lengths : tie.Need-enum-known-lengths
-enum-known-lengths c = search needs
-
-enum-told : tie.Need-enum-told
-enum-told c = search needs
-
-lengths-refusal-requires : tie.Need-lengths-refusal-requires
-lengths-refusal-requires c κs = search needs
-
 returns : tie.Need-returns
 returns c = head-no _ _ _ _ (no saysLengths refusalOfLengths (c .before .before .before .lengths-at .ensures) (c .before .enum-told .given .1) refl (c .lengths-refusal .ensures))
 
-cast-shared : tie.Need-cast-shared
-cast-shared c = search needs
-
-cast-unshared : tie.Need-cast-unshared
-cast-unshared c = search needs
-
-may-share-requires : tie.Need-may-share-requires
-may-share-requires c κs = search needs
-
 returns-2 : tie.Need-returns-2
 returns-2 c = head-share _ _ _ _ (lengths-read (c .before .before)) (rw (c .before .may-share .ensures) at (c .if1 .taken))
-
-add-if2 : tie.Need-add-if2
-add-if2 c = search needs
 
 returns-3 : tie.Need-returns-3
 returns-3 c =
     let e = c .before in
     head-empty _ _ _ _ (lengths-read (e .before .before)) (shares e) (c .if2 .taken)
 
-add-if3 : tie.Need-add-if3
-add-if3 c = search needs
-
 returns-4 : tie.Need-returns-4
 returns-4 c =
     let e = c .before .before in
     head-long _ _ _ _ (lengths-read (e .before .before)) (shares e) (c .if3 .taken)
-
-cast-t16 : tie.Need-cast-t16
-cast-t16 c = search needs
 
 returns-5 : tie.Need-returns-5
 returns-5 c =
@@ -77,18 +47,5 @@ pub head-at-spec : {M : Type 1} → statement M
 head-at-spec =
     tie.close
     (tie.spec
-    lengths-at-requires
-    enum-known-lengths
-    enum-told
-    lengths-refusal-requires
-    returns
-    cast-shared
-    cast-unshared
-    may-share-requires
-    returns-2
-    add-if2
-    returns-3
-    add-if3
-    returns-4
-    cast-t16
-    returns-5)
+    (search needs) (search needs) (search needs) (search needs) returns (search needs) (search needs)
+    (search needs) returns-2 (search needs) returns-3 (search needs) returns-4 (search needs) returns-5)

@@ -7,22 +7,10 @@ use borrow.Author.Needs.{needs}
 use Rattle.row_decode_v2.proofs.held_as.Statement.{statement}
 use Rattle.row_decode_v2.proofs.held_as.Tie as tie
 
-enum-told : tie.Need-enum-told
-enum-told c = search needs
-
-enum-told-2 : tie.Need-enum-told-2
-enum-told-2 c = search needs
-
-enum-told-3 : tie.Need-enum-told-3
-enum-told-3 c = search needs
-
 returns : tie.Need-returns
 returns c =
     let a = c .before .before .args in
     sym (ap (λ (k : Kind). heldFrom k (a .start) (a .len)) (c .enum-told .given .1))
-
-returns-2 : tie.Need-returns-2
-returns-2 c = search needs
 
 returns-3 : tie.Need-returns-3
 returns-3 c =
@@ -30,4 +18,4 @@ returns-3 c =
     sym (ap (λ (k : Kind). heldFrom k (a .start) (a .len)) (c .enum-told3 .given .1))
 
 pub held-as-spec : {M : Type 1} → statement M
-held-as-spec = tie.close (tie.spec enum-told enum-told-2 enum-told-3 returns returns-2 returns-3)
+held-as-spec = tie.close (tie.spec (search needs) (search needs) (search needs) returns (search needs) returns-3)

@@ -1,7 +1,7 @@
 -- `lengths_at` keeps to the definition: three varints, each from where the one before it ends.
 -- Each exit is a law of the definition, over the numbers that were read on the way to it.
 use mathlib.Core.Path.{_≡_, refl}
-use Rattle.layout.specs.Answer.{ok}
+use Rattle.layout.specs.Res.{ok}
 use Rattle.layout.specs.Place.{numAt, varintAt}
 use Rattle.layout.specs.Laws.RowExits.{lengths-one, lengths-two, lengths-three, lengths-good}
 use Rattle.basics.specs.Answers.{yes, no}
@@ -20,49 +20,13 @@ module _ (k : tie.After-known-told2) where
       varintAt (j .before .before .before .before .before .args .s .now) (j .before .one .given .0 .1 .0) ≡ ok (numAt (g .0) (g .1 .0))
   two-read = yes saysVarint (k .before .before .before .decode-varint2 .ensures) (k .before .two .given .1)
 
-decode-varint-requires : tie.Need-decode-varint-requires
-decode-varint-requires c κs = search needs
-
-enum-known-one : tie.Need-enum-known-one
-enum-known-one c = search needs
-
-enum-told : tie.Need-enum-told
-enum-told c = search needs
-
-varint-refusal-requires : tie.Need-varint-refusal-requires
-varint-refusal-requires c κs = search needs
-
 returns : tie.Need-returns
 returns c = lengths-one _ _ (no saysVarint refusalOfVarint (c .before .before .before .decode-varint .ensures) (c .before .enum-told .given .1) refl (c .varint-refusal .ensures))
-
-decode-varint-requires-2 : tie.Need-decode-varint-requires-2
-decode-varint-requires-2 c κs = search needs
-
-enum-known-two : tie.Need-enum-known-two
-enum-known-two c = search needs
-
-enum-told-2 : tie.Need-enum-told-2
-enum-told-2 c = search needs
-
-varint-refusal-requires-2 : tie.Need-varint-refusal-requires-2
-varint-refusal-requires-2 c κs = search needs
 
 returns-2 : tie.Need-returns-2
 returns-2 c =
     let r = c .before .before .before in
     lengths-two _ _ (one-read (r .before)) (no saysVarint refusalOfVarint (r .decode-varint2 .ensures) (c .before .enum-told2 .given .1) refl (c .varint-refusal2 .ensures))
-
-decode-varint-requires-3 : tie.Need-decode-varint-requires-3
-decode-varint-requires-3 c κs = search needs
-
-enum-known-three : tie.Need-enum-known-three
-enum-known-three c = search needs
-
-enum-told-3 : tie.Need-enum-told-3
-enum-told-3 c = search needs
-
-varint-refusal-requires-3 : tie.Need-varint-refusal-requires-3
-varint-refusal-requires-3 c κs = search needs
 
 returns-3 : tie.Need-returns-3
 returns-3 c =
@@ -81,19 +45,6 @@ pub lengths-at-spec : {M : Type 1} → statement M
 lengths-at-spec =
     tie.close
     (tie.spec
-    decode-varint-requires
-    enum-known-one
-    enum-told
-    varint-refusal-requires
-    returns
-    decode-varint-requires-2
-    enum-known-two
-    enum-told-2
-    varint-refusal-requires-2
-    returns-2
-    decode-varint-requires-3
-    enum-known-three
-    enum-told-3
-    varint-refusal-requires-3
-    returns-3
-    returns-4)
+    (search needs) (search needs) (search needs) (search needs) returns (search needs) (search needs)
+    (search needs) (search needs) returns-2 (search needs) (search needs) (search needs) (search needs)
+    returns-3 returns-4)

@@ -17,18 +17,6 @@ use Rattle.row_encode_v2.proofs.encode.Tie as tie
 returns : tie.Need-returns
 returns c = lays-not _ (encode-share _ _ _ _ _ (c .if1 .taken))
 
-encoded-size-requires : tie.Need-encoded-size-requires
-encoded-size-requires c κs = search needs
-
-enum-known-size : tie.Need-enum-known-size
-enum-known-size c = search needs
-
-enum-told : tie.Need-enum-told
-enum-told c = search needs
-
-size-refusal-requires : tie.Need-size-refusal-requires
-size-refusal-requires c κs = search needs
-
 returns-2 : tie.Need-returns-2
 returns-2 c = lays-not _ (encode-unsized _ _ _ _ _ (c .before .before .before .before .if1 .left) (no saysSized sizedRefusal (c .before .before .before .encoded-size .ensures) (c .before .enum-told .given .1) refl (c .size-refusal .ensures)))
 
@@ -43,9 +31,6 @@ write-row-requires c κs =
     let t = size-tells (a .shared) (length (a .key-suffix .now)) (saysKind (a .row .kind)) (length (a .value .now)) _ _ n in
     ((omega (arith, t .key-small), omega (arith, t .key-small), omega (arith, t .value-small)), omega (arith, size-bytes (a .shared) (a .key-suffix .now) (fieldsFrom (a .row) (a .value .now)) n, m .if2 .left))
 
-same-length : tie.Need-same-length
-same-length c = search needs
-
 returns-4 : tie.Need-returns-4
 returns-4 c =
     let m = c .before .before .before .before in
@@ -55,13 +40,5 @@ pub encode-spec : {M : Type 1} → statement M
 encode-spec =
     tie.close
     (tie.spec
-    returns
-    encoded-size-requires
-    enum-known-size
-    enum-told
-    size-refusal-requires
-    returns-2
-    returns-3
-    write-row-requires
-    same-length
-    returns-4)
+    returns (search needs) (search needs) (search needs) (search needs) returns-2 returns-3
+    write-row-requires (search needs) returns-4)

@@ -34,27 +34,6 @@ module _ (xs : List ℕ) (at x : ℕ) (row : RowFields) (h : at + length (markBy
   marks-wrote e p d q f =
       wrote-as (ap (λ (b : ℕ). b ∷ (expire ++ create)) e) (wrote-then flag-wrote (put-two (room-next (expire ++ create) flag-wrote h) p d q f))
 
-flags-requires : tie.Need-flags-requires
-flags-requires c κs = search needs
-
-slice-write-output : tie.Need-slice-write-output
-slice-write-output c = search needs
-
-add-write-time : tie.Need-add-write-time
-add-write-time c = search needs
-
-write-time-requires : tie.Need-write-time-requires
-write-time-requires c κs = search needs
-
-place-after-requires : tie.Need-place-after-requires
-place-after-requires c κs = search needs
-
-write-time-requires-2 : tie.Need-write-time-requires-2
-write-time-requires-2 c κs = search needs
-
-place-after-requires-2 : tie.Need-place-after-requires-2
-place-after-requires-2 c κs = search needs
-
 returns : tie.Need-returns
 returns c =
     let t = c .before .before .before in
@@ -72,12 +51,5 @@ pub write-marks-spec : {M : Type 1} → statement M
 write-marks-spec =
     tie.close
     (tie.spec
-    flags-requires
-    slice-write-output
-    add-write-time
-    write-time-requires
-    place-after-requires
-    write-time-requires-2
-    place-after-requires-2
-    same-length
-    returns)
+    (search needs) (search needs) (search needs) (search needs) (search needs) (search needs) (search needs)
+    same-length returns)

@@ -9,9 +9,6 @@ use Rattle.row_encode_v2.proofs.Parts.{row-parts, lengths-room, body-ro
 use Rattle.row_encode_v2.proofs.write_row.Statement.{statement}
 use Rattle.row_encode_v2.proofs.write_row.Tie as tie
 
-kept-len-requires : tie.Need-kept-len-requires
-kept-len-requires c κs = search needs
-
 write-lengths-requires : tie.Need-write-lengths-requires
 write-lengths-requires c κs =
     let s = c .before .before .before .before .before in
@@ -39,9 +36,6 @@ write-marks-requires c κs =
     let a = s .args in
     marks-room (a .shared) (a .key-suffix .now) (a .value .now) (a .row) (k .kept-len .ensures .0) (s .pre .1) (l .write-lengths .ensures) (b .write-body .ensures)
 
-same-length : tie.Need-same-length
-same-length c = search needs
-
 returns : tie.Need-returns
 returns c =
     let m = c .before .before in
@@ -55,10 +49,5 @@ pub write-row-spec : {M : Type 1} → statement M
 write-row-spec =
     tie.close
     (tie.spec
-    kept-len-requires
-    write-lengths-requires
-    slice-aggregate-write-body
-    write-body-requires
-    write-marks-requires
-    same-length
-    returns)
+    (search needs) write-lengths-requires slice-aggregate-write-body write-body-requires
+    write-marks-requires (search needs) returns)

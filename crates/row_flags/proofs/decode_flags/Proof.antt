@@ -5,7 +5,7 @@ use mathlib.Core.Bool.{Bool, true, false}
 use mathlib.Core.Logic.{⊎-elim, inl, inr}
 use mathlib.Core.Path.{_≡_, sym, ap, _∙_}
 use native.Mathlib.Omega.{arith}
-use Rattle.layout.specs.Answer.{Res, ok, refuse}
+use Rattle.layout.specs.Res.{Res, ok, refuse}
 use Rattle.layout.specs.Row.{Kind, value, tombstone, merge, flagsOf}
 use Rattle.layout.specs.RowRead.{Flags, flagsIs, flagsAt}
 use Rattle.layout.specs.Laws.Row.{flagsAt-law}
@@ -22,42 +22,6 @@ both e b = sym (ap flagsAt e ∙ b)
 
 up : (k f : ℕ) → k ≤ f → (f ≡ k → ⊥) → k + 1 ≤ f
 up k f h ne = omega arith
-
-good-flags-requires : tie.Need-good-flags-requires
-good-flags-requires c κs = search needs
-
-good-flags-requires-2 : tie.Need-good-flags-requires-2
-good-flags-requires-2 c κs = search needs
-
-good-flags-requires-3 : tie.Need-good-flags-requires-3
-good-flags-requires-3 c κs = search needs
-
-good-flags-requires-4 : tie.Need-good-flags-requires-4
-good-flags-requires-4 c κs = search needs
-
-good-flags-requires-5 : tie.Need-good-flags-requires-5
-good-flags-requires-5 c κs = search needs
-
-good-flags-requires-6 : tie.Need-good-flags-requires-6
-good-flags-requires-6 c κs = search needs
-
-good-flags-requires-7 : tie.Need-good-flags-requires-7
-good-flags-requires-7 c κs = search needs
-
-good-flags-requires-8 : tie.Need-good-flags-requires-8
-good-flags-requires-8 c κs = search needs
-
-good-flags-requires-9 : tie.Need-good-flags-requires-9
-good-flags-requires-9 c κs = search needs
-
-good-flags-requires-10 : tie.Need-good-flags-requires-10
-good-flags-requires-10 c κs = search needs
-
-good-flags-requires-11 : tie.Need-good-flags-requires-11
-good-flags-requires-11 c κs = search needs
-
-good-flags-requires-12 : tie.Need-good-flags-requires-12
-good-flags-requires-12 c κs = search needs
 
 returns : tie.Need-returns
 returns c = good value false false (c .good-flags .ensures) (c .before .match .keys1)
@@ -127,29 +91,7 @@ pub decode-flags-spec : {M : Type 1} → statement M
 decode-flags-spec =
     tie.close
     (tie.spec
-    good-flags-requires
-    good-flags-requires-2
-    good-flags-requires-3
-    good-flags-requires-4
-    good-flags-requires-5
-    good-flags-requires-6
-    good-flags-requires-7
-    good-flags-requires-8
-    good-flags-requires-9
-    good-flags-requires-10
-    good-flags-requires-11
-    good-flags-requires-12
-    returns
-    returns-2
-    returns-3
-    returns-4
-    returns-5
-    returns-6
-    returns-7
-    returns-8
-    returns-9
-    returns-10
-    returns-11
-    returns-12
-    returns-13
+    (search needs) (search needs) (search needs) (search needs) (search needs) (search needs) (search needs)
+    (search needs) (search needs) (search needs) (search needs) (search needs) returns returns-2 returns-3
+    returns-4 returns-5 returns-6 returns-7 returns-8 returns-9 returns-10 returns-11 returns-12 returns-13
     returns-14)

@@ -4,7 +4,7 @@ use mathlib.Core.Path.{_≡_, refl, ap, _∙_}
 use lib.IntN.{ℤ}
 use mir.Syntax.{w64}
 use mir.Val.{toZ, ofZ}
-use Rattle.layout.specs.Answer.{ok}
+use Rattle.layout.specs.Res.{ok}
 use Rattle.layout.specs.Row.{At}
 use Rattle.layout.specs.RowRead.{timeIs}
 use Rattle.layout.specs.Laws.RowExits.{time-short, time-read, time-none}
@@ -13,18 +13,6 @@ use Rattle.buf.specs.Says.{saysSigned, refusalOfSigned}
 use borrow.Author.Needs.{needs}
 use Rattle.row_flags.proofs.time_at.Statement.{statement}
 use Rattle.row_flags.proofs.time_at.Tie as tie
-
-get-i64-requires : tie.Need-get-i64-requires
-get-i64-requires c κs = search needs
-
-enum-known-number : tie.Need-enum-known-number
-enum-known-number c = search needs
-
-enum-told : tie.Need-enum-told
-enum-told c = search needs
-
-signed-refusal-requires : tie.Need-signed-refusal-requires
-signed-refusal-requires c κs = search needs
 
 returns : tie.Need-returns
 returns c =
@@ -44,11 +32,4 @@ returns-3 c = rw (c .if1 .left) (time-none _ _)
 pub time-at-spec : {M : Type 1} → statement M
 time-at-spec =
     tie.close
-    (tie.spec
-    get-i64-requires
-    enum-known-number
-    enum-told
-    signed-refusal-requires
-    returns
-    returns-2
-    returns-3)
+    (tie.spec (search needs) (search needs) (search needs) (search needs) returns returns-2 returns-3)

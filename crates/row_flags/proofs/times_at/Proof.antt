@@ -1,7 +1,7 @@
 -- `times_at` keeps to the definition: the expire time, then from where it ends the create time.
 -- Each exit is a law of the definition, over the time that was read on the way to it.
 use mathlib.Core.Path.{_≡_, refl}
-use Rattle.layout.specs.Answer.{ok}
+use Rattle.layout.specs.Res.{ok}
 use Rattle.layout.specs.RowRead.{timeIs, timeAt}
 use Rattle.layout.specs.Laws.RowExits.{times-one, times-two, times-good}
 use Rattle.basics.specs.Answers.{yes, no}
@@ -16,32 +16,8 @@ module _ (k : tie.After-known-told) where
       timeAt (a .flags .expire) (a .s .now) (a .at) ≡ ok (timeIs (saysTime (g .0)) (g .1 .0))
   expire-read = yes saysTimeAt (k .before .before .before .time-at .ensures) (k .before .one .given .1)
 
-time-at-requires : tie.Need-time-at-requires
-time-at-requires c κs = search needs
-
-enum-known-one : tie.Need-enum-known-one
-enum-known-one c = search needs
-
-enum-told : tie.Need-enum-told
-enum-told c = search needs
-
-time-refusal-requires : tie.Need-time-refusal-requires
-time-refusal-requires c κs = search needs
-
 returns : tie.Need-returns
 returns c = times-one _ _ _ (no saysTimeAt refusalOfTime (c .before .before .before .time-at .ensures) (c .before .enum-told .given .1) refl (c .time-refusal .ensures))
-
-time-at-requires-2 : tie.Need-time-at-requires-2
-time-at-requires-2 c κs = search needs
-
-enum-known-two : tie.Need-enum-known-two
-enum-known-two c = search needs
-
-enum-told-2 : tie.Need-enum-told-2
-enum-told-2 c = search needs
-
-time-refusal-requires-2 : tie.Need-time-refusal-requires-2
-time-refusal-requires-2 c κs = search needs
 
 returns-2 : tie.Need-returns-2
 returns-2 c =
@@ -57,14 +33,5 @@ pub times-at-spec : {M : Type 1} → statement M
 times-at-spec =
     tie.close
     (tie.spec
-    time-at-requires
-    enum-known-one
-    enum-told
-    time-refusal-requires
-    returns
-    time-at-requires-2
-    enum-known-two
-    enum-told-2
-    time-refusal-requires-2
-    returns-2
-    returns-3)
+    (search needs) (search needs) (search needs) (search needs) returns (search needs) (search needs)
+    (search needs) (search needs) returns-2 returns-3)

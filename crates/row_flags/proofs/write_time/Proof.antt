@@ -19,23 +19,11 @@ use Rattle.row_flags.proofs.write_time.Tie as tie
 bytes-of : {t v : Time} {w : List ℕ} → t ≡ v → timeBytes (saysTime v) ≡ w → w ≡ timeBytes (saysTime t)
 bytes-of e is = sym (ap (λ (t : Time). timeBytes (saysTime t)) e ∙ is)
 
-enum-known-time : tie.Need-enum-known-time
-enum-known-time c = search needs
-
-enum-told : tie.Need-enum-told
-enum-told c = search needs
-
 returns : tie.Need-returns
 returns c = rw (← bytes-of (c .before .enum-told .given .1) time-absent) (puts-short [] _ _ (omega arith))
 
 returns-2 : tie.Need-returns-2
 returns-2 c = rw (← bytes-of (c .before .enum-told .given .1) time-absent) (puts-wrote (wrote-none _ _ (omega arith)))
-
-put-i64-requires : tie.Need-put-i64-requires
-put-i64-requires c κs = search needs
-
-same-length : tie.Need-same-length
-same-length c = search needs
 
 returns-3 : tie.Need-returns-3
 returns-3 c =
@@ -46,4 +34,4 @@ returns-3 c =
 pub write-time-spec : {M : Type 1} → statement M
 write-time-spec =
     tie.close
-    (tie.spec enum-known-time enum-told returns returns-2 put-i64-requires same-length returns-3)
+    (tie.spec (search needs) (search needs) returns returns-2 (search needs) (search needs) returns-3)

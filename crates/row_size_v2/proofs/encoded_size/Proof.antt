@@ -13,20 +13,8 @@ use Rattle.row_size_v2.proofs.encoded_size.Tie as tie
 key-small : (c : tie.After-enum-told) → c .before .before .before .args .shared + c .before .before .before .args .suffix-len ≤ maxKey
 key-small c = key-tested _ (yes saysSized (c .before .before .key-len .ensures) (c .enum-told .given .1)) .2
 
-key-len-requires : tie.Need-key-len-requires
-key-len-requires c κs = search needs
-
-enum-known-key : tie.Need-enum-known-key
-enum-known-key c = search needs
-
 returns : tie.Need-returns
 returns c = size-unkeyed _ _ _ _ _ _ (yes saysSized (c .before .before .before .key-len .ensures) (c .before .key .given .1))
-
-enum-told : tie.Need-enum-told
-enum-told c = search needs
-
-kept-len-requires : tie.Need-kept-len-requires
-kept-len-requires c κs = search needs
 
 returns-2 : tie.Need-returns-2
 returns-2 c = size-over _ _ _ _ _ _ (yes saysSized (c .before .before .before .before .key-len .ensures) (c .before .before .enum-told .given .1)) (c .before .kept-len .ensures .0) (c .if1 .taken)
@@ -40,24 +28,6 @@ length-len-requires-2 : tie.Need-length-len-requires-2
 length-len-requires-2 c κs =
     let k = key-small (c .before .before .before) in
     omega arith
-
-add-lengths : tie.Need-add-lengths
-add-lengths c = search needs
-
-length-len-requires-3 : tie.Need-length-len-requires-3
-length-len-requires-3 c κs = search needs
-
-add-lengths-2 : tie.Need-add-lengths-2
-add-lengths-2 c = search needs
-
-time-len-requires : tie.Need-time-len-requires
-time-len-requires c κs = search needs
-
-time-len-requires-2 : tie.Need-time-len-requires-2
-time-len-requires-2 c κs = search needs
-
-add-times : tie.Need-add-times
-add-times c = search needs
 
 add-t16 : tie.Need-add-t16
 add-t16 c =
@@ -89,22 +59,6 @@ pub encoded-size-spec : {M : Type 1} → statement M
 encoded-size-spec =
     tie.close
     (tie.spec
-    key-len-requires
-    enum-known-key
-    returns
-    enum-told
-    kept-len-requires
-    returns-2
-    length-len-requires
-    length-len-requires-2
-    add-lengths
-    length-len-requires-3
-    add-lengths-2
-    time-len-requires
-    time-len-requires-2
-    add-times
-    add-t16
-    add-t17
-    add-t14
-    add-t15
-    returns-3)
+    (search needs) (search needs) returns (search needs) (search needs) returns-2 length-len-requires
+    length-len-requires-2 (search needs) (search needs) (search needs) (search needs) (search needs)
+    (search needs) add-t16 add-t17 add-t14 add-t15 returns-3)

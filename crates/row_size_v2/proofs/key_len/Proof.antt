@@ -12,9 +12,6 @@ returns c = long-key _ (omega arith)
 returns-2 : tie.Need-returns-2
 returns-2 c = long-key _ (omega arith)
 
-add-len : tie.Need-add-len
-add-len c = search needs
-
 returns-3 : tie.Need-returns-3
 returns-3 c = no-key _ (c .if3 .taken)
 
@@ -25,4 +22,4 @@ returns-5 : tie.Need-returns-5
 returns-5 c = some-key _ (c .before .if3 .left) (c .if4 .left)
 
 pub key-len-spec : {M : Type 1} → statement M
-key-len-spec = tie.close (tie.spec returns returns-2 add-len returns-3 returns-4 returns-5)
+key-len-spec = tie.close (tie.spec returns returns-2 (search needs) returns-3 returns-4 returns-5)

@@ -15,16 +15,10 @@ returns c =
     let n = c .before .args .n in
     (sym (ap length (varint-small n (c .if1 .taken))) ∙ length-varint n (omega arith), omega arith)
 
-cast-varint-len : tie.Need-cast-varint-len
-cast-varint-len c = search needs
-
-varint-len-requires : tie.Need-varint-len-requires
-varint-len-requires c κs = search needs
-
 returns-2 : tie.Need-returns-2
 returns-2 c =
     let v = c .varint-len .ensures in
     (v .rule, omega (arith, v .bytes, varint-few (c .before .before .args .n)))
 
 pub length-len-spec : {M : Type 1} → statement M
-length-len-spec = tie.close (tie.spec returns cast-varint-len varint-len-requires returns-2)
+length-len-spec = tie.close (tie.spec returns (search needs) (search needs) returns-2)

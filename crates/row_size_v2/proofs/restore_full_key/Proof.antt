@@ -15,18 +15,6 @@ use Rattle.row_size_v2.proofs.restore_full_key.Tie as tie
 returns : tie.Need-returns
 returns c = lays-not _ (restore-share _ _ _ _ (c .if1 .taken))
 
-key-len-requires : tie.Need-key-len-requires
-key-len-requires c κs = search needs
-
-enum-known-len : tie.Need-enum-known-len
-enum-known-len c = search needs
-
-enum-told : tie.Need-enum-told
-enum-told c = search needs
-
-size-refusal-requires : tie.Need-size-refusal-requires
-size-refusal-requires c κs = search needs
-
 returns-2 : tie.Need-returns-2
 returns-2 c = lays-not _ (restore-no _ _ _ _ (c .before .before .before .before .if1 .left) (key-refused _ (no saysSized sizedRefusal (c .before .before .before .key-len .ensures) (c .before .enum-told .given .1) refl (c .size-refusal .ensures))))
 
@@ -37,21 +25,6 @@ returns-3 c =
 
 slice-aggregate-copy-in : tie.Need-slice-aggregate-copy-in
 slice-aggregate-copy-in c = sym (length-take-le _ _ (c .before .before .before .before .before .before .before .if1 .left))
-
-copy-in-requires : tie.Need-copy-in-requires
-copy-in-requires c κs = search needs
-
-place-after-requires : tie.Need-place-after-requires
-place-after-requires c κs = search needs
-
-copy-in-requires-2 : tie.Need-copy-in-requires-2
-copy-in-requires-2 c κs = search needs
-
-place-after-requires-2 : tie.Need-place-after-requires-2
-place-after-requires-2 c κs = search needs
-
-same-length : tie.Need-same-length
-same-length c = search needs
 
 returns-4 : tie.Need-returns-4
 returns-4 c =
@@ -68,17 +41,6 @@ pub restore-full-key-spec : {M : Type 1} → statement M
 restore-full-key-spec =
     tie.close
     (tie.spec
-    returns
-    key-len-requires
-    enum-known-len
-    enum-told
-    size-refusal-requires
-    returns-2
-    returns-3
-    slice-aggregate-copy-in
-    copy-in-requires
-    place-after-requires
-    copy-in-requires-2
-    place-after-requires-2
-    same-length
+    returns (search needs) (search needs) (search needs) (search needs) returns-2 returns-3
+    slice-aggregate-copy-in (search needs) (search needs) (search needs) (search needs) (search needs)
     returns-4)

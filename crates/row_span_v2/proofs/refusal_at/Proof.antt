@@ -5,14 +5,8 @@ use borrow.Author.Needs.{needs}
 use Rattle.row_span_v2.proofs.refusal_at.Statement.{statement}
 use Rattle.row_span_v2.proofs.refusal_at.Tie as tie
 
-decode-at-requires : tie.Need-decode-at-requires
-decode-at-requires c κs = search needs
-
-row-refusal-requires : tie.Need-row-refusal-requires
-row-refusal-requires c κs = search needs
-
 returns : tie.Need-returns
 returns c = refusal-taken (c .before .decode-at .result) (c .before .decode-at .ensures) (c .row-refusal .ensures)
 
 pub refusal-at-spec : {M : Type 1} → statement M
-refusal-at-spec = tie.close (tie.spec decode-at-requires row-refusal-requires returns)
+refusal-at-spec = tie.close (tie.spec (search needs) (search needs) returns)

@@ -8,35 +8,8 @@ use borrow.Author.Needs.{needs}
 use Rattle.row_span_v2.proofs.row_at.Statement.{statement}
 use Rattle.row_span_v2.proofs.row_at.Tie as tie
 
-may-share-requires : tie.Need-may-share-requires
-may-share-requires c κs = search needs
-
-plain-at-requires : tie.Need-plain-at-requires
-plain-at-requires c κs = search needs
-
-decode-at-requires : tie.Need-decode-at-requires
-decode-at-requires c κs = search needs
-
-returns : tie.Need-returns
-returns c = search needs
-
 sub-get-u64 : tie.Need-sub-get-u64
 sub-get-u64 c = let a = c .before .before .before .before .before .before .args in omega (arith, plain-least (a .s .now) (a .at) (a .«region-end») _ (plainFrom (c .before .before .before .plain-at .result)) (c .before .before .before .plain-at .ensures) (c .before .if1 .left) .0)
-
-get-u64-requires : tie.Need-get-u64-requires
-get-u64-requires c κs = search needs
-
-enum-known-word : tie.Need-enum-known-word
-enum-known-word c = search needs
-
-enum-told : tie.Need-enum-told
-enum-told c = search needs
-
-decode-at-requires-2 : tie.Need-decode-at-requires-2
-decode-at-requires-2 c κs = search needs
-
-returns-2 : tie.Need-returns-2
-returns-2 c = search needs
 
 add-suffix-at : tie.Need-add-suffix-at
 add-suffix-at c = let a = c .before .before .before .before .before .before .before .before .before .before .args in omega (arith, plain-least (a .s .now) (a .at) (a .«region-end») _ (plainFrom (c .before .before .before .before .before .before .before .plain-at .result)) (c .before .before .before .before .before .before .before .plain-at .ensures) (c .before .before .before .before .before .if1 .left) .0, plain-least (a .s .now) (a .at) (a .«region-end») _ (plainFrom (c .before .before .before .before .before .before .before .plain-at .result)) (c .before .before .before .before .before .before .before .plain-at .ensures) (c .before .before .before .before .before .if1 .left) .1)
@@ -51,16 +24,5 @@ pub row-at-spec : {M : Type 1} → statement M
 row-at-spec =
     tie.close
     (tie.spec
-    may-share-requires
-    plain-at-requires
-    decode-at-requires
-    returns
-    sub-get-u64
-    get-u64-requires
-    enum-known-word
-    enum-told
-    decode-at-requires-2
-    returns-2
-    add-suffix-at
-    add-start
-    returns-3)
+    (search needs) (search needs) (search needs) (search needs) sub-get-u64 (search needs) (search needs)
+    (search needs) (search needs) (search needs) add-suffix-at add-start returns-3)

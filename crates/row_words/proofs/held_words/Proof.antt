@@ -6,15 +6,6 @@ use borrow.Author.Needs.{needs}
 use Rattle.row_words.proofs.held_words.Statement.{statement}
 use Rattle.row_words.proofs.held_words.Tie as tie
 
-enum-known-held : tie.Need-enum-known-held
-enum-known-held c = search needs
-
-enum-told : tie.Need-enum-told
-enum-told c = search needs
-
-enum-known-held-2 : tie.Need-enum-known-held-2
-enum-known-held-2 c = search needs
-
 returns : tie.Need-returns
 returns c = ap heldFrom (sym (c .before .held .given .1))
 
@@ -26,4 +17,4 @@ returns-3 c = ap heldFrom (sym (c .before .held2 .given .1))
 
 pub held-words-spec : {M : Type 1} → statement M
 held-words-spec =
-    tie.close (tie.spec enum-known-held enum-told enum-known-held-2 returns returns-2 returns-3)
+    tie.close (tie.spec (search needs) (search needs) (search needs) returns returns-2 returns-3)

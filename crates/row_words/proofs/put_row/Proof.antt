@@ -11,24 +11,6 @@ use Rattle.row_words.proofs.put_row.Tie as tie
 returns : tie.Need-returns
 returns c = stores-none _ (c .if1 .taken)
 
-held-words-requires : tie.Need-held-words-requires
-held-words-requires c κs = search needs
-
-time-words-requires : tie.Need-time-words-requires
-time-words-requires c κs = search needs
-
-time-words-requires-2 : tie.Need-time-words-requires-2
-time-words-requires-2 c κs = search needs
-
-slice-write-words : tie.Need-slice-write-words
-slice-write-words c = search needs
-
-slice-write-words-2 : tie.Need-slice-write-words-2
-slice-write-words-2 c = search needs
-
-slice-write-words-3 : tie.Need-slice-write-words-3
-slice-write-words-3 c = search needs
-
 slice-write-words-4 : tie.Need-slice-write-words-4
 slice-write-words-4 c = simp length-set (omega (arith, c .before .before .before .if1 .left))
 
@@ -72,22 +54,7 @@ pub put-row-spec : {M : Type 1} → statement M
 put-row-spec =
     tie.close
     (tie.spec
-    returns
-    held-words-requires
-    time-words-requires
-    time-words-requires-2
-    slice-write-words
-    slice-write-words-2
-    slice-write-words-3
-    slice-write-words-4
-    slice-write-words-5
-    slice-write-words-6
-    slice-write-words-7
-    slice-write-words-8
-    slice-write-words-9
-    slice-write-words-10
-    slice-write-words-11
-    slice-write-words-12
-    slice-write-words-13
-    same-length
-    returns-2)
+    returns (search needs) (search needs) (search needs) (search needs) (search needs) (search needs)
+    slice-write-words-4 slice-write-words-5 slice-write-words-6 slice-write-words-7 slice-write-words-8
+    slice-write-words-9 slice-write-words-10 slice-write-words-11 slice-write-words-12 slice-write-words-13
+    same-length returns-2)

@@ -3,7 +3,7 @@
 use mir.Syntax.{w64}
 use mir.Facts.{toZ-ofZ}
 use mathlib.Core.Path.{ap, _∙_}
-use Rattle.layout.specs.Answer.{ok}
+use Rattle.layout.specs.Res.{ok}
 use Rattle.basics.specs.Answers.{yes}
 use Rattle.row_words.specs.Says.{saysTruth}
 use Rattle.row_words.proofs.Fields.{time-bad, time-at, time-absent}
@@ -11,20 +11,8 @@ use borrow.Author.Needs.{needs}
 use Rattle.row_words.proofs.time_in.Statement.{statement}
 use Rattle.row_words.proofs.time_in.Tie as tie
 
-truth-in-requires : tie.Need-truth-in-requires
-truth-in-requires c κs = search needs
-
-enum-known-there : tie.Need-enum-known-there
-enum-known-there c = search needs
-
-enum-told : tie.Need-enum-told
-enum-told c = search needs
-
 returns : tie.Need-returns
 returns c = time-bad (c .before .before .before .args .has) (c .before .before .before .args .bits) (yes saysTruth (c .before .before .truth-in .ensures) (c .enum-told .given .1))
-
-from-bits-requires : tie.Need-from-bits-requires
-from-bits-requires c κs = search needs
 
 returns-2 : tie.Need-returns-2
 returns-2 c =
@@ -39,11 +27,4 @@ returns-3 c =
 pub time-in-spec : {M : Type 1} → statement M
 time-in-spec =
     tie.close
-    (tie.spec
-    truth-in-requires
-    enum-known-there
-    enum-told
-    returns
-    from-bits-requires
-    returns-2
-    returns-3)
+    (tie.spec (search needs) (search needs) (search needs) returns (search needs) returns-2 returns-3)

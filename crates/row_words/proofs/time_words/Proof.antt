@@ -9,15 +9,6 @@ use borrow.Author.Needs.{needs}
 use Rattle.row_words.proofs.time_words.Statement.{statement}
 use Rattle.row_words.proofs.time_words.Tie as tie
 
-enum-told : tie.Need-enum-told
-enum-told c = search needs
-
-enum-known-time : tie.Need-enum-known-time
-enum-known-time c = search needs
-
-to-bits-requires : tie.Need-to-bits-requires
-to-bits-requires c κs = search needs
-
 returns : tie.Need-returns
 returns c = ap timeWordsOf (sym (c .enum-told .given .1))
 
@@ -28,4 +19,4 @@ returns-2 c =
     timed _ z _ (c .before .before .time .given .1) (rw same at (c .to-bits .ensures))
 
 pub time-words-spec : {M : Type 1} → statement M
-time-words-spec = tie.close (tie.spec enum-told enum-known-time to-bits-requires returns returns-2)
+time-words-spec = tie.close (tie.spec (search needs) (search needs) (search needs) returns returns-2)

@@ -1,7 +1,7 @@
 -- `seek_ascending` keeps the promise of a seek up: the search's refusal, or the walk up from where the search says.
 -- The trailer was read from the block, so both are the definition's, and the walk starts in a region of the block.
 use mathlib.Core.Path.{_≡_, refl}
-use Rattle.layout.specs.Answer.{ok}
+use Rattle.layout.specs.Res.{ok}
 use Rattle.basics.specs.Answers.{yes, no}
 use Rattle.trailer.specs.Says.{trailerFrom}
 use Rattle.block_restarts_v2.specs.Handed.{startUpAt}
@@ -17,26 +17,11 @@ module _ (k : tie.After-known-told) where
   started : let s = k .before .before .before .before .before .before .before .args in startUpAt (s .block .now) (trailerFrom (s .t)) (s .target .now) ≡ ok (k .before .found .given .0 .0)
   started = yes saysStart (k .before .before .before .find-restart-for-key-ascending .ensures) (k .before .found .given .1)
 
-find-restart-for-key-ascending-requires : tie.Need-find-restart-for-key-ascending-requires
-find-restart-for-key-ascending-requires c κs = search needs
-
-enum-known-found : tie.Need-enum-known-found
-enum-known-found c = search needs
-
-enum-told : tie.Need-enum-told
-enum-told c = search needs
-
-start-refusal-requires : tie.Need-start-refusal-requires
-start-refusal-requires c κs = search needs
-
 returns : tie.Need-returns
 returns c = λ p. finds-not _ p _ (seek-up-no _ _ _ (c .before .before .before .before .before .before .before .pre .1) (no saysStart refusalOfStart (c .before .before .before .find-restart-for-key-ascending .ensures) (c .before .enum-told .given .1) refl (c .start-refusal .ensures))) refl
 
 walk-up-requires : tie.Need-walk-up-requires
 walk-up-requires c κs = let s = c .before .before .before .before .before .before .before .before in (s .pre .0, record { read = s .pre .1; inside = up-inside _ _ _ _ (started (c .before)) })
-
-same-length : tie.Need-same-length
-same-length c = search needs
 
 returns-2 : tie.Need-returns-2
 returns-2 c = let k = c .before .before .before .before in λ p. finds-as _ p _ (seek-up _ _ _ (k .before .before .before .before .before .before .before .pre .1) _ (started k) _ refl) (c .before .before .walk-up .ensures p)
@@ -45,11 +30,5 @@ pub seek-ascending-spec : {M : Type 1} → statement M
 seek-ascending-spec =
     tie.close
     (tie.spec
-    find-restart-for-key-ascending-requires
-    enum-known-found
-    enum-told
-    start-refusal-requires
-    returns
-    walk-up-requires
-    same-length
+    (search needs) (search needs) (search needs) (search needs) returns walk-up-requires (search needs)
     returns-2)

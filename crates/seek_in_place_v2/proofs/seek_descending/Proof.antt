@@ -1,7 +1,7 @@
 -- `seek_descending` keeps the promise of a seek down: the search's refusal, or the walk down from where the search says.
 -- The trailer was read from the block, so both are the definition's, and the walk starts in a region of the block.
 use mathlib.Core.Path.{_≡_, refl}
-use Rattle.layout.specs.Answer.{ok}
+use Rattle.layout.specs.Res.{ok}
 use Rattle.basics.specs.Answers.{yes, no}
 use Rattle.trailer.specs.Says.{trailerFrom}
 use Rattle.block_restarts_v2.specs.Handed.{startDownAt}
@@ -17,18 +17,6 @@ module _ (k : tie.After-known-told) where
   started : let s = k .before .before .before .before .before .before .args in startDownAt (s .block .now) (trailerFrom (s .t)) (s .target .now) ≡ ok (k .before .found .given .0 .0)
   started = yes saysStart (k .before .before .before .find-restart-for-key-descending .ensures) (k .before .found .given .1)
 
-find-restart-for-key-descending-requires : tie.Need-find-restart-for-key-descending-requires
-find-restart-for-key-descending-requires c κs = search needs
-
-enum-known-found : tie.Need-enum-known-found
-enum-known-found c = search needs
-
-enum-told : tie.Need-enum-told
-enum-told c = search needs
-
-start-refusal-requires : tie.Need-start-refusal-requires
-start-refusal-requires c κs = search needs
-
 returns : tie.Need-returns
 returns c = λ p key. finds-not _ p key (seek-down-no _ _ _ (c .before .before .before .before .before .before .pre) (no saysStart refusalOfStart (c .before .before .before .find-restart-for-key-descending .ensures) (c .before .enum-told .given .1) refl (c .start-refusal .ensures))) refl
 
@@ -42,10 +30,4 @@ pub seek-descending-spec : {M : Type 1} → statement M
 seek-descending-spec =
     tie.close
     (tie.spec
-    find-restart-for-key-descending-requires
-    enum-known-found
-    enum-told
-    start-refusal-requires
-    returns
-    walk-down-requires
-    returns-2)
+    (search needs) (search needs) (search needs) (search needs) returns walk-down-requires returns-2)

@@ -1,7 +1,7 @@
 -- `seek_in_place` keeps its promise: 18 unless the key bytes are as many as a key may have, 14, else the seek of the cursor's order.
 -- The two seeks keep the same promise of their own order.
 use mathlib.Core.Path.{_≡_, refl, ap}
-use Rattle.layout.specs.Answer.{ok}
+use Rattle.layout.specs.Res.{ok}
 use Rattle.layout.specs.Seek.{seek}
 use Rattle.layout.specs.Trailer.{trailerOf}
 use Rattle.layout.specs.Laws.Seek.{seek-trailer}
@@ -22,35 +22,14 @@ module _ (k : tie.After-known-told) where
 returns : tie.Need-returns
 returns c = finds-not _ _ _ (lent-other _ _ _ _ (c .if1 .taken)) refl
 
-trailer-of-requires : tie.Need-trailer-of-requires
-trailer-of-requires c κs = search needs
-
-enum-known-read : tie.Need-enum-known-read
-enum-known-read c = search needs
-
-enum-told : tie.Need-enum-told
-enum-told c = search needs
-
-trailer-refusal-requires : tie.Need-trailer-refusal-requires
-trailer-refusal-requires c κs = search needs
-
 returns-2 : tie.Need-returns-2
 returns-2 c = finds-not _ _ _ (lent-whole _ _ _ _ (c .before .before .before .before .if1 .left) (seek-trailer _ _ _ (no saysTrailer refusalOfTrailer (c .before .before .before .trailer-of .ensures) (c .before .enum-told .given .1) refl (c .trailer-refusal .ensures)))) refl
-
-enum-told-2 : tie.Need-enum-told-2
-enum-told-2 c = search needs
 
 seek-ascending-requires : tie.Need-seek-ascending-requires
 seek-ascending-requires c κs = let k = c .before .before .before in (k .before .before .before .before .if1 .left, trailer-read k)
 
-enum-told-3 : tie.Need-enum-told-3
-enum-told-3 c = search needs
-
 seek-descending-requires : tie.Need-seek-descending-requires
 seek-descending-requires c κs = trailer-read (c .before .before)
-
-same-length : tie.Need-same-length
-same-length c = search needs
 
 returns-3 : tie.Need-returns-3
 returns-3 c =
@@ -68,16 +47,5 @@ pub seek-in-place-spec : {M : Type 1} → statement M
 seek-in-place-spec =
     tie.close
     (tie.spec
-    returns
-    trailer-of-requires
-    enum-known-read
-    enum-told
-    trailer-refusal-requires
-    returns-2
-    enum-told-2
-    seek-ascending-requires
-    enum-told-3
-    seek-descending-requires
-    same-length
-    returns-3
-    returns-4)
+    returns (search needs) (search needs) (search needs) (search needs) returns-2 (search needs)
+    seek-ascending-requires (search needs) seek-descending-requires (search needs) returns-3 returns-4)

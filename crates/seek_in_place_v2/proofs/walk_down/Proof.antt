@@ -6,7 +6,7 @@ use mathlib.Core.Path.{_≡_, refl, sym, _∙_}
 use native.Mathlib.Omega.{arith}
 use lib.Seq.{length-take-le}
 use borrow.Author.Needs.{needs}
-use Rattle.layout.specs.Answer.{ok}
+use Rattle.layout.specs.Res.{ok}
 use Rattle.layout.specs.Seek.{lastAtOrBelow}
 use Rattle.layout.specs.Trailer.{dataOf, regionOf}
 use Rattle.layout.specs.Laws.Seek.{Falling, falling-start, falling-region, falling-no, falling-found, falling-done, falling-more}
@@ -40,18 +40,6 @@ module _ (m : tie.After-known-told2 Inv-loop μ-loop) where
 loop-holds : tie.Need-loop-holds Inv-loop μ-loop
 loop-holds c = (falling-start _ _ _ _, c .before .before .pre .inside)
 
-region-of-requires : tie.Need-region-of-requires Inv-loop μ-loop
-region-of-requires c κs = search needs
-
-enum-known-read : tie.Need-enum-known-read Inv-loop μ-loop
-enum-known-read c = search needs
-
-enum-told : tie.Need-enum-told Inv-loop μ-loop
-enum-told c = search needs
-
-region-refusal-requires : tie.Need-region-refusal-requires Inv-loop μ-loop
-region-refusal-requires c κs = search needs
-
 returns : tie.Need-returns Inv-loop μ-loop
 returns c =
     let s = c .before .before .before .before .before .before .before in
@@ -62,18 +50,6 @@ returns c =
 slice-aggregate-last-at-or-below : tie.Need-slice-aggregate-last-at-or-below Inv-loop μ-loop
 slice-aggregate-last-at-or-below c = let s = c .before .before .before .before .before .before .before .before in sym (length-take-le _ _ (omega (arith, trailerOf-tells _ _ (s .pre .read) .0)))
 
-last-at-or-below-requires : tie.Need-last-at-or-below-requires Inv-loop μ-loop
-last-at-or-below-requires c κs = search needs
-
-enum-known-last : tie.Need-enum-known-last Inv-loop μ-loop
-enum-known-last c = search needs
-
-enum-told-2 : tie.Need-enum-told-2 Inv-loop μ-loop
-enum-told-2 c = search needs
-
-last-refusal-requires : tie.Need-last-refusal-requires Inv-loop μ-loop
-last-refusal-requires c κs = search needs
-
 returns-2 : tie.Need-returns-2 Inv-loop μ-loop
 returns-2 c =
     let k = c .before .before .before .before .before in
@@ -81,29 +57,17 @@ returns-2 c =
     (falling-no _ _ _ _ _ (k .before .before .before .before .loop .inv .0) _ (region-read k)
     (sym (last-used _ _ _ _ _ (k .before .before .before .before .before .before .before .pre .read) (region-read k)) ∙ no saysLast refusalOfLast (c .before .before .before .last-at-or-below .ensures) (c .before .enum-told2 .given .1) refl (c .last-refusal .ensures))) refl
 
-landed-requires : tie.Need-landed-requires Inv-loop μ-loop
-landed-requires c κs = search needs
-
 returns-3 : tie.Need-returns-3 Inv-loop μ-loop
 returns-3 c =
     let m = c .before .before .before in
     let k = m .before .before .before .before .before in
     λ p key. walked-to _ _ p key Descending _ _ (falling-found _ _ _ _ _ (k .before .before .before .before .loop .inv .0) _ (region-read k) _ (last-read m) (c .before .if1 .taken)) (c .landed .ensures)
 
-over-requires : tie.Need-over-requires Inv-loop μ-loop
-over-requires c κs = search needs
-
 returns-4 : tie.Need-returns-4 Inv-loop μ-loop
 returns-4 c =
     let m = c .before .before .before .before in
     let k = m .before .before .before .before .before in
     λ p key. walked-off _ _ p key Descending _ _ (falling-done _ _ _ _ _ (k .before .before .before .before .loop .inv .0) _ (region-read k) _ (last-read m) (c .before .before .if1 .left) (c .before .if2 .taken)) (c .over .ensures)
-
-sub-number : tie.Need-sub-number Inv-loop μ-loop
-sub-number c = search needs
-
-loop-less : tie.Need-loop-less Inv-loop μ-loop
-loop-less c = search needs
 
 loop-again : tie.Need-loop-again Inv-loop μ-loop
 loop-again c =
@@ -115,24 +79,6 @@ pub walk-down-spec : {M : Type 1} → statement M
 walk-down-spec =
     tie.close
     (tie.spec
-    Inv-loop
-    μ-loop
-    loop-holds
-    region-of-requires
-    enum-known-read
-    enum-told
-    region-refusal-requires
-    returns
-    slice-aggregate-last-at-or-below
-    last-at-or-below-requires
-    enum-known-last
-    enum-told-2
-    last-refusal-requires
-    returns-2
-    landed-requires
-    returns-3
-    over-requires
-    returns-4
-    sub-number
-    loop-less
-    loop-again)
+    Inv-loop μ-loop loop-holds (search needs) (search needs) (search needs) (search needs) returns
+    slice-aggregate-last-at-or-below (search needs) (search needs) (search needs) (search needs) returns-2
+    (search needs) returns-3 (search needs) returns-4 (search needs) (search needs) loop-again)

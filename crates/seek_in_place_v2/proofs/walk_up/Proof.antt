@@ -4,7 +4,7 @@ use native.Mathlib.Omega.{arith}
 use lib.ListN.{length}
 use lib.Seq.{length-take-le}
 use borrow.Author.Needs.{needs}
-use Rattle.layout.specs.Answer.{ok}
+use Rattle.layout.specs.Res.{ok}
 use Rattle.layout.specs.Key.{Key}
 use Rattle.layout.specs.Place.{splice}
 use Rattle.layout.specs.Trailer.{regionOf}
@@ -40,21 +40,6 @@ module _ (k : tie.After-known-told Inv-loop μ-loop) where
 loop-holds : tie.Need-loop-holds Inv-loop μ-loop
 loop-holds c = (climbing-start _ _ _ _, refl)
 
-region-of-requires : tie.Need-region-of-requires Inv-loop μ-loop
-region-of-requires c κs = search needs
-
-enum-known-read : tie.Need-enum-known-read Inv-loop μ-loop
-enum-known-read c = search needs
-
-enum-told : tie.Need-enum-told Inv-loop μ-loop
-enum-told c = search needs
-
-region-refusal-requires : tie.Need-region-refusal-requires Inv-loop μ-loop
-region-refusal-requires c κs = search needs
-
-same-length : tie.Need-same-length Inv-loop μ-loop
-same-length c = search needs
-
 returns : tie.Need-returns Inv-loop μ-loop
 returns c =
     let s = c .before .before .before .before .before .before .before .before .before .before in
@@ -66,18 +51,6 @@ returns c =
 slice-aggregate-walk-into : tie.Need-slice-aggregate-walk-into Inv-loop μ-loop
 slice-aggregate-walk-into c = let s = c .before .before .before .before .before .before .before .before .before .before .before in sym (length-take-le _ _ (omega (arith, trailerOf-tells _ _ (s .pre .1 .read) .0)))
 
-walk-into-requires : tie.Need-walk-into-requires Inv-loop μ-loop
-walk-into-requires c κs = search needs
-
-enum-known-stop : tie.Need-enum-known-stop Inv-loop μ-loop
-enum-known-stop c = search needs
-
-enum-told-2 : tie.Need-enum-told-2 Inv-loop μ-loop
-enum-told-2 c = search needs
-
-place-refusal-requires : tie.Need-place-refusal-requires Inv-loop μ-loop
-place-refusal-requires c κs = search needs
-
 same-length-2 : tie.Need-same-length-2 Inv-loop μ-loop
 same-length-2 c = let h = ap length (c .before .before .before .before .before .before .before .before .before .before .before .before .before .before .loop .inv .1) in search needs
 
@@ -88,9 +61,6 @@ returns-2 c =
     let said = into-refused _ _ _ _ _ (s .pre .1 .read) (region-read k) _ (whole k) _ _ (c .before .before .before .before .before .walk-into .ensures) (no saysPlace refusalOfPlace refl (c .before .enum-told2 .given .1) refl (c .place-refusal .ensures)) in
     λ p. walked-not _ _ p _
     (climbing-no _ _ _ _ _ (k .before .before .before .before .before .before .loop .inv .0) (omega (arith, s .pre .1 .inside)) (k .before .before .before .before .if1 .taken) _ (region-read k) (said .0)) (said .1 ∙ k .before .before .before .before .before .before .loop .inv .1)
-
-landed-requires : tie.Need-landed-requires Inv-loop μ-loop
-landed-requires c κs = search needs
 
 same-length-3 : tie.Need-same-length-3 Inv-loop μ-loop
 same-length-3 c = let h = ap length (c .before .before .before .before .before .before .before .before .before .before .before .before .before .before .before .before .before .loop .inv .1) in search needs
@@ -104,9 +74,6 @@ returns-3 c =
     λ p. walked-up _ _ p _ _ _ _ (st .before)
     (climbing-found _ _ _ _ _ (k .before .before .before .before .before .before .loop .inv .0) (omega (arith, s .pre .1 .inside)) (k .before .before .before .before .if1 .taken) _ (region-read k) _ (st .walked) (c .before .if2 .taken))
     (st .long) (st .inner (c .before .if2 .taken) ∙ ap (λ (b : Key). splice b 0 (st .before)) (k .before .before .before .before .before .before .loop .inv .1)) (c .landed .ensures)
-
-add-number : tie.Need-add-number Inv-loop μ-loop
-add-number c = search needs
 
 loop-less : tie.Need-loop-less Inv-loop μ-loop
 loop-less c = omega arith
@@ -122,12 +89,6 @@ loop-again c =
 sub-over : tie.Need-sub-over Inv-loop μ-loop
 sub-over c = omega (arith, trailerOf-tells _ _ (c .before .before .before .before .before .before .before .pre .1 .read) .1)
 
-over-requires : tie.Need-over-requires Inv-loop μ-loop
-over-requires c κs = search needs
-
-same-length-4 : tie.Need-same-length-4 Inv-loop μ-loop
-same-length-4 c = search needs
-
 returns-4 : tie.Need-returns-4 Inv-loop μ-loop
 returns-4 c =
     let s = c .before .before .before .before .before .before .before .before in
@@ -137,29 +98,7 @@ pub walk-up-spec : {M : Type 1} → statement M
 walk-up-spec =
     tie.close
     (tie.spec
-    Inv-loop
-    μ-loop
-    loop-holds
-    region-of-requires
-    enum-known-read
-    enum-told
-    region-refusal-requires
-    same-length
-    returns
-    slice-aggregate-walk-into
-    walk-into-requires
-    enum-known-stop
-    enum-told-2
-    place-refusal-requires
-    same-length-2
-    returns-2
-    landed-requires
-    same-length-3
-    returns-3
-    add-number
-    loop-less
-    loop-again
-    sub-over
-    over-requires
-    same-length-4
-    returns-4)
+    Inv-loop μ-loop loop-holds (search needs) (search needs) (search needs) (search needs) (search needs)
+    returns slice-aggregate-walk-into (search needs) (search needs) (search needs) (search needs)
+    same-length-2 returns-2 (search needs) same-length-3 returns-3 (search needs) loop-less loop-again
+    sub-over (search needs) (search needs) returns-4)

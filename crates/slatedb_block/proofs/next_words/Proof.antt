@@ -2,7 +2,7 @@
 -- Each exit is one law of a `Steps`.
 use mathlib.Core.Path.{_≡_}
 use lib.ListN.{length}
-use Rattle.layout.specs.Answer.{ok}
+use Rattle.layout.specs.Res.{ok}
 use Rattle.layout.specs.Limits.{maxKey}
 use Rattle.basics.specs.Answers.{yes}
 use Rattle.step_in_place_v2.specs.Says.{viewIn}
@@ -25,48 +25,15 @@ told k =
     let s = entry (k .before .before) .args in
     step-tells (s .cursor .now) (s .key .now) (s .row .now) _ (yes (saysCursor (s .key .now)) (k .before .before .step-in .ensures) (k .loaded .given .1))
 
-step-in-requires : tie.Need-step-in-requires
-step-in-requires c κs = search needs
-
-enum-known-loaded : tie.Need-enum-known-loaded
-enum-known-loaded c = search needs
-
-enum-told : tie.Need-enum-told
-enum-told c = search needs
-
-same-length : tie.Need-same-length
-same-length c = search needs
-
-same-length-2 : tie.Need-same-length-2
-same-length-2 c = search needs
-
-same-length-3 : tie.Need-same-length-3
-same-length-3 c = search needs
-
 returns : tie.Need-returns
 returns c =
     let s = entry (c .before .before) .args in
     steps-bad _ (s .cursor .now) (s .key .now) (s .out .now) (s .row .now) (yes (saysCursor (s .key .now)) (c .before .before .step-in .ensures) (c .enum-told .given .1))
 
-next-in-place-requires : tie.Need-next-in-place-requires
-next-in-place-requires c κs = search needs
-
 put-moved-requires : tie.Need-put-moved-requires
 put-moved-requires c κs =
     let t = told (c .before .before .before .before .before .before .before .before .before .before) in
     (cursor-counts _ _ _ (t .2), t .0)
-
-same-length-4 : tie.Need-same-length-4
-same-length-4 c = search needs
-
-same-length-5 : tie.Need-same-length-5
-same-length-5 c = search needs
-
-same-length-6 : tie.Need-same-length-6
-same-length-6 c = search needs
-
-same-length-7 : tie.Need-same-length-7
-same-length-7 c = search needs
 
 returns-2 : tie.Need-returns-2
 returns-2 c =
@@ -81,17 +48,5 @@ pub next-words-spec : {M : Type 1} → statement M
 next-words-spec =
     tie.close
     (tie.spec
-    step-in-requires
-    enum-known-loaded
-    enum-told
-    same-length
-    same-length-2
-    same-length-3
-    returns
-    next-in-place-requires
-    put-moved-requires
-    same-length-4
-    same-length-5
-    same-length-6
-    same-length-7
-    returns-2)
+    (search needs) (search needs) (search needs) (search needs) (search needs) (search needs) returns
+    (search needs) put-moved-requires (search needs) (search needs) (search needs) (search needs) returns-2)

@@ -8,27 +8,6 @@ use borrow.Author.Needs.{needs}
 use Rattle.slatedb_block.proofs.put_found.Statement.{statement}
 use Rattle.slatedb_block.proofs.put_found.Tie as tie
 
-enum-known-found : tie.Need-enum-known-found
-enum-known-found c = search needs
-
-put-cursor-requires : tie.Need-put-cursor-requires
-put-cursor-requires c κs = search needs
-
-enum-known-found-2 : tie.Need-enum-known-found-2
-enum-known-found-2 c = search needs
-
-put-cursor-requires-2 : tie.Need-put-cursor-requires-2
-put-cursor-requires-2 c κs = search needs
-
-enum-known-found-3 : tie.Need-enum-known-found-3
-enum-known-found-3 c = search needs
-
-number-requires : tie.Need-number-requires
-number-requires c κs = search needs
-
-same-length : tie.Need-same-length
-same-length c = search needs
-
 returns : tie.Need-returns
 returns c =
     let known = c .before .before .before .before .before .found .given .1 in
@@ -38,9 +17,6 @@ returns c =
       state = stored (start .pre) (c .before .before .put-cursor .ensures) ∙ sym (ap (λ (f : Found). foundWords f (start .args .cursor .now)) known);
       number = sym (ap (λ (f : Found). foundReads f (start .args .reads .now)) known);
     }
-
-same-length-2 : tie.Need-same-length-2
-same-length-2 c = search needs
 
 returns-2 : tie.Need-returns-2
 returns-2 c =
@@ -66,14 +42,5 @@ pub put-found-spec : {M : Type 1} → statement M
 put-found-spec =
     tie.close
     (tie.spec
-    enum-known-found
-    put-cursor-requires
-    enum-known-found-2
-    put-cursor-requires-2
-    enum-known-found-3
-    number-requires
-    same-length
-    returns
-    same-length-2
-    returns-2
-    returns-3)
+    (search needs) (search needs) (search needs) (search needs) (search needs) (search needs) (search needs)
+    returns (search needs) returns-2 returns-3)

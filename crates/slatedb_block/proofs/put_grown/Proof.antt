@@ -8,21 +8,6 @@ use borrow.Author.Needs.{needs}
 use Rattle.slatedb_block.proofs.put_grown.Statement.{statement}
 use Rattle.slatedb_block.proofs.put_grown.Tie as tie
 
-enum-known-grown : tie.Need-enum-known-grown
-enum-known-grown c = search needs
-
-put-state-requires : tie.Need-put-state-requires
-put-state-requires c κs = search needs
-
-enum-known-grown-2 : tie.Need-enum-known-grown-2
-enum-known-grown-2 c = search needs
-
-number-requires : tie.Need-number-requires
-number-requires c κs = search needs
-
-same-length : tie.Need-same-length
-same-length c = search needs
-
 returns : tie.Need-returns
 returns c =
     let put = c .before .before in
@@ -45,11 +30,4 @@ returns-2 c =
 pub put-grown-spec : {M : Type 1} → statement M
 put-grown-spec =
     tie.close
-    (tie.spec
-    enum-known-grown
-    put-state-requires
-    enum-known-grown-2
-    number-requires
-    same-length
-    returns
-    returns-2)
+    (tie.spec (search needs) (search needs) (search needs) (search needs) (search needs) returns returns-2)

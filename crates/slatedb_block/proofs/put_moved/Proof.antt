@@ -8,33 +8,6 @@ use borrow.Author.Needs.{needs}
 use Rattle.slatedb_block.proofs.put_moved.Statement.{statement}
 use Rattle.slatedb_block.proofs.put_moved.Tie as tie
 
-enum-known-moved : tie.Need-enum-known-moved
-enum-known-moved c = search needs
-
-put-cursor-requires : tie.Need-put-cursor-requires
-put-cursor-requires c κs = search needs
-
-put-row-requires : tie.Need-put-row-requires
-put-row-requires c κs = search needs
-
-enum-known-moved-2 : tie.Need-enum-known-moved-2
-enum-known-moved-2 c = search needs
-
-put-cursor-requires-2 : tie.Need-put-cursor-requires-2
-put-cursor-requires-2 c κs = search needs
-
-enum-known-moved-3 : tie.Need-enum-known-moved-3
-enum-known-moved-3 c = search needs
-
-number-requires : tie.Need-number-requires
-number-requires c κs = search needs
-
-same-length : tie.Need-same-length
-same-length c = search needs
-
-same-length-2 : tie.Need-same-length-2
-same-length-2 c = search needs
-
 returns : tie.Need-returns
 returns c =
     let after-put-row = c .before .before in
@@ -46,9 +19,6 @@ returns c =
       state = stored (start .pre .0) (after-put-cursor .put-cursor .ensures) ∙ sym (ap (λ (m : Moved). movedWords m (start .args .cursor .now)) (known .moved .given .1));
       row-words = stored (start .pre .1) (after-put-row .put-row .ensures) ∙ sym (ap (λ (m : Moved). movedRow m (start .args .row .now)) (known .moved .given .1));
     }
-
-same-length-3 : tie.Need-same-length-3
-same-length-3 c = search needs
 
 returns-2 : tie.Need-returns-2
 returns-2 c =
@@ -75,16 +45,5 @@ pub put-moved-spec : {M : Type 1} → statement M
 put-moved-spec =
     tie.close
     (tie.spec
-    enum-known-moved
-    put-cursor-requires
-    put-row-requires
-    enum-known-moved-2
-    put-cursor-requires-2
-    enum-known-moved-3
-    number-requires
-    same-length
-    same-length-2
-    returns
-    same-length-3
-    returns-2
-    returns-3)
+    (search needs) (search needs) (search needs) (search needs) (search needs) (search needs) (search needs)
+    (search needs) (search needs) returns (search needs) returns-2 returns-3)

@@ -18,43 +18,13 @@ offered k =
     let s = entry (k .before .before) .args in
     offer-tells (s .builder .now) (s .last-key .now) (s .fields .now) (s .value .now) _ _ (yes (saysOffer (s .last-key .now) (s .value .now)) (k .before .before .offer-in .ensures (s .value .now)) (k .loaded .given .1))
 
-offer-in-requires : tie.Need-offer-in-requires
-offer-in-requires c κs = search needs
-
-enum-known-loaded : tie.Need-enum-known-loaded
-enum-known-loaded c = search needs
-
-enum-told : tie.Need-enum-told
-enum-told c = search needs
-
-same-length : tie.Need-same-length
-same-length c = search needs
-
-same-length-2 : tie.Need-same-length-2
-same-length-2 c = search needs
-
 returns : tie.Need-returns
 returns c =
     let s = entry (c .before .before) .args in
     adds-bad (s .builder .now) (s .last-key .now) _ _ (s .key .now) (s .value .now) (s .fields .now) (yes (saysOffer (s .last-key .now) (s .value .now)) (c .before .before .offer-in .ensures (s .value .now)) (c .enum-told .given .1))
 
-add-in-place-requires : tie.Need-add-in-place-requires
-add-in-place-requires c κs = search needs
-
 put-grown-requires : tie.Need-put-grown-requires
 put-grown-requires c κs = offered (c .before .before .before .before .before .before .before .before .before .before .before .before) .six
-
-same-length-3 : tie.Need-same-length-3
-same-length-3 c = search needs
-
-same-length-4 : tie.Need-same-length-4
-same-length-4 c = search needs
-
-same-length-5 : tie.Need-same-length-5
-same-length-5 c = search needs
-
-same-length-6 : tie.Need-same-length-6
-same-length-6 c = search needs
 
 returns-2 : tie.Need-returns-2
 returns-2 c =
@@ -69,16 +39,5 @@ pub slatedb-builder-add-spec : {M : Type 1} → statement M
 slatedb-builder-add-spec =
     tie.close
     (tie.spec
-    offer-in-requires
-    enum-known-loaded
-    enum-told
-    same-length
-    same-length-2
-    returns
-    add-in-place-requires
-    put-grown-requires
-    same-length-3
-    same-length-4
-    same-length-5
-    same-length-6
-    returns-2)
+    (search needs) (search needs) (search needs) (search needs) (search needs) returns (search needs)
+    put-grown-requires (search needs) (search needs) (search needs) (search needs) returns-2)

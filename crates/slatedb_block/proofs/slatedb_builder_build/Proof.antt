@@ -6,34 +6,10 @@ use borrow.Author.Needs.{needs}
 use Rattle.slatedb_block.proofs.slatedb_builder_build.Statement.{statement}
 use Rattle.slatedb_block.proofs.slatedb_builder_build.Tie as tie
 
-state-in-requires : tie.Need-state-in-requires
-state-in-requires c κs = search needs
-
-enum-known-words : tie.Need-enum-known-words
-enum-known-words c = search needs
-
-enum-told : tie.Need-enum-told
-enum-told c = search needs
-
 returns : tie.Need-returns
 returns c =
     let start = c .before .before .before .before .before .before in
     builds-short (start .args .builder .now) _ _ _ (state-none (start .args .builder .now) (c .before .before .state-in .ensures) (c .enum-told .given .1))
-
-build-in-place-requires : tie.Need-build-in-place-requires
-build-in-place-requires c κs = search needs
-
-enum-known-built : tie.Need-enum-known-built
-enum-known-built c = search needs
-
-enum-known-built-2 : tie.Need-enum-known-built-2
-enum-known-built-2 c = search needs
-
-number-requires : tie.Need-number-requires
-number-requires c κs = search needs
-
-same-length : tie.Need-same-length
-same-length c = search needs
 
 returns-2 : tie.Need-returns-2
 returns-2 c =
@@ -42,9 +18,6 @@ returns-2 c =
     let loaded = words .before .before in
     let start = loaded .before .before .before .before in
     builds-block (start .args .builder .now) _ _ _ _ _ (state-counts (start .args .builder .now) (loaded .state-in .ensures) (words .words .given .1)) (rw (state-is (start .args .builder .now) (loaded .state-in .ensures) (words .words .given .1)) at (after-build .build-in-place .ensures)) (c .before .built .given .1)
-
-same-length-2 : tie.Need-same-length-2
-same-length-2 c = search needs
 
 returns-3 : tie.Need-returns-3
 returns-3 c =
@@ -58,15 +31,5 @@ pub slatedb-builder-build-spec : {M : Type 1} → statement M
 slatedb-builder-build-spec =
     tie.close
     (tie.spec
-    state-in-requires
-    enum-known-words
-    enum-told
-    returns
-    build-in-place-requires
-    enum-known-built
-    enum-known-built-2
-    number-requires
-    same-length
-    returns-2
-    same-length-2
-    returns-3)
+    (search needs) (search needs) (search needs) returns (search needs) (search needs) (search needs)
+    (search needs) (search needs) returns-2 (search needs) returns-3)

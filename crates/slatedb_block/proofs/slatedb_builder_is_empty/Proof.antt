@@ -7,25 +7,10 @@ use borrow.Author.Needs.{needs}
 use Rattle.slatedb_block.proofs.slatedb_builder_is_empty.Statement.{statement}
 use Rattle.slatedb_block.proofs.slatedb_builder_is_empty.Tie as tie
 
-state-in-requires : tie.Need-state-in-requires
-state-in-requires c κs = search needs
-
-enum-known-words : tie.Need-enum-known-words
-enum-known-words c = search needs
-
-enum-told : tie.Need-enum-told
-enum-told c = search needs
-
 returns : tie.Need-returns
 returns c =
     let start = c .before .before .before .before in
     empties-short (start .args .builder .now) _ (state-none (start .args .builder .now) (c .before .before .state-in .ensures) (c .enum-told .given .1))
-
-is-empty-state-requires : tie.Need-is-empty-state-requires
-is-empty-state-requires c κs = search needs
-
-truth-word-requires : tie.Need-truth-word-requires
-truth-word-requires c κs = search needs
 
 returns-2 : tie.Need-returns-2
 returns-2 c =
@@ -37,11 +22,4 @@ returns-2 c =
 pub slatedb-builder-is-empty-spec : {M : Type 1} → statement M
 slatedb-builder-is-empty-spec =
     tie.close
-    (tie.spec
-    state-in-requires
-    enum-known-words
-    enum-told
-    returns
-    is-empty-state-requires
-    truth-word-requires
-    returns-2)
+    (tie.spec (search needs) (search needs) (search needs) returns (search needs) (search needs) returns-2)

@@ -9,24 +9,6 @@ use Rattle.slatedb_block.proofs.slatedb_builder_new.Tie as tie
 returns : tie.Need-returns
 returns c = makes-short (c .before .before .args .builder .now) _ _ (c .if1 .taken)
 
-new-state-requires : tie.Need-new-state-requires
-new-state-requires c κs = search needs
-
-enum-told : tie.Need-enum-told
-enum-told c = search needs
-
-put-state-requires : tie.Need-put-state-requires
-put-state-requires c κs = search needs
-
-enum-known-answer : tie.Need-enum-known-answer
-enum-known-answer c = search needs
-
-number-requires : tie.Need-number-requires
-number-requires c κs = search needs
-
-same-length : tie.Need-same-length
-same-length c = search needs
-
 returns-2 : tie.Need-returns-2
 returns-2 c =
     let after-enum-told = c .before .before .before .before in
@@ -42,12 +24,5 @@ pub slatedb-builder-new-spec : {M : Type 1} → statement M
 slatedb-builder-new-spec =
     tie.close
     (tie.spec
-    returns
-    new-state-requires
-    enum-told
-    put-state-requires
-    enum-known-answer
-    number-requires
-    same-length
-    returns-2
-    returns-3)
+    returns (search needs) (search needs) (search needs) (search needs) (search needs) (search needs)
+    returns-2 returns-3)

@@ -1,7 +1,7 @@
 -- The fit question keeps its promise: the words that mean nothing first, then what `would_fit_in_place` promised of the builder in the words.
 -- Each exit is one law of `Rows`.
 use mathlib.Core.Path.{_≡_}
-use Rattle.layout.specs.Answer.{ok}
+use Rattle.layout.specs.Res.{ok}
 use Rattle.basics.specs.Answers.{yes}
 use Rattle.row_flags.specs.Says.{fieldsFrom}
 use Rattle.build_in_place_v2.specs.Says.{viewFrom}
@@ -21,31 +21,10 @@ offered k =
     let s = entry (k .before .before) .args in
     yes (saysOffer (s .last-key .now) (s .value .now)) (k .before .before .offer-in .ensures (s .value .now)) (k .loaded .given .1)
 
-offer-in-requires : tie.Need-offer-in-requires
-offer-in-requires c κs = search needs
-
-enum-known-loaded : tie.Need-enum-known-loaded
-enum-known-loaded c = search needs
-
-enum-told : tie.Need-enum-told
-enum-told c = search needs
-
 returns : tie.Need-returns
 returns c =
     let s = entry (c .before .before) .args in
     fits-bad (s .builder .now) (s .last-key .now) _ _ (s .key .now) (s .value .now) (s .fields .now) (yes (saysOffer (s .last-key .now) (s .value .now)) (c .before .before .offer-in .ensures (s .value .now)) (c .enum-told .given .1))
-
-would-fit-in-place-requires : tie.Need-would-fit-in-place-requires
-would-fit-in-place-requires c κs = search needs
-
-enum-told-2 : tie.Need-enum-told-2
-enum-told-2 c = search needs
-
-enum-known-fit : tie.Need-enum-known-fit
-enum-known-fit c = search needs
-
-number-requires : tie.Need-number-requires
-number-requires c κs = search needs
 
 returns-2 : tie.Need-returns-2
 returns-2 c =
@@ -63,13 +42,5 @@ pub slatedb-builder-would-fit-spec : {M : Type 1} → statement M
 slatedb-builder-would-fit-spec =
     tie.close
     (tie.spec
-    offer-in-requires
-    enum-known-loaded
-    enum-told
-    returns
-    would-fit-in-place-requires
-    enum-told-2
-    enum-known-fit
-    number-requires
-    returns-2
-    returns-3)
+    (search needs) (search needs) (search needs) returns (search needs) (search needs) (search needs)
+    (search needs) returns-2 returns-3)

@@ -7,18 +7,6 @@ use borrow.Author.Needs.{needs}
 use Rattle.slatedb_block.proofs.slatedb_check.Statement.{statement}
 use Rattle.slatedb_block.proofs.slatedb_check.Tie as tie
 
-check-requires : tie.Need-check-requires
-check-requires c κs = search needs
-
-enum-known-checked : tie.Need-enum-known-checked
-enum-known-checked c = search needs
-
-enum-known-checked-2 : tie.Need-enum-known-checked-2
-enum-known-checked-2 c = search needs
-
-number-requires : tie.Need-number-requires
-number-requires c κs = search needs
-
 returns : tie.Need-returns
 returns c = tells-good (yes saysChecked (c .before .before .before .check .ensures) (c .before .checked .given .1))
 
@@ -28,10 +16,4 @@ returns-2 c = tells-refused (yes saysChecked (c .before .before .before .before 
 pub slatedb-check-spec : {M : Type 1} → statement M
 slatedb-check-spec =
     tie.close
-    (tie.spec
-    check-requires
-    enum-known-checked
-    enum-known-checked-2
-    number-requires
-    returns
-    returns-2)
+    (tie.spec (search needs) (search needs) (search needs) (search needs) returns returns-2)

@@ -8,32 +8,8 @@ use borrow.Author.Needs.{needs}
 use Rattle.slatedb_block.proofs.slatedb_is_empty.Statement.{statement}
 use Rattle.slatedb_block.proofs.slatedb_is_empty.Tie as tie
 
-cursor-in-requires : tie.Need-cursor-in-requires
-cursor-in-requires c κs = search needs
-
-enum-known-loaded : tie.Need-enum-known-loaded
-enum-known-loaded c = search needs
-
-enum-told : tie.Need-enum-told
-enum-told c = search needs
-
 returns : tie.Need-returns
 returns c = empty-no-cursor _ _ _ (yes (saysCursor []) (c .before .before .cursor-in .ensures []) (c .enum-told .given .1))
-
-is-empty-place-requires : tie.Need-is-empty-place-requires
-is-empty-place-requires c κs = search needs
-
-enum-known-read : tie.Need-enum-known-read
-enum-known-read c = search needs
-
-truth-word-requires : tie.Need-truth-word-requires
-truth-word-requires c κs = search needs
-
-enum-known-read-2 : tie.Need-enum-known-read-2
-enum-known-read-2 c = search needs
-
-number-requires : tie.Need-number-requires
-number-requires c κs = search needs
 
 returns-2 : tie.Need-returns-2
 returns-2 c =
@@ -51,14 +27,5 @@ pub slatedb-is-empty-spec : {M : Type 1} → statement M
 slatedb-is-empty-spec =
     tie.close
     (tie.spec
-    cursor-in-requires
-    enum-known-loaded
-    enum-told
-    returns
-    is-empty-place-requires
-    enum-known-read
-    truth-word-requires
-    enum-known-read-2
-    number-requires
-    returns-2
-    returns-3)
+    (search needs) (search needs) (search needs) returns (search needs) (search needs) (search needs)
+    (search needs) (search needs) returns-2 returns-3)

@@ -20,39 +20,9 @@ returns-3 : tie.Need-returns-3
 returns-3 c = let start = c .before .before .before .before .before .before .before .before in
     steps-no-cursor _ (start .args .cursor .now) (start .args .key .now) (start .args .out .now) (start .args .row .now) (c .before .before .if1 .left) (c .before .if2 .left) (sym (cursor-short _ (c .if3 .taken) _))
 
-plain-next-requires : tie.Need-plain-next-requires
-plain-next-requires c κs = search needs
-
-same-length : tie.Need-same-length
-same-length c = search needs
-
-same-length-2 : tie.Need-same-length-2
-same-length-2 c = search needs
-
-same-length-3 : tie.Need-same-length-3
-same-length-3 c = search needs
-
-same-length-4 : tie.Need-same-length-4
-same-length-4 c = search needs
-
 returns-4 : tie.Need-returns-4
 returns-4 c = let start = c .before .before .before .before .before .before .before .before .before .before .before .before .before .before .before .before .before .before .before .before .before .before in
     steps-made (start .args .block .now) (start .args .cursor .now) (start .args .key .now) (start .args .out .now) (start .args .row .now) (c .before .before .before .before .before .before .before .before .before .plain-next .ensures) (c .if4 .taken)
-
-next-words-requires : tie.Need-next-words-requires
-next-words-requires c κs = search needs
-
-same-length-5 : tie.Need-same-length-5
-same-length-5 c = search needs
-
-same-length-6 : tie.Need-same-length-6
-same-length-6 c = search needs
-
-same-length-7 : tie.Need-same-length-7
-same-length-7 c = search needs
-
-same-length-8 : tie.Need-same-length-8
-same-length-8 c = search needs
 
 returns-5 : tie.Need-returns-5
 returns-5 c = let start = c .before .before .before .before .before .before .before .before .before .before .before .before .before .before .before .before .before .before .before .before .before .before .before .before .before .before .before .before .before .before .before .before .before .before .before in
@@ -62,18 +32,5 @@ pub slatedb-next-spec : {M : Type 1} → statement M
 slatedb-next-spec =
     tie.close
     (tie.spec
-    returns
-    returns-2
-    returns-3
-    plain-next-requires
-    same-length
-    same-length-2
-    same-length-3
-    same-length-4
-    returns-4
-    next-words-requires
-    same-length-5
-    same-length-6
-    same-length-7
-    same-length-8
-    returns-5)
+    returns returns-2 returns-3 (search needs) (search needs) (search needs) (search needs) (search needs)
+    returns-4 (search needs) (search needs) (search needs) (search needs) (search needs) returns-5)

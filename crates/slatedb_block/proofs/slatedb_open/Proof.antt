@@ -11,37 +11,10 @@ use Rattle.slatedb_block.proofs.slatedb_open.Tie as tie
 returns : tie.Need-returns
 returns c = opens-short (c .before .before .before .args .block .now) (c .before .before .before .args .order) (c .before .before .before .args .cursor .now) (c .if1 .taken)
 
-order-in-requires : tie.Need-order-in-requires
-order-in-requires c κs = search needs
-
-enum-known-ordered : tie.Need-enum-known-ordered
-enum-known-ordered c = search needs
-
-enum-told : tie.Need-enum-told
-enum-told c = search needs
-
 returns-2 : tie.Need-returns-2
 returns-2 c =
     let start = c .before .before .before .before .before .before in
     opens-no-order (start .args .block .now) (start .args .order) (start .args .cursor .now) (c .before .before .before .if1 .left) (yes saysOrdered (c .before .before .order-in .ensures) (c .enum-told .given .1))
-
-open-place-requires : tie.Need-open-place-requires
-open-place-requires c κs = search needs
-
-enum-told-2 : tie.Need-enum-told-2
-enum-told-2 c = search needs
-
-put-cursor-requires : tie.Need-put-cursor-requires
-put-cursor-requires c κs = search needs
-
-enum-known-answer : tie.Need-enum-known-answer
-enum-known-answer c = search needs
-
-number-requires : tie.Need-number-requires
-number-requires c κs = search needs
-
-same-length : tie.Need-same-length
-same-length c = search needs
 
 returns-3 : tie.Need-returns-3
 returns-3 c =
@@ -60,16 +33,5 @@ pub slatedb-open-spec : {M : Type 1} → statement M
 slatedb-open-spec =
     tie.close
     (tie.spec
-    returns
-    order-in-requires
-    enum-known-ordered
-    enum-told
-    returns-2
-    open-place-requires
-    enum-told-2
-    put-cursor-requires
-    enum-known-answer
-    number-requires
-    same-length
-    returns-3
-    returns-4)
+    returns (search needs) (search needs) (search needs) returns-2 (search needs) (search needs)
+    (search needs) (search needs) (search needs) (search needs) returns-3 returns-4)

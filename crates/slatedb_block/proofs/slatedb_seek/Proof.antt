@@ -2,7 +2,7 @@
 -- Each exit is one law of `Seeks`.
 use mathlib.Core.Path.{_≡_}
 use lib.ListN.{length}
-use Rattle.layout.specs.Answer.{ok}
+use Rattle.layout.specs.Res.{ok}
 use Rattle.basics.specs.Answers.{yes}
 use Rattle.step_in_place_v2.specs.Says.{viewIn}
 use Rattle.row_words.specs.Words.{cursorIn, cursorCount}
@@ -25,34 +25,13 @@ five-words k = cursor-counts _ _ _ (cursor-read k)
 returns : tie.Need-returns
 returns c = seeks-short _ _ _ _ _ (c .if1 .taken)
 
-cursor-in-requires : tie.Need-cursor-in-requires
-cursor-in-requires c κs = search needs
-
-enum-known-loaded : tie.Need-enum-known-loaded
-enum-known-loaded c = search needs
-
-enum-told : tie.Need-enum-told
-enum-told c = search needs
-
-same-length : tie.Need-same-length
-same-length c = search needs
-
 returns-2 : tie.Need-returns-2
 returns-2 c =
     let start = c .before .before .before .before .before .before .before .before .before in
     seeks-no-cursor _ _ _ _ _ (c .before .before .before .before .if1 .left) (yes (saysCursor (start .args .key .now)) (c .before .before .cursor-in .ensures (start .args .key .now)) (c .enum-told .given .1))
 
-seek-in-place-requires : tie.Need-seek-in-place-requires
-seek-in-place-requires c κs = search needs
-
 put-found-requires : tie.Need-put-found-requires
 put-found-requires c κs = five-words (c .before .before .before .before .before .before .before)
-
-same-length-2 : tie.Need-same-length-2
-same-length-2 c = search needs
-
-same-length-3 : tie.Need-same-length-3
-same-length-3 c = search needs
 
 returns-3 : tie.Need-returns-3
 returns-3 c =
@@ -63,14 +42,5 @@ pub slatedb-seek-spec : {M : Type 1} → statement M
 slatedb-seek-spec =
     tie.close
     (tie.spec
-    returns
-    cursor-in-requires
-    enum-known-loaded
-    enum-told
-    same-length
-    returns-2
-    seek-in-place-requires
-    put-found-requires
-    same-length-2
-    same-length-3
-    returns-3)
+    returns (search needs) (search needs) (search needs) (search needs) returns-2 (search needs)
+    put-found-requires (search needs) (search needs) returns-3)

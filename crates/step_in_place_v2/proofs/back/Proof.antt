@@ -14,29 +14,11 @@ slice-aggregate-row-ending-at c =
     let s = c .before .before .before in
     sym (length-take-le _ _ (omega (arith, trailerOf-tells _ _ (s .pre .0) .0)))
 
-row-ending-at-requires : tie.Need-row-ending-at-requires
-row-ending-at-requires c κs = search needs
-
-enum-known-ended : tie.Need-enum-known-ended
-enum-known-ended c = search needs
-
-enum-told : tie.Need-enum-told
-enum-told c = search needs
-
-ended-refusal-requires : tie.Need-ended-refusal-requires
-ended-refusal-requires c κs = search needs
-
-same-length : tie.Need-same-length
-same-length c = search needs
-
 returns : tie.Need-returns
 returns c =
     let r = c .before .before .before .before .before in
     let s = r .before .before .before .before .before in
     λ key. back-not (s .args .p) key _ _ _ _ (s .pre .1) _ _ (r .row-ending-at .ensures) (c .before .enum-told .given .1) (c .ended-refusal .ensures)
-
-same-length-2 : tie.Need-same-length-2
-same-length-2 c = search needs
 
 returns-2 : tie.Need-returns-2
 returns-2 c =
@@ -48,12 +30,5 @@ pub back-spec : {M : Type 1} → statement M
 back-spec =
     tie.close
     (tie.spec
-    slice-aggregate-row-ending-at
-    row-ending-at-requires
-    enum-known-ended
-    enum-told
-    ended-refusal-requires
-    same-length
-    returns
-    same-length-2
-    returns-2)
+    slice-aggregate-row-ending-at (search needs) (search needs) (search needs) (search needs) (search needs)
+    returns (search needs) returns-2)

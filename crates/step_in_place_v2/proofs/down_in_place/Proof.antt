@@ -7,23 +7,8 @@ use borrow.Author.Needs.{needs}
 use Rattle.step_in_place_v2.proofs.down_in_place.Statement.{statement}
 use Rattle.step_in_place_v2.proofs.down_in_place.Tie as tie
 
-stand-requires : tie.Need-stand-requires
-stand-requires c κs = search needs
-
-enum-known-standing : tie.Need-enum-known-standing
-enum-known-standing c = search needs
-
 next-descending-requires : tie.Need-next-descending-requires
 next-descending-requires c κs = heads-on _ _ (stand-said _ _ _ (c .before .before .before .before .stand .ensures) (c .before .before .standing .given .1) .1) (c .before .before .before .before .before .before .before .pre)
-
-enum-told : tie.Need-enum-told
-enum-told c = search needs
-
-enum-known-standing-2 : tie.Need-enum-known-standing-2
-enum-known-standing-2 c = search needs
-
-same-length : tie.Need-same-length
-same-length c = search needs
 
 returns : tie.Need-returns
 returns c =
@@ -41,12 +26,5 @@ pub down-in-place-spec : {M : Type 1} → statement M
 down-in-place-spec =
     tie.close
     (tie.spec
-    stand-requires
-    enum-known-standing
-    next-descending-requires
-    enum-told
-    enum-known-standing-2
-    same-length
-    returns
-    returns-2
-    returns-3)
+    (search needs) (search needs) next-descending-requires (search needs) (search needs) (search needs)
+    returns returns-2 returns-3)

@@ -11,16 +11,10 @@ use Rattle.step_in_place_v2.proofs.give_key.Tie as tie
 slice-aggregate-copy-in : tie.Need-slice-aggregate-copy-in
 slice-aggregate-copy-in c = sym (length-take-le _ _ (c .before .before .before .before .pre .0))
 
-copy-in-requires : tie.Need-copy-in-requires
-copy-in-requires c κs = search needs
-
-same-length : tie.Need-same-length
-same-length c = search needs
-
 returns : tie.Need-returns
 returns c =
     let s = c .before .before .before .before .before .before .before in
     copied (rw (length-take-le (s .args .n) (s .args .key .now) (s .pre .0)) (omega arith)) (c .before .before .copy-in .ensures)
 
 pub give-key-spec : {M : Type 1} → statement M
-give-key-spec = tie.close (tie.spec slice-aggregate-copy-in copy-in-requires same-length returns)
+give-key-spec = tie.close (tie.spec slice-aggregate-copy-in (search needs) (search needs) returns)

@@ -4,7 +4,7 @@ use mathlib.Core.Path.{_≡_, refl, sym, _∙_}
 use native.Mathlib.Omega.{arith}
 use lib.ListN.{take}
 use lib.Seq.{length-take-le}
-use Rattle.layout.specs.Answer.{ok}
+use Rattle.layout.specs.Res.{ok}
 use Rattle.layout.specs.Trailer.{regionOf, rowIn}
 use Rattle.layout.specs.Laws.Cursor.{up-region, up-before, up-past, up-done, up-row, up-short, up-found}
 use Rattle.layout.specs.Laws.Tells.{readRow-ends}
@@ -27,18 +27,6 @@ module _ (m : tie.After-known-told2) where
       rowIn (take (s .t .size) (s .block .now)) (regionFrom g) (s .p .at) (s .p .«key_len») ≡ ok (rowFrom (m .before .a .given .0 .0))
   row-read = yes saysRow (m .before .before .before .decode-at .ensures) (m .before .a .given .1)
 
-region-of-requires : tie.Need-region-of-requires
-region-of-requires c κs = search needs
-
-enum-known-read : tie.Need-enum-known-read
-enum-known-read c = search needs
-
-enum-told : tie.Need-enum-told
-enum-told c = search needs
-
-region-refusal-requires : tie.Need-region-refusal-requires
-region-refusal-requires c κs = search needs
-
 returns : tie.Need-returns
 returns c =
     let s = c .before .before .before .before .before in
@@ -57,18 +45,6 @@ slice-aggregate-decode-at : tie.Need-slice-aggregate-decode-at
 slice-aggregate-decode-at c =
     let s = c .before .before .before .before .before .before .before .before .before .before .before .before .before in
     sym (length-take-le _ _ (omega (arith, trailerOf-tells _ _ (s .pre .read) .0)))
-
-decode-at-requires : tie.Need-decode-at-requires
-decode-at-requires c κs = search needs
-
-enum-known-a : tie.Need-enum-known-a
-enum-known-a c = search needs
-
-enum-told-2 : tie.Need-enum-told-2
-enum-told-2 c = search needs
-
-row-refusal-requires : tie.Need-row-refusal-requires
-row-refusal-requires c κs = search needs
 
 returns-5 : tie.Need-returns-5
 returns-5 c =
@@ -93,20 +69,6 @@ pub look-ahead-spec : {M : Type 1} → statement M
 look-ahead-spec =
     tie.close
     (tie.spec
-    region-of-requires
-    enum-known-read
-    enum-told
-    region-refusal-requires
-    returns
-    returns-2
-    returns-3
-    returns-4
-    slice-aggregate-decode-at
-    decode-at-requires
-    enum-known-a
-    enum-told-2
-    row-refusal-requires
-    returns-5
-    add-if4
-    returns-6
-    returns-7)
+    (search needs) (search needs) (search needs) (search needs) returns returns-2 returns-3 returns-4
+    slice-aggregate-decode-at (search needs) (search needs) (search needs) (search needs) returns-5 add-if4
+    returns-6 returns-7)

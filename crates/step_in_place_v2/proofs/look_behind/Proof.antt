@@ -3,7 +3,7 @@
 use Prim.Native.Nat.{_-_}
 use mathlib.Core.Path.{_≡_, refl, sym, _∙_}
 use native.Mathlib.Omega.{arith}
-use Rattle.layout.specs.Answer.{ok}
+use Rattle.layout.specs.Res.{ok}
 use Rattle.layout.specs.Trailer.{regionOf}
 use Rattle.layout.specs.Laws.Cursor.{down-region, down-before, down-past, down-done, down-before-no, down-before-in, down-in}
 use Rattle.basics.specs.Answers.{yes, no}
@@ -27,18 +27,6 @@ module _ (k : tie.After-known-told2) where
   before-read : let s = k .before .before .before .before .before .before .before .before .before .before .before .before .before .before .before .before in regionOf (s .args .block .now) (trailerFrom (s .args .t)) (s .args .p .region - 1) ≡ ok (regionFrom (k .before .before2 .given .0 .0))
   before-read = let s = k .before .before .before .before .before .before .before .before .before .before .before .before .before .before .before .before in sym (region-used _ _ (s .pre .read) _ (omega (arith, s .pre .inside))) ∙ yes saysRegion (k .before .before .before .region-of2 .ensures) (k .before .before2 .given .1)
 
-region-of-requires : tie.Need-region-of-requires
-region-of-requires c κs = search needs
-
-enum-known-read : tie.Need-enum-known-read
-enum-known-read c = search needs
-
-enum-told : tie.Need-enum-told
-enum-told c = search needs
-
-region-refusal-requires : tie.Need-region-refusal-requires
-region-refusal-requires c κs = search needs
-
 returns : tie.Need-returns
 returns c =
     let s = c .before .before .before .before .before in
@@ -60,21 +48,6 @@ returns-5 c =
     let e = c .before in
     behind-start _ _ _ λ key room. down-done _ _ _ _ _ (region-read (e .before .before .before .before .before .before)) (e .before .before .before .before .if1 .left) (e .before .before .if2 .left) (at-start e) (c .if4 .taken)
 
-sub-region-of : tie.Need-sub-region-of
-sub-region-of c = search needs
-
-region-of-requires-2 : tie.Need-region-of-requires-2
-region-of-requires-2 c κs = search needs
-
-enum-known-before : tie.Need-enum-known-before
-enum-known-before c = search needs
-
-enum-told-2 : tie.Need-enum-told-2
-enum-told-2 c = search needs
-
-region-refusal-requires-2 : tie.Need-region-refusal-requires-2
-region-refusal-requires-2 c κs = search needs
-
 returns-6 : tie.Need-returns-6
 returns-6 c =
     let e = c .before .before .before .before .before in
@@ -82,9 +55,6 @@ returns-6 c =
     behind-not _ _ _ λ key room.
     down-before-no _ _ _ _ _ (region-read (e .before .before .before .before .before .before)) (e .before .before .before .before .if1 .left) (e .before .before .if2 .left) (at-start e) (c .before .before .before .before .if4 .left)
     (sym (region-used _ _ (s .pre .read) _ (omega (arith, s .pre .inside))) ∙ no saysRegion refusalOfRegion (c .before .before .before .region-of2 .ensures) (c .before .enum-told2 .given .1) refl (c .region-refusal2 .ensures))
-
-sub-t14 : tie.Need-sub-t14
-sub-t14 c = search needs
 
 returns-7 : tie.Need-returns-7
 returns-7 c =
@@ -99,20 +69,6 @@ pub look-behind-spec : {M : Type 1} → statement M
 look-behind-spec =
     tie.close
     (tie.spec
-    region-of-requires
-    enum-known-read
-    enum-told
-    region-refusal-requires
-    returns
-    returns-2
-    returns-3
-    returns-4
-    returns-5
-    sub-region-of
-    region-of-requires-2
-    enum-known-before
-    enum-told-2
-    region-refusal-requires-2
-    returns-6
-    sub-t14
-    returns-7)
+    (search needs) (search needs) (search needs) (search needs) returns returns-2 returns-3 returns-4
+    returns-5 (search needs) (search needs) (search needs) (search needs) (search needs) returns-6
+    (search needs) returns-7)

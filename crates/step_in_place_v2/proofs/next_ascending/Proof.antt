@@ -5,32 +5,11 @@ use borrow.Author.Needs.{needs}
 use Rattle.step_in_place_v2.proofs.next_ascending.Statement.{statement}
 use Rattle.step_in_place_v2.proofs.next_ascending.Tie as tie
 
-look-ahead-requires : tie.Need-look-ahead-requires
-look-ahead-requires c κs = search needs
-
-enum-known-ahead : tie.Need-enum-known-ahead
-enum-known-ahead c = search needs
-
 pass-requires : tie.Need-pass-requires
 pass-requires c κs =
     let l = c .before .before .before .before .before in
     let s = l .before .before .before .before in
     (s .pre .0, (s .pre .1, ready-row _ _ _ (l .look-ahead .ensures .ready) (c .before .before .before .ahead .given .1)))
-
-enum-told : tie.Need-enum-told
-enum-told c = search needs
-
-finished-requires : tie.Need-finished-requires
-finished-requires c κs = search needs
-
-enum-known-ahead-2 : tie.Need-enum-known-ahead-2
-enum-known-ahead-2 c = search needs
-
-same-length : tie.Need-same-length
-same-length c = search needs
-
-same-length-2 : tie.Need-same-length-2
-same-length-2 c = search needs
 
 returns : tie.Need-returns
 returns c = moves-as _ _ _ _ (ahead-said _ _ _ _ _ (c .before .before .before .before .before .before .before .before .before .before .look-ahead .ensures) (c .before .before .before .before .before .before .before .before .ahead .given .1)) (c .before .before .before .before .pass .ensures)
@@ -45,14 +24,5 @@ pub next-ascending-spec : {M : Type 1} → statement M
 next-ascending-spec =
     tie.close
     (tie.spec
-    look-ahead-requires
-    enum-known-ahead
-    pass-requires
-    enum-told
-    finished-requires
-    enum-known-ahead-2
-    same-length
-    same-length-2
-    returns
-    returns-2
-    returns-3)
+    (search needs) (search needs) pass-requires (search needs) (search needs) (search needs) (search needs)
+    (search needs) returns returns-2 returns-3)

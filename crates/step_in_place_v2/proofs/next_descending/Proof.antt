@@ -5,28 +5,10 @@ use borrow.Author.Needs.{needs}
 use Rattle.step_in_place_v2.proofs.next_descending.Statement.{statement}
 use Rattle.step_in_place_v2.proofs.next_descending.Tie as tie
 
-look-behind-requires : tie.Need-look-behind-requires
-look-behind-requires c κs = search needs
-
-enum-known-behind : tie.Need-enum-known-behind
-enum-known-behind c = search needs
-
 back-requires : tie.Need-back-requires
 back-requires c κs =
     let l = c .before .before .before .before in
     (l .before .before .before .pre .read, before-in _ (l .look-behind .ensures .before) (c .before .before .behind .given .1))
-
-enum-told : tie.Need-enum-told
-enum-told c = search needs
-
-finished-requires : tie.Need-finished-requires
-finished-requires c κs = search needs
-
-enum-known-behind-2 : tie.Need-enum-known-behind-2
-enum-known-behind-2 c = search needs
-
-same-length : tie.Need-same-length
-same-length c = search needs
 
 returns : tie.Need-returns
 returns c = λ key. moves-as _ _ _ _ (behind-said _ _ _ _ _ (c .before .before .before .before .before .before .before .look-behind .ensures) (c .before .before .before .before .before .behind .given .1)) (c .before .before .back .ensures key)
@@ -41,13 +23,5 @@ pub next-descending-spec : {M : Type 1} → statement M
 next-descending-spec =
     tie.close
     (tie.spec
-    look-behind-requires
-    enum-known-behind
-    back-requires
-    enum-told
-    finished-requires
-    enum-known-behind-2
-    same-length
-    returns
-    returns-2
-    returns-3)
+    (search needs) (search needs) back-requires (search needs) (search needs) (search needs) (search needs)
+    returns returns-2 returns-3)

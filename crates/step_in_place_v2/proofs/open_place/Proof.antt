@@ -2,12 +2,12 @@
 -- Each exit is a law of the opening, over what was read on the way to it.
 use mathlib.Core.Path.{_≡_, refl, sym, _∙_}
 use native.Mathlib.Omega.{arith}
-use Rattle.layout.specs.Answer.{ok}
+use Rattle.layout.specs.Res.{ok}
 use Rattle.layout.specs.Trailer.{trailerOf, allOffsets}
 use Rattle.layout.specs.Laws.Trailer.{trailerOf-tells}
 use Rattle.layout.specs.Laws.Cursor.{open-trailer, open-offsets, open-good}
-use Rattle.basics.specs.Answers.{yes, no}
-use Rattle.trailer.specs.Says.{trailerFrom, saysTrailer, saysTested, refusalOfTrailer}
+use Rattle.basics.specs.Answers.{yes, no, saysVerdict}
+use Rattle.trailer.specs.Says.{trailerFrom, saysTrailer, refusalOfTrailer}
 use Rattle.trailer.specs.Laws.{offsets-used}
 use Rattle.step_in_place_v2.proofs.Opens.{opens-not, opens-up, opens-down}
 use borrow.Author.Needs.{needs}
@@ -20,52 +20,19 @@ module _ (k : tie.After-known-told) where
 
 module _ (k : tie.After-enum-told2) where
   offsets-good : let m = k .before .before .before in allOffsets (m .before .before .before .before .before .before .args .block .now) (trailerFrom (m .before .read .given .0 .0)) ≡ ok tt
-  offsets-good = sym (offsets-used _ _ (trailer-read (k .before .before .before))) ∙ yes saysTested (k .before .before .all-offsets .ensures) (k .enum-told2 .given .1)
-
-fresh-requires : tie.Need-fresh-requires
-fresh-requires c κs = search needs
-
-trailer-of-requires : tie.Need-trailer-of-requires
-trailer-of-requires c κs = search needs
-
-enum-known-read : tie.Need-enum-known-read
-enum-known-read c = search needs
-
-enum-told : tie.Need-enum-told
-enum-told c = search needs
-
-trailer-refusal-requires : tie.Need-trailer-refusal-requires
-trailer-refusal-requires c κs = search needs
+  offsets-good = sym (offsets-used _ _ (trailer-read (k .before .before .before))) ∙ yes saysVerdict (k .before .before .all-offsets .ensures) (k .enum-told2 .given .1)
 
 returns : tie.Need-returns
 returns c = opens-not _ _ _ (open-trailer _ _ (no saysTrailer refusalOfTrailer (c .before .before .before .trailer-of .ensures) (c .before .enum-told .given .1) refl (c .trailer-refusal .ensures))) (c .before .before .before .before .fresh .ensures)
 
-all-offsets-requires : tie.Need-all-offsets-requires
-all-offsets-requires c κs = search needs
-
-enum-known-offsets : tie.Need-enum-known-offsets
-enum-known-offsets c = search needs
-
 returns-2 : tie.Need-returns-2
 returns-2 c =
     let k = c .before .before .before .before in
-    let offsets = sym (offsets-used _ _ (trailer-read k)) ∙ yes saysTested (c .before .before .before .all-offsets .ensures) (c .before .offsets .given .1) in
+    let offsets = sym (offsets-used _ _ (trailer-read k)) ∙ yes saysVerdict (c .before .before .before .all-offsets .ensures) (c .before .offsets .given .1) in
     opens-not _ _ _ (open-offsets _ _ _ (trailer-read k) offsets) (k .before .before .before .before .fresh .ensures)
-
-enum-told-2 : tie.Need-enum-told-2
-enum-told-2 c = search needs
-
-enum-told-3 : tie.Need-enum-told-3
-enum-told-3 c = search needs
-
-enum-told-4 : tie.Need-enum-told-4
-enum-told-4 c = search needs
 
 sub-fresh : tie.Need-sub-fresh
 sub-fresh c = omega (arith, trailerOf-tells _ _ (trailer-read (c .before .before .before .before .before .before)) .1)
-
-fresh-requires-2 : tie.Need-fresh-requires-2
-fresh-requires-2 c κs = search needs
 
 returns-3 : tie.Need-returns-3
 returns-3 c =
@@ -81,19 +48,6 @@ pub open-place-spec : {M : Type 1} → statement M
 open-place-spec =
     tie.close
     (tie.spec
-    fresh-requires
-    trailer-of-requires
-    enum-known-read
-    enum-told
-    trailer-refusal-requires
-    returns
-    all-offsets-requires
-    enum-known-offsets
-    returns-2
-    enum-told-2
-    enum-told-3
-    enum-told-4
-    sub-fresh
-    fresh-requires-2
-    returns-3
+    (search needs) (search needs) (search needs) (search needs) (search needs) returns (search needs)
+    (search needs) returns-2 (search needs) (search needs) (search needs) sub-fresh (search needs) returns-3
     returns-4)

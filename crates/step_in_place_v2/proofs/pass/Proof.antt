@@ -10,9 +10,6 @@ use borrow.Author.Needs.{needs}
 use Rattle.step_in_place_v2.proofs.pass.Statement.{statement}
 use Rattle.step_in_place_v2.proofs.pass.Tie as tie
 
-add-n : tie.Need-add-n
-add-n c = search needs
-
 slice-aggregate-put-suffix : tie.Need-slice-aggregate-put-suffix
 slice-aggregate-put-suffix c =
     let s = c .before .before .before .before .before .before in
@@ -34,22 +31,10 @@ add-place c =
     let s = c .before .before .before .before .before .before .before .before .before .before .before .before .before .before .before .before .before .before in
     omega (arith, s .pre .1 .0 .inside, trailerOf-tells _ _ (s .pre .1 .0 .read) .0)
 
-same-length : tie.Need-same-length
-same-length c = search needs
-
-same-length-2 : tie.Need-same-length-2
-same-length-2 c = search needs
-
 returns : tie.Need-returns
 returns c =
     let s = c .before .before .before .before .before .before .before .before .before .before .before .before .before .before .before .before .before .before in
     pass-over (s .args .p) _ _ _ _ _ _ _ (s .pre .0) (s .pre .1 .0) (s .pre .1 .1) (c .before .before .before .before .before .before .before .before .before .before .before .put-suffix .ensures) _ (c .before .before .before .before .before .before .give-key .ensures) (c .before .if1 .taken)
-
-same-length-3 : tie.Need-same-length-3
-same-length-3 c = search needs
-
-same-length-4 : tie.Need-same-length-4
-same-length-4 c = search needs
 
 returns-2 : tie.Need-returns-2
 returns-2 c =
@@ -60,14 +45,5 @@ pub pass-spec : {M : Type 1} → statement M
 pass-spec =
     tie.close
     (tie.spec
-    add-n
-    slice-aggregate-put-suffix
-    put-suffix-requires
-    give-key-requires
-    add-place
-    same-length
-    same-length-2
-    returns
-    same-length-3
-    same-length-4
-    returns-2)
+    (search needs) slice-aggregate-put-suffix put-suffix-requires give-key-requires add-place (search needs)
+    (search needs) returns (search needs) (search needs) returns-2)

@@ -5,24 +5,6 @@ use borrow.Author.Needs.{needs}
 use Rattle.step_in_place_v2.proofs.put_suffix.Statement.{statement}
 use Rattle.step_in_place_v2.proofs.put_suffix.Tie as tie
 
-add-end : tie.Need-add-end
-add-end c = search needs
-
-sub-copy-in : tie.Need-sub-copy-in
-sub-copy-in c = search needs
-
-part-copy-in-start : tie.Need-part-copy-in-start
-part-copy-in-start c = search needs
-
-part-copy-in-end : tie.Need-part-copy-in-end
-part-copy-in-end c = search needs
-
-copy-in-requires : tie.Need-copy-in-requires
-copy-in-requires c κs = search needs
-
-same-length : tie.Need-same-length
-same-length c = search needs
-
 returns : tie.Need-returns
 returns c =
     let s = c .before .before .before .before .before .before .before .before in
@@ -31,4 +13,5 @@ returns c =
 pub put-suffix-spec : {M : Type 1} → statement M
 put-suffix-spec =
     tie.close
-    (tie.spec add-end sub-copy-in part-copy-in-start part-copy-in-end copy-in-requires same-length returns)
+    (tie.spec
+    (search needs) (search needs) (search needs) (search needs) (search needs) (search needs) returns)

@@ -1,7 +1,7 @@
 -- `stand` keeps its promise: 18 for the key's bytes, 14, 18 for the region number and for the key, the mark, whatever the key's bytes are.
 -- Each exit is a law of the definition at the trailer that was read.
 use mathlib.Core.Path.{_≡_, sym}
-use Rattle.layout.specs.Answer.{ok, refuse}
+use Rattle.layout.specs.Res.{ok, refuse}
 use Rattle.layout.specs.Cursor.{stepIs, done}
 use Rattle.layout.specs.Trailer.{trailerOf}
 use Rattle.layout.specs.Laws.Cursor.{next-trailer, next-region, next-key, next-marked}
@@ -19,9 +19,6 @@ module _ (k : tie.Else2) where
 
 returns : tie.Need-returns
 returns c = stand-other _ _ _ (c .if1 .taken)
-
-plain-trailer-requires : tie.Need-plain-trailer-requires
-plain-trailer-requires c κs = search needs
 
 returns-2 : tie.Need-returns-2
 returns-2 c = stand-as _ _ _ (c .before .before .before .if1 .left) {w = λ k room. refuse 14} (λ k room. next-trailer _ _ _ (sym (trailer-not _ (trailerFrom (c .before .before .plain-trailer .result)) (c .before .before .plain-trailer .ensures) (c .if2 .taken))))
@@ -41,4 +38,4 @@ returns-6 c = (c .before .before .before .before .before .before .before .before
 pub stand-spec : {M : Type 1} → statement M
 stand-spec =
     tie.close
-    (tie.spec returns plain-trailer-requires returns-2 returns-3 returns-4 returns-5 returns-6)
+    (tie.spec returns (search needs) returns-2 returns-3 returns-4 returns-5 returns-6)

@@ -7,26 +7,8 @@ use borrow.Author.Needs.{needs}
 use Rattle.step_in_place_v2.proofs.up_in_place.Statement.{statement}
 use Rattle.step_in_place_v2.proofs.up_in_place.Tie as tie
 
-stand-requires : tie.Need-stand-requires
-stand-requires c κs = search needs
-
-enum-known-standing : tie.Need-enum-known-standing
-enum-known-standing c = search needs
-
 next-ascending-requires : tie.Need-next-ascending-requires
 next-ascending-requires c κs = let said = stand-said _ _ _ (c .before .before .before .before .before .stand .ensures) (c .before .before .before .standing .given .1) in (said .0, heads-on _ _ (said .1) (c .before .before .before .before .before .before .before .before .before .pre))
-
-enum-told : tie.Need-enum-told
-enum-told c = search needs
-
-enum-known-standing-2 : tie.Need-enum-known-standing-2
-enum-known-standing-2 c = search needs
-
-same-length : tie.Need-same-length
-same-length c = search needs
-
-same-length-2 : tie.Need-same-length-2
-same-length-2 c = search needs
 
 returns : tie.Need-returns
 returns c =
@@ -44,13 +26,5 @@ pub up-in-place-spec : {M : Type 1} → statement M
 up-in-place-spec =
     tie.close
     (tie.spec
-    stand-requires
-    enum-known-standing
-    next-ascending-requires
-    enum-told
-    enum-known-standing-2
-    same-length
-    same-length-2
-    returns
-    returns-2
-    returns-3)
+    (search needs) (search needs) next-ascending-requires (search needs) (search needs) (search needs)
+    (search needs) returns returns-2 returns-3)

@@ -16,40 +16,10 @@ entry k = k .before .before .before .before
 wide : (k : tie.Else1) → (16 ≤ entry k .args .shared + entry k .args .n) × (entry k .args .shared ≤ 16) × (entry k .args .n ≤ 16)
 wide k = wide-tells (entry k .args .shared + entry k .args .n) (entry k .args .shared) (entry k .args .n) (k .if1 .left)
 
-add-whole : tie.Need-add-whole
-add-whole c = search needs
-
-add-end : tie.Need-add-end
-add-end c = search needs
-
-sub-copy-in : tie.Need-sub-copy-in
-sub-copy-in c = search needs
-
-part-copy-in-start : tie.Need-part-copy-in-start
-part-copy-in-start c = search needs
-
-part-copy-in-end : tie.Need-part-copy-in-end
-part-copy-in-end c = search needs
-
-copy-in-requires : tie.Need-copy-in-requires
-copy-in-requires c κs = search needs
-
-slice-reshare-prefix-copy-in : tie.Need-slice-reshare-prefix-copy-in
-slice-reshare-prefix-copy-in c = search needs
-
 slice-aggregate-copy-in : tie.Need-slice-aggregate-copy-in
 slice-aggregate-copy-in c = let s = c .before .before .before .before .before .before .before .before .before .before .before in
     let a = s .args in
     sym (length-take-le _ _ (key-room (a .block .now) (a .key .now) (a .from) (a .n) (a .shared) (s .pre .2) (s .pre .0) (copied-part _ _ _ (s .pre .0) (s .pre .2) (c .before .before .before .before .copy-in .ensures))))
-
-copy-in-requires-2 : tie.Need-copy-in-requires-2
-copy-in-requires-2 c κs = search needs
-
-same-length : tie.Need-same-length
-same-length c = search needs
-
-same-length-2 : tie.Need-same-length-2
-same-length-2 c = search needs
 
 returns : tie.Need-returns
 returns c = let s = c .before .before .before .before .before .before .before .before .before .before .before .before .before .before in
@@ -69,12 +39,6 @@ put-both-requires : tie.Need-put-both-requires
 put-both-requires c κs = let w = wide (c .before .before .before .before .before .before .before .before .before .before .before .before) in
     (w .2, omega arith, omega arith, omega arith)
 
-same-length-3 : tie.Need-same-length-3
-same-length-3 c = search needs
-
-same-length-4 : tie.Need-same-length-4
-same-length-4 c = search needs
-
 returns-2 : tie.Need-returns-2
 returns-2 c = let e = c .before .before .before .before .before .before .before .before .before .before .before .before .before .before .before .before .before in
     let s = e .before .before .before .before in
@@ -87,21 +51,6 @@ pub carry-spec : {M : Type 1} → statement M
 carry-spec =
     tie.close
     (tie.spec
-    add-whole
-    add-end
-    sub-copy-in
-    part-copy-in-start
-    part-copy-in-end
-    copy-in-requires
-    slice-reshare-prefix-copy-in
-    slice-aggregate-copy-in
-    copy-in-requires-2
-    same-length
-    same-length-2
-    returns
-    copy-8-requires
-    copy-8-requires-2
-    put-both-requires
-    same-length-3
-    same-length-4
-    returns-2)
+    (search needs) (search needs) (search needs) (search needs) (search needs) (search needs) (search needs)
+    slice-aggregate-copy-in (search needs) (search needs) (search needs) returns copy-8-requires
+    copy-8-requires-2 put-both-requires (search needs) (search needs) returns-2)

@@ -4,18 +4,9 @@ use borrow.Author.Needs.{needs}
 use Rattle.step_plain_v2.proofs.copy_1.Statement.{statement}
 use Rattle.step_plain_v2.proofs.copy_1.Tie as tie
 
-shared-slice-read-buf : tie.Need-shared-slice-read-buf
-shared-slice-read-buf c = search needs
-
-slice-write-buf : tie.Need-slice-write-buf
-slice-write-buf c = search needs
-
-same-length : tie.Need-same-length
-same-length c = search needs
-
 returns : tie.Need-returns
 returns c = let s = c .before in
     all-copied 0 (s .args .src .now) (s .args .from) (s .args .buf .now) (s .args .at) (s .pre .0) (s .pre .1)
 
 pub copy-1-spec : {M : Type 1} → statement M
-copy-1-spec = tie.close (tie.spec shared-slice-read-buf slice-write-buf same-length returns)
+copy-1-spec = tie.close (tie.spec (search needs) (search needs) (search needs) returns)

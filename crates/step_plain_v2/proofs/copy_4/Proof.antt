@@ -4,36 +4,6 @@ use borrow.Author.Needs.{needs}
 use Rattle.step_plain_v2.proofs.copy_4.Statement.{statement}
 use Rattle.step_plain_v2.proofs.copy_4.Tie as tie
 
-add-end : tie.Need-add-end
-add-end c = search needs
-
-add-last : tie.Need-add-last
-add-last c = search needs
-
-sub-copy-4 : tie.Need-sub-copy-4
-sub-copy-4 c = search needs
-
-part-copy-4-start : tie.Need-part-copy-4-start
-part-copy-4-start c = search needs
-
-part-copy-4-end : tie.Need-part-copy-4-end
-part-copy-4-end c = search needs
-
-sub-copy-4-2 : tie.Need-sub-copy-4-2
-sub-copy-4-2 c = search needs
-
-part-copy-4-start-2 : tie.Need-part-copy-4-start-2
-part-copy-4-start-2 c = search needs
-
-part-copy-4-end-2 : tie.Need-part-copy-4-end-2
-part-copy-4-end-2 c = search needs
-
-copy-4-requires : tie.Need-copy-4-requires
-copy-4-requires c κs = search needs
-
-same-length : tie.Need-same-length
-same-length c = search needs
-
 returns : tie.Need-returns
 returns c =
     let s = c .before .before .before .before .before .before .before in
@@ -43,14 +13,5 @@ pub copy-4-spec : {M : Type 1} → statement M
 copy-4-spec =
     tie.close
     (tie.spec
-    add-end
-    add-last
-    sub-copy-4
-    part-copy-4-start
-    part-copy-4-end
-    sub-copy-4-2
-    part-copy-4-start-2
-    part-copy-4-end-2
-    copy-4-requires
-    same-length
-    returns)
+    (search needs) (search needs) (search needs) (search needs) (search needs) (search needs) (search needs)
+    (search needs) (search needs) (search needs) returns)

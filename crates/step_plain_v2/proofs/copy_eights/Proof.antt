@@ -7,24 +7,6 @@ use borrow.Author.Needs.{needs}
 use Rattle.step_plain_v2.proofs.copy_eights.Statement.{statement}
 use Rattle.step_plain_v2.proofs.copy_eights.Tie as tie
 
-sub-last : tie.Need-sub-last
-sub-last c = search needs
-
-copy-8-requires : tie.Need-copy-8-requires
-copy-8-requires c κs = search needs
-
-add-copy-8 : tie.Need-add-copy-8
-add-copy-8 c = search needs
-
-add-copy-8-2 : tie.Need-add-copy-8-2
-add-copy-8-2 c = search needs
-
-copy-8-requires-2 : tie.Need-copy-8-requires-2
-copy-8-requires-2 c κs = search needs
-
-same-length : tie.Need-same-length
-same-length c = search needs
-
 returns : tie.Need-returns
 returns c = let s = c .before .before .before .before .before .before .before .before .before .before in
     let a = s .args in
@@ -35,10 +17,4 @@ pub copy-eights-spec : {M : Type 1} → statement M
 copy-eights-spec =
     tie.close
     (tie.spec
-    sub-last
-    copy-8-requires
-    add-copy-8
-    add-copy-8-2
-    copy-8-requires-2
-    same-length
-    returns)
+    (search needs) (search needs) (search needs) (search needs) (search needs) (search needs) returns)

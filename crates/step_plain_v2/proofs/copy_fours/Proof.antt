@@ -7,24 +7,6 @@ use borrow.Author.Needs.{needs}
 use Rattle.step_plain_v2.proofs.copy_fours.Statement.{statement}
 use Rattle.step_plain_v2.proofs.copy_fours.Tie as tie
 
-sub-last : tie.Need-sub-last
-sub-last c = search needs
-
-copy-4-requires : tie.Need-copy-4-requires
-copy-4-requires c κs = search needs
-
-add-copy-4 : tie.Need-add-copy-4
-add-copy-4 c = search needs
-
-add-copy-4-2 : tie.Need-add-copy-4-2
-add-copy-4-2 c = search needs
-
-copy-4-requires-2 : tie.Need-copy-4-requires-2
-copy-4-requires-2 c κs = search needs
-
-same-length : tie.Need-same-length
-same-length c = search needs
-
 returns : tie.Need-returns
 returns c = let s = c .before .before .before .before .before .before .before .before .before .before in
     let a = s .args in
@@ -35,10 +17,4 @@ pub copy-fours-spec : {M : Type 1} → statement M
 copy-fours-spec =
     tie.close
     (tie.spec
-    sub-last
-    copy-4-requires
-    add-copy-4
-    add-copy-4-2
-    copy-4-requires-2
-    same-length
-    returns)
+    (search needs) (search needs) (search needs) (search needs) (search needs) (search needs) returns)

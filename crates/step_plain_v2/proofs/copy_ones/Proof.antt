@@ -8,33 +8,6 @@ use borrow.Author.Needs.{needs}
 use Rattle.step_plain_v2.proofs.copy_ones.Statement.{statement}
 use Rattle.step_plain_v2.proofs.copy_ones.Tie as tie
 
-sub-last : tie.Need-sub-last
-sub-last c = search needs
-
-copy-1-requires : tie.Need-copy-1-requires
-copy-1-requires c κs = search needs
-
-add-copy-1 : tie.Need-add-copy-1
-add-copy-1 c = search needs
-
-add-copy-1-2 : tie.Need-add-copy-1-2
-add-copy-1-2 c = search needs
-
-copy-1-requires-2 : tie.Need-copy-1-requires-2
-copy-1-requires-2 c κs = search needs
-
-add-copy-1-3 : tie.Need-add-copy-1-3
-add-copy-1-3 c = search needs
-
-add-copy-1-4 : tie.Need-add-copy-1-4
-add-copy-1-4 c = search needs
-
-copy-1-requires-3 : tie.Need-copy-1-requires-3
-copy-1-requires-3 c κs = search needs
-
-same-length : tie.Need-same-length
-same-length c = search needs
-
 returns : tie.Need-returns
 returns c = let s = c .before .before .before .before .before .before .before .before .before .before .before .before .before .before in
     let a = s .args in
@@ -46,13 +19,5 @@ pub copy-ones-spec : {M : Type 1} → statement M
 copy-ones-spec =
     tie.close
     (tie.spec
-    sub-last
-    copy-1-requires
-    add-copy-1
-    add-copy-1-2
-    copy-1-requires-2
-    add-copy-1-3
-    add-copy-1-4
-    copy-1-requires-3
-    same-length
-    returns)
+    (search needs) (search needs) (search needs) (search needs) (search needs) (search needs) (search needs)
+    (search needs) (search needs) returns)

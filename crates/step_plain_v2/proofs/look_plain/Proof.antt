@@ -9,38 +9,17 @@ use borrow.Author.Needs.{needs}
 use Rattle.step_plain_v2.proofs.look_plain.Statement.{statement}
 use Rattle.step_plain_v2.proofs.look_plain.Tie as tie
 
-no-ahead-requires : tie.Need-no-ahead-requires
-no-ahead-requires c κs = search needs
-
 returns : tie.Need-returns
 returns c = c .no-ahead .ensures ∙ ahead-odd _ _ _ _ _ _ (c .before .if1 .taken)
-
-plain-region-at-requires : tie.Need-plain-region-at-requires
-plain-region-at-requires c κs = search needs
-
-no-ahead-requires-2 : tie.Need-no-ahead-requires-2
-no-ahead-requires-2 c κs = search needs
 
 returns-2 : tie.Need-returns-2
 returns-2 c = c .no-ahead2 .ensures ∙ ahead-none _ _ _ _ _ _ (c .before .before .before .if1 .left) _ (c .before .before .plain-region-at .ensures) (c .before .if2 .taken)
 
-no-ahead-requires-3 : tie.Need-no-ahead-requires-3
-no-ahead-requires-3 c κs = search needs
-
 returns-3 : tie.Need-returns-3
 returns-3 c = c .no-ahead3 .ensures ∙ ahead-before _ _ _ _ _ _ (c .before .before .before .before .before .if1 .left) _ (c .before .before .before .before .plain-region-at .ensures) (c .before .before .before .if2 .left) (c .before .if3 .taken)
 
-pick-requires : tie.Need-pick-requires
-pick-requires c κs = search needs
-
 slice-aggregate-plain-at : tie.Need-slice-aggregate-plain-at
 slice-aggregate-plain-at c = sym (length-take-le _ _ (region-inside _ _ _ (c .before .before .before .before .before .before .plain-region-at .ensures) (c .before .before .before .before .before .if2 .left)))
-
-plain-at-requires : tie.Need-plain-at-requires
-plain-at-requires c κs = search needs
-
-no-ahead-requires-4 : tie.Need-no-ahead-requires-4
-no-ahead-requires-4 c κs = search needs
 
 returns-4 : tie.Need-returns-4
 returns-4 c = c .no-ahead4 .ensures ∙ ahead-not _ _ _ _ _ _ (c .before .before .before .before .before .before .before .before .before .before .before .if1 .left) _ (c .before .before .before .before .before .before .before .before .before .before .plain-region-at .ensures) (c .before .before .before .before .before .before .before .before .before .if2 .left) (c .before .before .before .before .before .before .before .if3 .left) (c .before .before .before .before .before .pick .ensures) _ (c .before .before .before .plain-at .ensures) (c .before .if4 .taken)
@@ -49,9 +28,6 @@ add-if5 : tie.Need-add-if5
 add-if5 c = let s = c .before .before .before .before .before .before .before .before .before .before .before .before .before in
     let w = ahead-tells (s .args .block .now) (s .args .region) (s .args .at) (s .args .key-len) (s .args .held) (s .args .room) (c .before .before .before .before .before .before .before .before .before .before .before .if1 .left) _ (c .before .before .before .before .before .before .before .before .before .before .plain-region-at .ensures) (c .before .before .before .before .before .before .before .before .before .if2 .left) (c .before .before .before .before .before .before .before .if3 .left) (c .before .before .before .before .before .pick .ensures) _ (c .before .before .before .plain-at .ensures) (c .before .if4 .left) in
     omega (arith, w .shared-small, w .unshared-small)
-
-no-ahead-requires-5 : tie.Need-no-ahead-requires-5
-no-ahead-requires-5 c κs = search needs
 
 returns-5 : tie.Need-returns-5
 returns-5 c = c .no-ahead5 .ensures ∙ ahead-narrow _ _ _ _ _ _ (c .before .before .before .before .before .before .before .before .before .before .before .before .before .if1 .left) _ (c .before .before .before .before .before .before .before .before .before .before .before .before .plain-region-at .ensures) (c .before .before .before .before .before .before .before .before .before .before .before .if2 .left) (c .before .before .before .before .before .before .before .before .before .if3 .left) (c .before .before .before .before .before .before .before .pick .ensures) _ (c .before .before .before .before .before .plain-at .ensures) (c .before .before .before .if4 .left) (c .before .if5 .taken)
@@ -63,19 +39,6 @@ pub look-plain-spec : {M : Type 1} → statement M
 look-plain-spec =
     tie.close
     (tie.spec
-    no-ahead-requires
-    returns
-    plain-region-at-requires
-    no-ahead-requires-2
-    returns-2
-    no-ahead-requires-3
-    returns-3
-    pick-requires
-    slice-aggregate-plain-at
-    plain-at-requires
-    no-ahead-requires-4
-    returns-4
-    add-if5
-    no-ahead-requires-5
-    returns-5
+    (search needs) returns (search needs) (search needs) returns-2 (search needs) returns-3 (search needs)
+    slice-aggregate-plain-at (search needs) (search needs) returns-4 add-if5 (search needs) returns-5
     returns-6)

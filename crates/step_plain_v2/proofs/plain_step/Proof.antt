@@ -18,12 +18,6 @@ facts k =
     numbers (a .block .now) (a .region) (a .at) (a .key-len) (a .key .now) (a .out .now)
     (standing (a .block .now) (a .region) (a .at) (a .key-len) (length (a .key .now)) (length (a .out .now)) (k .before .before .look-plain .result) (k .before .before .look-plain .ensures) (k .if1 .left))
 
-look-plain-requires : tie.Need-look-plain-requires
-look-plain-requires c κs = search needs
-
-no-step-requires : tie.Need-no-step-requires
-no-step-requires c κs = search needs
-
 returns : tie.Need-returns
 returns c = step-not _ _ _ _ _ _ _ (c .before .before .before .look-plain .ensures) (c .before .if1 .taken) (c .no-step .ensures)
 
@@ -37,38 +31,14 @@ carry-requires c κs = let f = facts (c .before .before) in
 sub-seq-at : tie.Need-sub-seq-at
 sub-seq-at c = let f = facts (c .before .before .before .before .before .before .before .before .before) in omega (arith, f .ends)
 
-add-seq-end : tie.Need-add-seq-end
-add-seq-end c = search needs
-
 add-pick : tie.Need-add-pick
 add-pick c = let k = c .before .before .before .before .before .before .before .before .before in let good = entry k .good in omega (arith, facts k .counted)
-
-pick-requires : tie.Need-pick-requires
-pick-requires c κs = search needs
 
 add-pick-2 : tie.Need-add-pick-2
 add-pick-2 c = let f = facts (c .before .before .before .before .before .before .before .before .before .before .before) in omega (arith, f .shared-small, f .unshared-small)
 
-pick-requires-2 : tie.Need-pick-requires-2
-pick-requires-2 c κs = search needs
-
-sub-eight : tie.Need-sub-eight
-sub-eight c = search needs
-
-part-eight-start : tie.Need-part-eight-start
-part-eight-start c = search needs
-
 part-eight-end : tie.Need-part-eight-end
 part-eight-end c = let f = facts (c .before .before .before .before .before .before .before .before .before .before .before .before) in omega (arith, f .ends, f .inside)
-
-eight-requires : tie.Need-eight-requires
-eight-requires c κs = search needs
-
-same-length : tie.Need-same-length
-same-length c = search needs
-
-same-length-2 : tie.Need-same-length-2
-same-length-2 c = search needs
 
 returns-2 : tie.Need-returns-2
 returns-2 c = let k = c .before .before .before .before .before .before .before .before .before .before .before .before .before .before in
@@ -79,21 +49,6 @@ pub plain-step-spec : {M : Type 1} → statement M
 plain-step-spec =
     tie.close
     (tie.spec
-    look-plain-requires
-    no-step-requires
-    returns
-    add-carry
-    carry-requires
-    sub-seq-at
-    add-seq-end
-    add-pick
-    pick-requires
-    add-pick-2
-    pick-requires-2
-    sub-eight
-    part-eight-start
-    part-eight-end
-    eight-requires
-    same-length
-    same-length-2
-    returns-2)
+    (search needs) (search needs) returns add-carry carry-requires sub-seq-at (search needs) add-pick
+    (search needs) add-pick-2 (search needs) (search needs) (search needs) part-eight-end (search needs)
+    (search needs) (search needs) returns-2)

@@ -5,18 +5,6 @@ use Rattle.tally.proofs.Laws.{opened-good, opened-refused}
 use Rattle.tally.proofs.open.Statement.{statement}
 use Rattle.tally.proofs.open.Tie as tie
 
-check-requires : tie.Need-check-requires
-check-requires c κs = search needs
-
-new-requires : tie.Need-new-requires
-new-requires c κs = search needs
-
-enum-known-checked : tie.Need-enum-known-checked
-enum-known-checked c = search needs
-
-enum-known-checked-2 : tie.Need-enum-known-checked-2
-enum-known-checked-2 c = search needs
-
 returns : tie.Need-returns
 returns c =
     let p = c .before .before .before in
@@ -30,10 +18,4 @@ returns-2 c =
 pub open-spec : {M : Type 1} → statement M
 open-spec =
     tie.close
-    (tie.spec
-    check-requires
-    new-requires
-    enum-known-checked
-    enum-known-checked-2
-    returns
-    returns-2)
+    (tie.spec (search needs) (search needs) (search needs) (search needs) returns returns-2)

@@ -5,30 +5,6 @@ use Rattle.tally.proofs.Laws.{value-counted, tombstone-counted, merge-c
 use Rattle.tally.proofs.tallied.Statement.{statement}
 use Rattle.tally.proofs.tallied.Tie as tie
 
-added-requires : tie.Need-added-requires
-added-requires c κs = search needs
-
-enum-known-held : tie.Need-enum-known-held
-enum-known-held c = search needs
-
-added-requires-2 : tie.Need-added-requires-2
-added-requires-2 c κs = search needs
-
-enum-told : tie.Need-enum-told
-enum-told c = search needs
-
-added-requires-3 : tie.Need-added-requires-3
-added-requires-3 c κs = search needs
-
-enum-known-held-2 : tie.Need-enum-known-held-2
-enum-known-held-2 c = search needs
-
-added-requires-4 : tie.Need-added-requires-4
-added-requires-4 c κs = search needs
-
-added-requires-5 : tie.Need-added-requires-5
-added-requires-5 c κs = search needs
-
 returns : tie.Need-returns
 returns c =
     let h = c .before .before in
@@ -46,14 +22,5 @@ pub tallied-spec : {M : Type 1} → statement M
 tallied-spec =
     tie.close
     (tie.spec
-    added-requires
-    enum-known-held
-    added-requires-2
-    enum-told
-    added-requires-3
-    enum-known-held-2
-    added-requires-4
-    added-requires-5
-    returns
-    returns-2
-    returns-3)
+    (search needs) (search needs) (search needs) (search needs) (search needs) (search needs) (search needs)
+    (search needs) returns returns-2 returns-3)

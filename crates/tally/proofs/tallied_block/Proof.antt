@@ -43,12 +43,12 @@ use denote.Triple.Table.{entered, cited}
 use denote.Triple.Walked.{says, Stays, stay-none, stay-none-slice, walkOf, goes-none, goes-none-slice, Walks, ends-at, walked, walk-meets}
 use Rattle.tally.specs.Promise.{CountsBlock}
 use Rattle.tally.specs.declared.Tally.{Tally}
-use Rattle.tally.specs.declared.TallyAnswer.{TallyAnswer}
+use Rattle.basics.specs.declared.Verdict.{Verdict}
 use Rattle.tally.specs.declared.TalliedBlock.{TalliedBlock}
 use Rattle.tally.proofs.Tally as T
 use Rattle.tally.proofs.Tally.Laws as T′
-use Rattle.tally.proofs.TallyAnswer as R
-use Rattle.tally.proofs.TallyAnswer.Laws as R′
+use Rattle.basics.proofs.Verdict as R
+use Rattle.basics.proofs.Verdict.Laws as R′
 use Rattle.tally.proofs.TalliedBlock as B
 use Rattle.tally.proofs.TalliedBlock.Laws as B′
 use Rattle.tally.proofs.Lent.{tallyVal, tallyVals, answerVals, tally-tells, answer-tells, sees, has-tally, tally-fits, answer-fits, lies, stands}
@@ -65,7 +65,7 @@ use Rattle.tally.proofs.tallied_block.Code as code
 abbrev stayed : Stays (whole.ended .signature .params) (whole.ended .kept)
 stayed = (stay-none (λ _. T.the-row) yes, (stay-none-slice (0 ∷ []) tt (plain (λ _. u8)) yes, tt))
 
-abbrev both : Tally → TallyAnswer → TalliedBlock
+abbrev both : Tally → Verdict → TalliedBlock
 both r a = record { tally = r; answer = a }
 
 abbrev bothVal : TalliedBlock → Val
@@ -74,10 +74,10 @@ bothVal = LL.val B.the-type B′.the-laws
 abbrev bothVals : TalliedBlock → List Val
 bothVals x = bothVal x ∷ []
 
-answer-is : (a : TallyAnswer) (v : Val) → Is R.the-row a (v ∷ []) → Is R.the-row a (answerVals a)
+answer-is : (a : Verdict) (v : Val) → Is R.the-row a (v ∷ []) → Is R.the-row a (answerVals a)
 answer-is a v is = subst (Is R.the-row a) (answer-tells a (v ∷ []) is) is
 
-both-is : (r : Tally) (a : TallyAnswer) → Is T.the-row r (tallyVals r) → Is R.the-row a (answerVals a) → Is B.the-row (both r a) (bothVals (both r a))
+both-is : (r : Tally) (a : Verdict) → Is T.the-row r (tallyVals r) → Is R.the-row a (answerVals a) → Is B.the-row (both r a) (bothVals (both r a))
 both-is r a is-r is-a = LL.owes B.the-type B′.the-laws (both r a) (is-r, (is-a, tt))
 
 module _ {M : Type 1} (𝓤 : URA M) (H : Heap 𝓤) (A : Atoms 𝓤) (W : Given 𝓤 H A) (at-mem : Memory → SProp 𝓤) (run : Routine → Fun 𝓤) where
@@ -100,7 +100,7 @@ module _ {M : Type 1} (𝓤 : URA M) (H : Heap 𝓤) (A : Atoms 𝓤) (W : Given
     Own = ShrSlice (named 0) κ u8 .own s (slice-vals s)
 
     -- a tally r and an answer a that the block makes are all that is promised
-    exits : (r : Tally) (a : TallyAnswer) → Is T.the-row r (tallyVals r) → Is R.the-row a (answerVals a) → CountsBlock t (now s) r a
+    exits : (r : Tally) (a : Verdict) → Is T.the-row r (tallyVals r) → Is R.the-row a (answerVals a) → CountsBlock t (now s) r a
         → ent 𝓤 (⋆ 𝓤 H A (‵ Own ∷ (‵ (flft κ q) ⊛ ‵ ftrue) ∷ [])) (Post (bothVal (both r a)))
     exits r a is-r is-a counts =
         qed W (‵ Own ∷ (‵ (flft κ q) ⊛ ‵ ftrue) ∷ []) ∵
@@ -143,7 +143,7 @@ module _ {M : Type 1} (𝓤 : URA M) (H : Heap 𝓤) (A : Atoms 𝓤) (W : Given
           move ! (4 ∷ 18 ∷ 2 ∷ 0 ∷ []) $ group ! 4 $ use1 W (raw (Counts .pre (to-count l₃ α γ))) (goes-count l₃ α γ) $
           -- [what `tally_block` asks; the block; the lender's part; room for _6; …; _5; …; room for _4; …; what frees _3; _2; …; _1; …; room for _0; …]
           calls-at ! fm Counts known (to-count l₃ α γ) (and-then ! (load ! (from ! (stop !)) (look ! 5 refl)) (and-then ! (load ! (from ! (stop !)) (look ! 10 refl)) (no-more !))) (λ v.
-          use1 W (later (some (λ (a : TallyAnswer). ((‵ (flft (α ∷ []) fullShare) ⊛ ‵ (flft κ q) ⊛ ‵ ftrue) ⊛ ‵ (R.the-row .own a (v ∷ [])))
+          use1 W (later (some (λ (a : Verdict). ((‵ (flft (α ∷ []) fullShare) ⊛ ‵ (flft κ q) ⊛ ‵ ftrue) ⊛ ‵ (R.the-row .own a (v ∷ [])))
           ⊛ raw (ensured 𝓤 H A block.ended (block.clauses 𝓤 H A at-mem run) (α ∷ [], (κ, tt)) (ref l₃ α γ, (s, tt)) tt a)))) (id⊢ 𝓤 _) $ await ! tt $ pick ! (λ a. split ! $ move ! (1 ∷ []) $
           use1 W (some (λ (ws : Tally × (Unit {0} × Unit {0})). ‵ (lasts block.ended (α ∷ [], (κ, tt)) (ref l₃ α γ, (s, tt)) ws) ⊛ raw (fact 𝓤 (CountsBlock t (now s) (ws .0) a)))) (id⊢ 𝓤 _) $
           pick ! (λ ws. split ! $ move ! (1 ∷ []) $ heard ! (CountsBlock t (now s) (ws .0) a) (λ counts. fsplit ! $ move ! (2 ∷ []) $ split ! $ move ! (1 ∷ []) $

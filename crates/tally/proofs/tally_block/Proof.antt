@@ -55,17 +55,18 @@ use Rattle.step_in_place_v2.specs.Says.{viewIn}
 use Rattle.step_in_place_v2.specs.declared.Place.{Place}
 use Rattle.step_in_place_v2.proofs.Place as P
 use Rattle.step_in_place_v2.proofs.Place.Laws as P′
+use Rattle.basics.specs.Answers.{saysVerdict}
 use Rattle.tally.specs.Tally.{tallyBlock}
-use Rattle.tally.specs.Says.{Told, afterBlock as tallyAfter, saysAnswer}
+use Rattle.tally.specs.Says.{Told, afterBlock as tallyAfter}
 use Rattle.tally.specs.Parts.{OpensRows, PassesRow}
 use Rattle.tally.specs.Promise.{CountsRow, CountsBlock}
 use Rattle.tally.specs.declared.Tally.{Tally}
-use Rattle.tally.specs.declared.TallyAnswer.{TallyAnswer}
+use Rattle.basics.specs.declared.Verdict.{Verdict}
 use Rattle.tally.specs.declared.Opening.{Opening}
 use Rattle.tally.specs.declared.Passed.{Passed}
 use Rattle.tally.proofs.Tally as T
-use Rattle.tally.proofs.TallyAnswer as R
-use Rattle.tally.proofs.TallyAnswer.Laws as R′
+use Rattle.basics.proofs.Verdict as R
+use Rattle.basics.proofs.Verdict.Laws as R′
 use Rattle.tally.proofs.Opening as O
 use Rattle.tally.proofs.Opening.Laws as O′
 use Rattle.tally.proofs.Passed as Q
@@ -195,7 +196,7 @@ module _ {M : Type 1} (𝓤 : URA M) (H : Heap 𝓤) (A : Atoms 𝓤) (W : Given
     Had t = ‵ (Ref κ γ t) ∷ ‵ (flft κ q) ∷ ‵ Own ∷ ‵ (flft κ′ q′) ∷ []
 
     -- with the answer a they are all that is promised, where t and a are what the block makes
-    exits : (t : Tally) (a : TallyAnswer) → Is R.the-row a (answerVals a) → CountsBlock t₀ (now s) t a → ent 𝓤 (⋆ 𝓤 H A (Had t)) (Post (answerVal a))
+    exits : (t : Tally) (a : Verdict) → Is R.the-row a (answerVals a) → CountsBlock t₀ (now s) t a → ent 𝓤 (⋆ 𝓤 H A (Had t)) (Post (answerVal a))
     exits t a is-a counts =
         qed W (Had t) ∵
         suffices ! _ (ends-at 𝓤 H A block.ended stayed (block.clauses 𝓤 H A at-mem run) W bound (answerVal a) a (t, (tt, tt)) (tt, (tt, tt))) $ says ! counts $
@@ -241,7 +242,7 @@ module _ {M : Type 1} (𝓤 : URA M) (H : Heap 𝓤) (A : Atoms 𝓤) (W : Given
         pub t : Tally
         pub xs : List ℕ
         pub ys : List ℕ
-        pub folds : Folding want (saysAnswer (r .answer)) (now s) left (viewIn p xs) t
+        pub folds : Folding want (saysVerdict (r .answer)) (now s) left (viewIn p xs) t
         pub long-xs : length xs ≡ maxKey
         pub long-ys : length ys ≡ maxKey
         pub is-p : Is P.the-row p (placeVals p)

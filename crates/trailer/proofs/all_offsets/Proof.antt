@@ -6,9 +6,6 @@ use Rattle.trailer.specs.Laws.{has-is, handed-strange, handed-known}
 use Rattle.trailer.proofs.all_offsets.Statement.{statement}
 use Rattle.trailer.proofs.all_offsets.Tie as tie
 
-has-region-requires : tie.Need-has-region-requires
-has-region-requires c κs = search needs
-
 returns : tie.Need-returns
 returns c = handed-strange _ _ _ _ (rw (c .before .has-region .ensures) at (c .if1 .taken))
 
@@ -21,4 +18,4 @@ returns-2 c =
     c .offsets-rise .ensures ∙ sym (handed-known _ _ _ _ (has-is _ _ _ (rw (k .before .has-region .ensures) at (k .if1 .left))))
 
 pub all-offsets-spec : {M : Type 1} → statement M
-all-offsets-spec = tie.close (tie.spec has-region-requires returns offsets-rise-requires returns-2)
+all-offsets-spec = tie.close (tie.spec (search needs) returns offsets-rise-requires returns-2)

@@ -9,7 +9,7 @@ use lib.Dec.{ltb, leb, eqb}
 use borrow.Author.Needs.{needs}
 use borrow.Author.Tests.{lt-ltb, le-ltb, lt-leb, ltb-false, leb-false, eq-eqb, ne-eqb}
 use Rattle.layout.specs.Trailer.{trailerIs}
-use Rattle.layout.specs.Laws.Answer.{ltb-cases, eqb-cases, clash}
+use Rattle.layout.specs.Laws.Res.{ltb-cases, eqb-cases, clash}
 use Rattle.layout.specs.Laws.Plain.{or-false}
 use Rattle.trailer.specs.Handed.{hasRegion}
 use Rattle.trailer.proofs.has_region.Statement.{statement}
@@ -53,12 +53,6 @@ returns-2 c =
     let a = c .before .before .before .before .args in
     no-sum (a .t .size) (a .t .count) (a .len) (a .r) (λ s. omega (arith, c .if2 .taken))
 
-mul-result : tie.Need-mul-result
-mul-result c = search needs
-
-sub-result : tie.Need-sub-result
-sub-result c = search needs
-
 returns-3 : tie.Need-returns-3
 returns-3 c =
     let k = c .before .before in
@@ -67,4 +61,4 @@ returns-3 c =
     same-test (a .t .size) (a .t .count) (a .len) (a .r) (w .0) (w .1) (omega arith)
 
 pub has-region-spec : {M : Type 1} → statement M
-has-region-spec = tie.close (tie.spec returns sub-rest returns-2 mul-result sub-result returns-3)
+has-region-spec = tie.close (tie.spec returns sub-rest returns-2 (search needs) (search needs) returns-3)

@@ -5,7 +5,7 @@ use Prim.Native.Nat.{ℕ, _+_, _-_, _≤_, _<_, zero-le}
 use mathlib.Core.Path.{_≡_, ap, sym, _∙_}
 use mathlib.Core.List.{List}
 use native.Mathlib.Omega.{arith}
-use Rattle.layout.specs.Answer.{Res, refuse}
+use Rattle.layout.specs.Res.{Res, refuse}
 use Rattle.layout.specs.Trailer.{Trailer, trailerIs, shortAt, offsetAt, risingFrom, allOffsets}
 use Rattle.layout.specs.Laws.Trailer.{RisesFrom, rising-start, rising-over, rising-falls, rising-past, rising-next, offsets-first, offsets-rest}
 use Rattle.trailer.proofs.offsets_rise.Statement.{statement}

@@ -8,23 +8,8 @@ use borrow.Author.Needs.{needs}
 use Rattle.trailer.proofs.plain_region_at.Statement.{statement}
 use Rattle.trailer.proofs.plain_region_at.Tie as tie
 
-no-region-requires : tie.Need-no-region-requires
-no-region-requires c κs = search needs
-
 returns : tie.Need-returns
 returns c = c .no-region .ensures ∙ by-short _ _ (c .before .if1 .taken)
-
-short-at-requires : tie.Need-short-at-requires
-short-at-requires c κs = search needs
-
-mul-taken : tie.Need-mul-taken
-mul-taken c = search needs
-
-add-taken : tie.Need-add-taken
-add-taken c = search needs
-
-no-region-requires-2 : tie.Need-no-region-requires-2
-no-region-requires-2 c κs = search needs
 
 returns-2 : tie.Need-returns-2
 returns-2 c = let s = c .before .before in
@@ -45,13 +30,5 @@ pub plain-region-at-spec : {M : Type 1} → statement M
 plain-region-at-spec =
     tie.close
     (tie.spec
-    no-region-requires
-    returns
-    short-at-requires
-    mul-taken
-    add-taken
-    no-region-requires-2
-    returns-2
-    sub-t8
-    region-in-requires
-    returns-3)
+    (search needs) returns (search needs) (search needs) (search needs) (search needs) returns-2 sub-t8
+    region-in-requires returns-3)

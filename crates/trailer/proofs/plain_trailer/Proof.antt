@@ -7,23 +7,8 @@ use borrow.Author.Needs.{needs}
 use Rattle.trailer.proofs.plain_trailer.Statement.{statement}
 use Rattle.trailer.proofs.plain_trailer.Tie as tie
 
-no-trailer-requires : tie.Need-no-trailer-requires
-no-trailer-requires c κs = search needs
-
 returns : tie.Need-returns
 returns c = c .no-trailer .ensures ∙ ap trailerOr (trailer-short _ (c .before .if1 .taken))
-
-short-at-requires : tie.Need-short-at-requires
-short-at-requires c κs = search needs
-
-mul-taken : tie.Need-mul-taken
-mul-taken c = search needs
-
-add-taken : tie.Need-add-taken
-add-taken c = search needs
-
-no-trailer-requires-2 : tie.Need-no-trailer-requires-2
-no-trailer-requires-2 c κs = search needs
 
 returns-2 : tie.Need-returns-2
 returns-2 c = let s = c .before .before in
@@ -40,12 +25,5 @@ pub plain-trailer-spec : {M : Type 1} → statement M
 plain-trailer-spec =
     tie.close
     (tie.spec
-    no-trailer-requires
-    returns
-    short-at-requires
-    mul-taken
-    add-taken
-    no-trailer-requires-2
-    returns-2
-    sub-t6
+    (search needs) returns (search needs) (search needs) (search needs) (search needs) returns-2 sub-t6
     returns-3)

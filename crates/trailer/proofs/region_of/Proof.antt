@@ -8,9 +8,6 @@ use borrow.Author.Needs.{needs}
 use Rattle.trailer.proofs.region_of.Statement.{statement}
 use Rattle.trailer.proofs.region_of.Tie as tie
 
-has-region-requires : tie.Need-has-region-requires
-has-region-requires c κs = search needs
-
 returns : tie.Need-returns
 returns c = handed-strange _ _ _ _ (rw (c .before .has-region .ensures) at (c .if1 .taken))
 
@@ -28,4 +25,4 @@ returns-3 c =
     sym (region-is _ _ (c .before .before .region-in .ensures) (c .if2 .left)) ∙ sym (handed-known _ _ _ _ (has-is _ _ _ (rw (k .before .has-region .ensures) at (k .if1 .left))))
 
 pub region-of-spec : {M : Type 1} → statement M
-region-of-spec = tie.close (tie.spec has-region-requires returns region-in-requires returns-2 returns-3)
+region-of-spec = tie.close (tie.spec (search needs) returns region-in-requires returns-2 returns-3)

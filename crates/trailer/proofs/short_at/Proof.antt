@@ -7,27 +7,6 @@ use borrow.Author.Needs.{needs}
 use Rattle.trailer.proofs.short_at.Statement.{statement}
 use Rattle.trailer.proofs.short_at.Tie as tie
 
-shared-slice-read-wide : tie.Need-shared-slice-read-wide
-shared-slice-read-wide c = search needs
-
-wide-requires : tie.Need-wide-requires
-wide-requires c κs = search needs
-
-add-wide : tie.Need-add-wide
-add-wide c = search needs
-
-shared-slice-read-wide-2 : tie.Need-shared-slice-read-wide-2
-shared-slice-read-wide-2 c = search needs
-
-wide-requires-2 : tie.Need-wide-requires-2
-wide-requires-2 c κs = search needs
-
-mul-result : tie.Need-mul-result
-mul-result c = search needs
-
-add-result : tie.Need-add-result
-add-result c = search needs
-
 returns : tie.Need-returns
 returns c = let s = c .before .before .before .before .before in
     (rw (c .before .before .wide .ensures .0, c .wide2 .ensures .0) (short-read _ _ _ (sym (fixedAt-two (s .args .block .now) (s .args .at) (s .pre)))), search needs)
@@ -36,11 +15,5 @@ pub short-at-spec : {M : Type 1} → statement M
 short-at-spec =
     tie.close
     (tie.spec
-    shared-slice-read-wide
-    wide-requires
-    add-wide
-    shared-slice-read-wide-2
-    wide-requires-2
-    mul-result
-    add-result
+    (search needs) (search needs) (search needs) (search needs) (search needs) (search needs) (search needs)
     returns)

@@ -7,9 +7,6 @@ use borrow.Author.Needs.{needs}
 use Rattle.trailer.proofs.trailer_of.Statement.{statement}
 use Rattle.trailer.proofs.trailer_of.Tie as tie
 
-plain-trailer-requires : tie.Need-plain-trailer-requires
-plain-trailer-requires c κs = search needs
-
 returns : tie.Need-returns
 returns c = sym (trailer-is _ _ (c .before .before .plain-trailer .ensures) (λ z. omega (arith, c .if1 .taken)))
 
@@ -17,4 +14,4 @@ returns-2 : tie.Need-returns-2
 returns-2 c = trailer-not _ _ (c .before .before .plain-trailer .ensures) (omega (arith, c .if1 .left))
 
 pub trailer-of-spec : {M : Type 1} → statement M
-trailer-of-spec = tie.close (tie.spec plain-trailer-requires returns returns-2)
+trailer-of-spec = tie.close (tie.spec (search needs) returns returns-2)

@@ -76,9 +76,6 @@ Inv-loop buf₀ at offsets count n next₀ i₀ buf next i = Laying offsets buf�
 abbrev μ-loop : tie.MeasureT-loop
 μ-loop buf₀ at offsets count n next₀ i₀ buf next i = n - i
 
-least-requires : tie.Need-least-requires Inv-loop μ-loop
-least-requires c κs = search needs
-
 returns : tie.Need-returns Inv-loop μ-loop
 returns c =
     let a = c .before .before .before .before .args in
@@ -95,20 +92,8 @@ returns-2 c =
 loop-holds : tie.Need-loop-holds Inv-loop μ-loop
 loop-holds c = none-laid _ _ _ _ (omega arith)
 
-mul-put-u16 : tie.Need-mul-put-u16 Inv-loop μ-loop
-mul-put-u16 c = search needs
-
 shared-slice-read-put-u16 : tie.Need-shared-slice-read-put-u16 Inv-loop μ-loop
 shared-slice-read-put-u16 c = omega arith
-
-put-u16-requires : tie.Need-put-u16-requires Inv-loop μ-loop
-put-u16-requires c κs = search needs
-
-enum-known-p : tie.Need-enum-known-p Inv-loop μ-loop
-enum-known-p c = search needs
-
-enum-told : tie.Need-enum-told Inv-loop μ-loop
-enum-told c = search needs
 
 -- no write of an offset is refused
 never : (c : tie.After-enum-told Inv-loop μ-loop) → ⊥
@@ -129,12 +114,6 @@ loop-less c = omega arith
 loop-again : tie.Need-loop-again Inv-loop μ-loop
 loop-again c = one-more (c .before .before .before .before .before .before .before .before .before .loop .inv) (omega arith) (c .before .before .before .before .before .before .before .before .loop-test .taken) (omega arith) (c .before .before .before .before .before .put-u16 .ensures) (c .before .p .given .1)
 
-low-16-requires : tie.Need-low-16-requires Inv-loop μ-loop
-low-16-requires c κs = search needs
-
-put-u16-requires-2 : tie.Need-put-u16-requires-2 Inv-loop μ-loop
-put-u16-requires-2 c κs = search needs
-
 same-length-2 : tie.Need-same-length-2 Inv-loop μ-loop
 same-length-2 c = omega (arith, wrote-length (c .before .before .before .before .before .before .loop .inv .wrote))
 
@@ -148,24 +127,6 @@ pub put-trailer-spec : {M : Type 1} → statement M
 put-trailer-spec =
     tie.close
     (tie.spec
-    Inv-loop
-    μ-loop
-    least-requires
-    returns
-    sub-if2
-    returns-2
-    loop-holds
-    mul-put-u16
-    shared-slice-read-put-u16
-    put-u16-requires
-    enum-known-p
-    enum-told
-    same-length
-    returns-3
-    add-i
-    loop-less
-    loop-again
-    low-16-requires
-    put-u16-requires-2
-    same-length-2
-    returns-4)
+    Inv-loop μ-loop (search needs) returns sub-if2 returns-2 loop-holds (search needs)
+    shared-slice-read-put-u16 (search needs) (search needs) (search needs) same-length returns-3 add-i
+    loop-less loop-again (search needs) (search needs) same-length-2 returns-4)

@@ -6,7 +6,7 @@ use mathlib.Core.List.{List}
 use native.Mathlib.Omega.{arith}
 use lib.ListN.{length, getD}
 use borrow.Author.Needs.{needs}
-use Rattle.layout.specs.Answer.{ok}
+use Rattle.layout.specs.Res.{ok}
 use Rattle.layout.specs.Place.{numAt, varintAt}
 use Rattle.layout.specs.Varint.{num}
 use Rattle.layout.specs.Laws.Place.{varintAt-is, varintAt-none}
@@ -23,32 +23,10 @@ one-byte d at b h e l =
 returns : tie.Need-returns
 returns c = varintAt-none _ _ (c .if1 .taken)
 
-shared-slice-read-wide32 : tie.Need-shared-slice-read-wide32
-shared-slice-read-wide32 c = search needs
-
-wide32-requires : tie.Need-wide32-requires
-wide32-requires c κs = search needs
-
-add-t9 : tie.Need-add-t9
-add-t9 c = search needs
-
 returns-2 : tie.Need-returns-2
 returns-2 c = one-byte _ _ _ (c .before .before .before .if1 .left) (c .before .wide32 .ensures .0) (c .if2 .taken)
-
-get-varint-requires : tie.Need-get-varint-requires
-get-varint-requires c κs = search needs
-
-returns-3 : tie.Need-returns-3
-returns-3 c = search needs
 
 pub decode-varint-spec : {M : Type 1} → statement M
 decode-varint-spec =
     tie.close
-    (tie.spec
-    returns
-    shared-slice-read-wide32
-    wide32-requires
-    add-t9
-    returns-2
-    get-varint-requires
-    returns-3)
+    (tie.spec returns (search needs) (search needs) (search needs) returns-2 (search needs) (search needs))

@@ -17,20 +17,8 @@ abbrev μ-loop : tie.MeasureT-loop
 loop-holds : tie.Need-loop-holds Inv-loop μ-loop
 loop-holds c = reading-start _ _
 
-add-if1 : tie.Need-add-if1 Inv-loop μ-loop
-add-if1 c = search needs
-
 returns : tie.Need-returns Inv-loop μ-loop
 returns c = varintAt-no _ _ _ (reading-end (c .before .before .loop .inv) (omega arith))
-
-add-wide32 : tie.Need-add-wide32 Inv-loop μ-loop
-add-wide32 c = search needs
-
-shared-slice-read-wide32 : tie.Need-shared-slice-read-wide32 Inv-loop μ-loop
-shared-slice-read-wide32 c = search needs
-
-wide32-requires : tie.Need-wide32-requires Inv-loop μ-loop
-wide32-requires c κs = search needs
 
 mul-t14 : tie.Need-mul-t14 Inv-loop μ-loop
 mul-t14 c =
@@ -43,12 +31,6 @@ add-t15 c =
     let l = c .before .before .before .before .before .loop in
     let b = c .before .wide32 in
     omega (arith, reading-fits32 (l .inv) (b .result) (omega arith) (b .ensures .1))
-
-add-t16 : tie.Need-add-t16 Inv-loop μ-loop
-add-t16 c = search needs
-
-add-t17 : tie.Need-add-t17 Inv-loop μ-loop
-add-t17 c = search needs
 
 returns-2 : tie.Need-returns-2 Inv-loop μ-loop
 returns-2 c =
@@ -73,12 +55,6 @@ mul-w c =
     let l = c .before .before .before .before .before .loop in
     omega (arith, reading-low (l .inv) (omega arith))
 
-add-i : tie.Need-add-i Inv-loop μ-loop
-add-i c = search needs
-
-loop-less : tie.Need-loop-less Inv-loop μ-loop
-loop-less c = search needs
-
 loop-again : tie.Need-loop-again Inv-loop μ-loop
 loop-again c =
     let l = c .before .before .before .before .before .loop in
@@ -90,15 +66,6 @@ add-if3 c = omega (arith, c .before .loop .inv .few)
 
 returns-3 : tie.Need-returns-3 Inv-loop μ-loop
 returns-3 c = varintAt-no _ _ _ (reading-end (c .before .before .loop .inv) (omega arith))
-
-add-wide32-2 : tie.Need-add-wide32-2 Inv-loop μ-loop
-add-wide32-2 c = search needs
-
-shared-slice-read-wide32-2 : tie.Need-shared-slice-read-wide32-2 Inv-loop μ-loop
-shared-slice-read-wide32-2 c = search needs
-
-wide32-requires-2 : tie.Need-wide32-requires-2 Inv-loop μ-loop
-wide32-requires-2 c κs = search needs
 
 returns-4 : tie.Need-returns-4 Inv-loop μ-loop
 returns-4 c =
@@ -118,12 +85,6 @@ add-t28 c =
     let b = c .before .wide322 in
     omega (arith, reading-fits-last (l .inv) (b .result) (omega arith))
 
-add-t21 : tie.Need-add-t21 Inv-loop μ-loop
-add-t21 c = search needs
-
-add-t20 : tie.Need-add-t20 Inv-loop μ-loop
-add-t20 c = search needs
-
 returns-5 : tie.Need-returns-5 Inv-loop μ-loop
 returns-5 c =
     let l = c .before .before .before .before .before .loop in
@@ -134,33 +95,7 @@ pub get-varint-spec : {M : Type 1} → statement M
 get-varint-spec =
     tie.close
     (tie.spec
-    Inv-loop
-    μ-loop
-    loop-holds
-    add-if1
-    returns
-    add-wide32
-    shared-slice-read-wide32
-    wide32-requires
-    mul-t14
-    add-t15
-    add-t16
-    add-t17
-    returns-2
-    mul-acc
-    add-acc
-    mul-w
-    add-i
-    loop-less
-    loop-again
-    add-if3
-    returns-3
-    add-wide32-2
-    shared-slice-read-wide32-2
-    wide32-requires-2
-    returns-4
-    mul-t27
-    add-t28
-    add-t21
-    add-t20
-    returns-5)
+    Inv-loop μ-loop loop-holds (search needs) returns (search needs) (search needs) (search needs) mul-t14
+    add-t15 (search needs) (search needs) returns-2 mul-acc add-acc mul-w (search needs) (search needs)
+    loop-again add-if3 returns-3 (search needs) (search needs) (search needs) returns-4 mul-t27 add-t28
+    (search needs) (search needs) returns-5)

@@ -7,15 +7,6 @@ use Rattle.buf_mut.proofs.Laws.{puts-short, puts-wrote}
 use Rattle.utils.proofs.put_byte.Statement.{statement}
 use Rattle.utils.proofs.put_byte.Tie as tie
 
-slice-write-buf : tie.Need-slice-write-buf
-slice-write-buf c = search needs
-
-add-t7 : tie.Need-add-t7
-add-t7 c = search needs
-
-same-length : tie.Need-same-length
-same-length c = search needs
-
 returns : tie.Need-returns
 returns c = puts-wrote (wrote-set _ _ _ (c .if1 .taken))
 
@@ -23,4 +14,4 @@ returns-2 : tie.Need-returns-2
 returns-2 c = puts-short _ _ _ (omega arith)
 
 pub put-byte-spec : {M : Type 1} → statement M
-put-byte-spec = tie.close (tie.spec slice-write-buf add-t7 same-length returns returns-2)
+put-byte-spec = tie.close (tie.spec (search needs) (search needs) (search needs) returns returns-2)

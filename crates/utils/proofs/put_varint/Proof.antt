@@ -60,23 +60,11 @@ Inv-loop buf₀ at v rest₀ i₀ buf rest i = Going (sets buf₀ at (varint v))
 abbrev μ-loop : tie.MeasureT-loop
 μ-loop buf₀ at v rest₀ i₀ buf rest i = rest
 
-rest-from-requires : tie.Need-rest-from-requires Inv-loop μ-loop
-rest-from-requires c κs = search needs
-
-varint-len-requires : tie.Need-varint-len-requires Inv-loop μ-loop
-varint-len-requires c κs = search needs
-
 returns : tie.Need-returns Inv-loop μ-loop
 returns c = puts-short _ _ _ (omega (arith, c .before .varint-len .ensures .bytes))
 
 loop-holds : tie.Need-loop-holds Inv-loop μ-loop
 loop-holds c = start _ _ _ _ (omega arith) (c .before .varint-len .ensures .bytes) (omega arith)
-
-add-buf : tie.Need-add-buf Inv-loop μ-loop
-add-buf c = search needs
-
-cast-buf : tie.Need-cast-buf Inv-loop μ-loop
-cast-buf c = search needs
 
 slice-write-buf : tie.Need-slice-write-buf Inv-loop μ-loop
 slice-write-buf c = in-slice (c .before .loop .inv)
@@ -84,16 +72,10 @@ slice-write-buf c = in-slice (c .before .loop .inv)
 add-i : tie.Need-add-i Inv-loop μ-loop
 add-i c = omega (arith, in-slice (c .before .loop .inv))
 
-loop-less : tie.Need-loop-less Inv-loop μ-loop
-loop-less c = search needs
-
 loop-again : tie.Need-loop-again Inv-loop μ-loop
 loop-again c =
     let g = c .before .loop .inv in
     turn _ _ _ (g .more) (g .small) (g .makes) (g .ends) (g .same) (g .fits) (c .loop-test .taken)
-
-cast-buf-2 : tie.Need-cast-buf-2 Inv-loop μ-loop
-cast-buf-2 c = search needs
 
 slice-write-buf-2 : tie.Need-slice-write-buf-2 Inv-loop μ-loop
 slice-write-buf-2 c = in-slice (c .before .loop .inv)
@@ -120,20 +102,6 @@ pub put-varint-spec : {M : Type 1} → statement M
 put-varint-spec =
     tie.close
     (tie.spec
-    Inv-loop
-    μ-loop
-    rest-from-requires
-    varint-len-requires
-    returns
-    loop-holds
-    add-buf
-    cast-buf
-    slice-write-buf
-    add-i
-    loop-less
-    loop-again
-    cast-buf-2
-    slice-write-buf-2
-    add-t6
-    same-length
+    Inv-loop μ-loop (search needs) (search needs) returns loop-holds (search needs) (search needs)
+    slice-write-buf add-i (search needs) loop-again (search needs) slice-write-buf-2 add-t6 same-length
     returns-2)

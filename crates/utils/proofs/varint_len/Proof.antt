@@ -18,12 +18,6 @@ returns c =
 sub-b : tie.Need-sub-b
 sub-b c = leading-le 32 (c .before .args .v)
 
-add-result : tie.Need-add-result
-add-result c = search needs
-
-cast-result : tie.Need-cast-result
-cast-result c = search needs
-
 returns-2 : tie.Need-returns-2
 returns-2 c =
     let v = c .before .args .v in
@@ -31,4 +25,4 @@ returns-2 c =
     record { rule = some; bytes = some ∙ sym (length-varint v (omega arith)) }
 
 pub varint-len-spec : {M : Type 1} → statement M
-varint-len-spec = tie.close (tie.spec returns sub-b add-result cast-result returns-2)
+varint-len-spec = tie.close (tie.spec returns sub-b (search needs) (search needs) returns-2)

@@ -38,29 +38,11 @@ returns-2 c = flat-other _ _ _ _ _ (c .before .before .before .if1 .left) (c .if
 slice-read-size : tie.Need-slice-read-size
 slice-read-size c = let n = five (c .before .before .before .before) in omega arith
 
-size-requires : tie.Need-size-requires
-size-requires c κs = search needs
-
 slice-read-size-2 : tie.Need-slice-read-size-2
 slice-read-size-2 c = let n = five (c .before .before .before .before .before .before) in omega arith
 
-size-requires-2 : tie.Need-size-requires-2
-size-requires-2 c κs = search needs
-
 slice-read-size-3 : tie.Need-slice-read-size-3
 slice-read-size-3 c = let n = five (c .before .before .before .before .before .before .before .before) in omega arith
-
-size-requires-3 : tie.Need-size-requires-3
-size-requires-3 c κs = search needs
-
-plain-step-requires : tie.Need-plain-step-requires
-plain-step-requires c κs = search needs
-
-same-length : tie.Need-same-length
-same-length c = search needs
-
-same-length-2 : tie.Need-same-length-2
-same-length-2 c = search needs
 
 returns-3 : tie.Need-returns-3
 returns-3 c = flat-not _ _ _ _ _ (c .before .before .before .before .before .before .before .before .before .before .before .before .before .before .before .before .before .before .if1 .left) (c .before .before .before .before .before .before .before .before .before .before .before .before .before .before .before .if2 .left) (c .before .before .before .before .before .before .before .before .before .before .before .before .before .size .ensures) (c .before .before .before .before .before .before .before .before .before .before .before .size2 .ensures) (c .before .before .before .before .before .before .before .before .before .size3 .ensures) _ (c .before .before .before .before .before .before .plain-step .ensures) (c .if3 .taken)
@@ -75,24 +57,6 @@ add-t13 c =
     let e = ends (c .before) in
     omega arith
 
-put-cursor-requires : tie.Need-put-cursor-requires
-put-cursor-requires c κs = search needs
-
-put-row-requires : tie.Need-put-row-requires
-put-row-requires c κs = search needs
-
-same-length-3 : tie.Need-same-length-3
-same-length-3 c = search needs
-
-same-length-4 : tie.Need-same-length-4
-same-length-4 c = search needs
-
-same-length-5 : tie.Need-same-length-5
-same-length-5 c = search needs
-
-same-length-6 : tie.Need-same-length-6
-same-length-6 c = search needs
-
 returns-4 : tie.Need-returns-4
 returns-4 c = flat-made _ _ _ _ _ (c .before .before .before .before .before .before .before .before .before .before .before .before .before .before .before .before .before .before .before .before .before .before .before .before .before .before .before .if1 .left) (c .before .before .before .before .before .before .before .before .before .before .before .before .before .before .before .before .before .before .before .before .before .before .before .before .if2 .left) (c .before .before .before .before .before .before .before .before .before .before .before .before .before .before .before .before .before .before .before .before .before .before .size .ensures) (c .before .before .before .before .before .before .before .before .before .before .before .before .before .before .before .before .before .before .before .before .size2 .ensures) (c .before .before .before .before .before .before .before .before .before .before .before .before .before .before .before .before .before .before .size3 .ensures) _ (c .before .before .before .before .before .before .before .before .before .before .before .before .before .before .before .plain-step .ensures) (c .before .before .before .before .before .before .before .before .before .if3 .left) (c .before .before .before .before .before .before .put-cursor .ensures) (c .before .before .put-row .ensures)
 
@@ -100,26 +64,7 @@ pub plain-next-spec : {M : Type 1} → statement M
 plain-next-spec =
     tie.close
     (tie.spec
-    returns
-    slice-read-if2
-    slice-read-if2-2
-    returns-2
-    slice-read-size
-    size-requires
-    slice-read-size-2
-    size-requires-2
-    slice-read-size-3
-    size-requires-3
-    plain-step-requires
-    same-length
-    same-length-2
-    returns-3
-    add-suffix-at
-    add-t13
-    put-cursor-requires
-    put-row-requires
-    same-length-3
-    same-length-4
-    same-length-5
-    same-length-6
-    returns-4)
+    returns slice-read-if2 slice-read-if2-2 returns-2 slice-read-size (search needs) slice-read-size-2
+    (search needs) slice-read-size-3 (search needs) (search needs) (search needs) (search needs) returns-3
+    add-suffix-at add-t13 (search needs) (search needs) (search needs) (search needs) (search needs)
+    (search needs) returns-4)

@@ -3,11 +3,8 @@ use borrow.Author.Needs.{needs}
 use Rattle.block_iterator_v2.proofs.BlockIteratorV2.is_empty.Statement.{statement}
 use Rattle.block_iterator_v2.proofs.BlockIteratorV2.is_empty.Tie as tie
 
-is-empty-place-requires : tie.Need-is-empty-place-requires
-is-empty-place-requires c κs = search needs
-
 returns : tie.Need-returns
 returns c = c .is-empty-place .ensures _
 
 pub is-empty-spec : {M : Type 1} → statement M
-is-empty-spec = tie.close (tie.spec is-empty-place-requires returns)
+is-empty-spec = tie.close (tie.spec (search needs) returns)

@@ -4,13 +4,10 @@ use borrow.Author.Needs.{needs}
 use Rattle.block_iterator_v2.proofs.BlockIteratorV2.new.Statement.{statement}
 use Rattle.block_iterator_v2.proofs.BlockIteratorV2.new.Tie as tie
 
-open-place-requires : tie.Need-open-place-requires
-open-place-requires c κs = search needs
-
 returns : tie.Need-returns
 returns c =
     let m = c .before .open-place .ensures in
     record { answer = m .answer; view = m .view _; bytes = refl }
 
 pub new-spec : {M : Type 1} → statement M
-new-spec = tie.close (tie.spec open-place-requires returns)
+new-spec = tie.close (tie.spec (search needs) returns)

@@ -5,22 +5,10 @@ use borrow.Author.Needs.{needs}
 use Rattle.block_iterator_v2.proofs.BlockIteratorV2.next.Statement.{statement}
 use Rattle.block_iterator_v2.proofs.BlockIteratorV2.next.Tie as tie
 
-next-in-array-requires : tie.Need-next-in-array-requires
-next-in-array-requires c κs = search needs
-
-place-after-requires : tie.Need-place-after-requires
-place-after-requires c κs = search needs
-
-answer-of-requires : tie.Need-answer-of-requires
-answer-of-requires c κs = search needs
-
-same-length : tie.Need-same-length
-same-length c = search needs
-
 returns : tie.Need-returns
 returns c =
     let s = c .before .before .before .before .before .before .before .before .before in
     steps-put (s .before .args .t1) _ _ _ _ (c .before .before .before .before .next-in-array .ensures) (c .before .place-after .ensures) (c .answer-of .ensures)
 
 pub next-spec : {M : Type 1} → statement M
-next-spec = tie.close (tie.spec next-in-array-requires place-after-requires answer-of-requires same-length returns)
+next-spec = tie.close (tie.spec (search needs) (search needs) (search needs) (search needs) returns)

@@ -11,29 +11,8 @@ use Rattle.block_v2.proofs.BlockBuilderV2.add.Tie as tie
 long : (c : tie.Start) → length (c .args .t1 .«last_key») ≡ maxKey
 long c = search needs
 
-add-in-array-requires : tie.Need-add-in-array-requires
-add-in-array-requires c κs = search needs
-
-enum-known-grown : tie.Need-enum-known-grown
-enum-known-grown c = search needs
-
-enum-known-grown-2 : tie.Need-enum-known-grown-2
-enum-known-grown-2 c = search needs
-
-same-length : tie.Need-same-length
-same-length c = search needs
-
-same-length-2 : tie.Need-same-length-2
-same-length-2 c = search needs
-
 returns : tie.Need-returns
 returns c = adds-good _ _ _ _ _ (long (c .before .before .before .before .before .before .before .before .before .before .before .before .before .before .before .before)) (c .before .before .before .before .before .before .before .add-in-array .ensures) (c .before .grown .given .1)
-
-same-length-3 : tie.Need-same-length-3
-same-length-3 c = search needs
-
-same-length-4 : tie.Need-same-length-4
-same-length-4 c = search needs
 
 returns-2 : tie.Need-returns-2
 returns-2 c = adds-not _ _ _ _ _ (long (c .before .before .before .before .before .before .before .before .before .before .before .before .before .before .before .before)) (c .before .before .before .before .before .before .before .add-in-array .ensures) (c .before .grown2 .given .1)
@@ -42,12 +21,5 @@ pub add-spec : {M : Type 1} → statement M
 add-spec =
     tie.close
     (tie.spec
-    add-in-array-requires
-    enum-known-grown
-    enum-known-grown-2
-    same-length
-    same-length-2
-    returns
-    same-length-3
-    same-length-4
-    returns-2)
+    (search needs) (search needs) (search needs) (search needs) (search needs) returns (search needs)
+    (search needs) returns-2)

@@ -5,14 +5,8 @@ use Rattle.block_v2.proofs.Writes.{builds}
 use Rattle.block_v2.proofs.BlockBuilderV2.build.Statement.{statement}
 use Rattle.block_v2.proofs.BlockBuilderV2.build.Tie as tie
 
-build-in-place-requires : tie.Need-build-in-place-requires
-build-in-place-requires c κs = search needs
-
-same-length : tie.Need-same-length
-same-length c = search needs
-
 returns : tie.Need-returns
 returns c = builds _ _ _ (c .before .before .build-in-place .ensures)
 
 pub build-spec : {M : Type 1} → statement M
-build-spec = tie.close (tie.spec build-in-place-requires same-length returns)
+build-spec = tie.close (tie.spec (search needs) (search needs) returns)

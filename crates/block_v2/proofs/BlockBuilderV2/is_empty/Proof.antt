@@ -3,11 +3,8 @@ use borrow.Author.Needs.{needs}
 use Rattle.block_v2.proofs.BlockBuilderV2.is_empty.Statement.{statement}
 use Rattle.block_v2.proofs.BlockBuilderV2.is_empty.Tie as tie
 
-is-empty-state-requires : tie.Need-is-empty-state-requires
-is-empty-state-requires c κs = search needs
-
 returns : tie.Need-returns
 returns c = c .is-empty-state .ensures _
 
 pub is-empty-spec : {M : Type 1} → statement M
-is-empty-spec = tie.close (tie.spec is-empty-state-requires returns)
+is-empty-spec = tie.close (tie.spec (search needs) returns)

@@ -4,13 +4,10 @@ use borrow.Author.Needs.{needs}
 use Rattle.block_v2.proofs.BlockBuilderV2.new_with_restart_interval.Statement.{statement}
 use Rattle.block_v2.proofs.BlockBuilderV2.new_with_restart_interval.Tie as tie
 
-new-state-requires : tie.Need-new-state-requires
-new-state-requires c κs = search needs
-
 returns : tie.Need-returns
 returns c =
     let m = c .before .new-state .ensures in
     record { answer = m .answer; view = m .view _; key-bytes = refl }
 
 pub new-with-restart-interval-spec : {M : Type 1} → statement M
-new-with-restart-interval-spec = tie.close (tie.spec new-state-requires returns)
+new-with-restart-interval-spec = tie.close (tie.spec (search needs) returns)

@@ -5,11 +5,8 @@ use Rattle.block_v2.proofs.Writes.{fits}
 use Rattle.block_v2.proofs.BlockBuilderV2.would_fit.Statement.{statement}
 use Rattle.block_v2.proofs.BlockBuilderV2.would_fit.Tie as tie
 
-would-fit-in-place-requires : tie.Need-would-fit-in-place-requires
-would-fit-in-place-requires c κs = search needs
-
 returns : tie.Need-returns
 returns c = fits _ _ _ _ _ (search needs) (c .would-fit-in-place .ensures)
 
 pub would-fit-spec : {M : Type 1} → statement M
-would-fit-spec = tie.close (tie.spec would-fit-in-place-requires returns)
+would-fit-spec = tie.close (tie.spec (search needs) returns)

@@ -6,7 +6,7 @@ use mathlib.Core.Logic.{_⊎_, inl, inr}
 use native.Mathlib.Omega.{arith}
 use lib.Dec.{ltb, eqb}
 use borrow.Author.Tests.{ltb-true, ltb-false, eqb-true, eqb-false}
-use Rattle.layout.specs.Answer.{Res, ok, refuse, bind, whether, guard}
+use Rattle.layout.specs.Res.{Res, ok, refuse, bind, whether, guard}
 
 -- what a test tells, both ways
 pub ltb-cases : (a b : ℕ) → ((ltb a b ≡ true) × (a < b)) ⊎ ((ltb a b ≡ false) × (b ≤ a))
