@@ -1,7 +1,7 @@
 -- How the walk over the rows stands before a region, and what the walk of a region leaves. These are the terms of the contract of `check_region`.
 use Prim.Native.Nat.{ℕ, _≤_, _<_}
 use mathlib.Core.Path.{_≡_}
-use mathlib.Core.List.{List, []}
+use mathlib.Core.List.{List}
 use Rattle.layout.specs.Res.{Res, refuse}
 use Rattle.layout.specs.Check.{passedIs, checkFrom}
 use Rattle.layout.specs.Key.{noRank}

@@ -9,7 +9,7 @@ use Rattle.layout.specs.Cursor.{Step, next}
 use Rattle.layout.specs.Seek.{Sought, seek}
 use Rattle.basics.specs.Answers.{apart}
 use Rattle.basics.specs.Says.{saysOrder}
-use Rattle.step_in_place_v2.specs.declared.Place.{Place}
+use Rattle.place_v2.specs.declared.Place.{Place}
 use Rattle.step_in_place_v2.specs.declared.Moved.{Moved}
 use Rattle.step_in_place_v2.specs.declared.Moved.the-variants.{Found as StepFound, Done as StepDone, Refused as StepRefused}
 use Rattle.step_in_place_v2.specs.Promise.{Kept, Moves}

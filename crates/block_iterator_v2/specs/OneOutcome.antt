@@ -11,8 +11,8 @@ use Rattle.basics.specs.Answers.{saysVerdict-one}
 use Rattle.basics.specs.Says.{saysOrder}
 use Rattle.basics.specs.declared.IterationOrder.{IterationOrder}
 use Rattle.basics.specs.declared.Verdict.{Verdict}
-use Rattle.step_in_place_v2.specs.Says.{saysEmpty-one}
-use Rattle.step_in_place_v2.specs.declared.EmptyRead.{EmptyRead}
+use Rattle.place_v2.specs.Says.{saysEmpty-one}
+use Rattle.place_v2.specs.declared.EmptyRead.{EmptyRead}
 use Rattle.block_iterator_v2.specs.declared.BlockIteratorV2.{BlockIteratorV2}
 use Rattle.block_iterator_v2.specs.declared.Opened.{Opened}
 use Rattle.block_iterator_v2.specs.declared.Next.{Next}

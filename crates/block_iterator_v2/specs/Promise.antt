@@ -11,8 +11,9 @@ use Rattle.layout.specs.Seek.{Sought as SoughtL, seek, soughtAfter}
 use Rattle.basics.specs.Answers.{saysVerdict}
 use Rattle.basics.specs.Says.{saysOrder}
 use Rattle.basics.specs.declared.IterationOrder.{IterationOrder}
-use Rattle.step_in_place_v2.specs.Says.{saysEmpty, told}
-use Rattle.step_in_place_v2.specs.declared.EmptyRead.{EmptyRead}
+use Rattle.step_in_place_v2.specs.Says.{told}
+use Rattle.place_v2.specs.Says.{saysEmpty}
+use Rattle.place_v2.specs.declared.EmptyRead.{EmptyRead}
 use Rattle.seek_in_place_v2.specs.Says.{reported}
 use Rattle.block_iterator_v2.specs.declared.BlockIteratorV2.{BlockIteratorV2}
 use Rattle.block_iterator_v2.specs.declared.Opened.{Opened}

@@ -9,8 +9,9 @@ use Rattle.layout.specs.Laws.Res.{ok-inj}
 use Rattle.basics.specs.Answers.{apart, refused-one}
 use Rattle.basics.specs.Number.{number}
 use Rattle.row_decode_v2.specs.Says.{rowFrom, rowFrom-one}
-use Rattle.step_in_place_v2.specs.declared.Place.{Place}
-use Rattle.step_in_place_v2.specs.Says.{viewIn, Told, row, none, viewIn-one, told-row, told-apart}
+use Rattle.place_v2.specs.declared.Place.{Place}
+use Rattle.step_in_place_v2.specs.Says.{Told, row, none, told-row, told-apart}
+use Rattle.place_v2.specs.Says.{viewIn, viewIn-one}
 use Rattle.seek_in_place_v2.specs.Says.{Report, reportIs, over-apart}
 use Rattle.block_iterator_v2.specs.declared.BlockIteratorV2.{BlockIteratorV2}
 use Rattle.block_iterator_v2.specs.declared.NextAnswer.{NextAnswer}

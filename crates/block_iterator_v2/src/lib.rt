@@ -9,7 +9,8 @@ ghost use Rattle.layout.specs.Limits.{maxKey};
 ghost use Rattle.layout.specs.Seek.{seek};
 ghost use Rattle.basics.specs.Says.{saysOrder};
 ghost use Rattle.step_in_place_v2.specs.Promise.{Moves};
-ghost use Rattle.step_in_place_v2.specs.Says.{viewIn, placeAfter};
+ghost use Rattle.step_in_place_v2.specs.Says.{placeAfter};
+ghost use Rattle.place_v2.specs.Says.{viewIn};
 ghost use Rattle.seek_in_place_v2.specs.Promise.{Finds};
 ghost use Rattle.seek_in_place_v2.specs.Says.{placeFound};
 ghost use Rattle.block_iterator_v2.specs.Parts.{answerOf, answerFound};
@@ -17,11 +18,11 @@ ghost use Rattle.block_iterator_v2.specs.Promise.{Opens, StepsNext, Seek
 use basics::IterationOrder;
 use basics::Refusal;
 use basics::Verdict;
+use place_v2::EmptyRead;
+use place_v2::Place;
 use row_decode_v2::Row;
 use seek_in_place_v2::Found;
-use step_in_place_v2::EmptyRead;
 use step_in_place_v2::Moved;
-use step_in_place_v2::Place;
 
 // A cursor: its place, and beside it the bytes of the key before, of which the first `place.key_len` tell. A fresh one has `[0; basics::MAX_KEY]` and length 0.
 pub struct BlockIteratorV2 {
@@ -126,7 +127,7 @@ impl BlockIteratorV2 {
     pub fn new(block: &[u8], order: IterationOrder) -> Opened
         ensures { λ r. ⌜ Opens (now (block .entry)) order r ⌝ }
     {
-        let opened = step_in_place_v2::open_place(block, order);
+        let opened = place_v2::open_place(block, order);
         let place = opened.place;
         let answer = opened.answer;
         let iterator = BlockIteratorV2 {
@@ -140,7 +141,7 @@ impl BlockIteratorV2 {
     pub fn is_empty(self, block: &[u8]) -> EmptyRead
         ensures { λ r. ⌜ TellsEmpty self (now (block .entry)) r ⌝ }
     {
-        step_in_place_v2::is_empty_place(self.place, block)
+        place_v2::is_empty_place(self.place, block)
     }
 
     // One step, made on the cursor's place and its key where it lies; then the place is put back.

@@ -24,8 +24,8 @@ use Rattle.basics.specs.Answers.{apart}
 use Rattle.basics.specs.Number.{number}
 use Rattle.basics.specs.Says.{saysOrder}
 use Rattle.basics.specs.declared.Refusal.{Refusal}
-use Rattle.step_in_place_v2.specs.Says.{viewIn}
-use Rattle.step_in_place_v2.specs.declared.Place.{Place}
+use Rattle.place_v2.specs.Says.{viewIn}
+use Rattle.place_v2.specs.declared.Place.{Place}
 use Rattle.row_words.specs.Words.{badWords, doneCode, codeOf, cursorIn, cursorWords, heldWords, timeWords, rowWords, rowCount}
 use Rattle.row_words.specs.Promise.{Stores}
 use Rattle.row_words.proofs.Laws.{stored}

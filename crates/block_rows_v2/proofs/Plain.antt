@@ -25,8 +25,8 @@ use Rattle.buf_mut.specs.declared.Put.{Put}
 use Rattle.buf_mut.proofs.Laws.{copied, copied-part}
 use Rattle.row_plain_v2.specs.Promise.{plainFrom}
 use Rattle.row_plain_v2.specs.declared.PlainRow.{PlainRow}
-use Rattle.step_in_place_v2.specs.Says.{viewIn}
-use Rattle.step_in_place_v2.specs.declared.Place.{Place}
+use Rattle.place_v2.specs.Says.{viewIn}
+use Rattle.place_v2.specs.declared.Place.{Place}
 use Rattle.row_words.specs.Words.{rowWords, rowCount}
 use Rattle.region_rows_v2.specs.Bounds.{Inside}
 use Rattle.region_rows_v2.specs.Region.{PlainFits, movedTo, rowHere, keyHere, here-step, here-parts, here-long, here-over, here-stays, here-inside}

@@ -11,8 +11,8 @@ use Rattle.layout.specs.Place.{splice}
 use Rattle.basics.specs.Number.{number}
 use Rattle.step_in_place_v2.specs.Promise.{Kept}
 use Rattle.row_plain_v2.specs.declared.PlainRow.{PlainRow}
-use Rattle.step_in_place_v2.specs.Says.{viewIn}
-use Rattle.step_in_place_v2.specs.declared.Place.{Place}
+use Rattle.place_v2.specs.Says.{viewIn}
+use Rattle.place_v2.specs.declared.Place.{Place}
 use Rattle.row_words.specs.Words.{doneCode, setBy, cursorWords, rowCount}
 use Rattle.block_rows_v2.specs.declared.Gave.{Gave}
 use Rattle.block_rows_v2.specs.declared.Gave.the-variants.{Rows, Refused}

@@ -13,7 +13,7 @@ ghost use Rattle.layout.specs.Plain.{plainRead};
 ghost use Rattle.row_decode_v2.specs.Says.{rowFrom};
 ghost use Rattle.row_plain_v2.specs.Promise.{plainFrom};
 ghost use Rattle.trailer.specs.Says.{regionFrom};
-ghost use Rattle.step_in_place_v2.specs.Says.{viewIn};
+ghost use Rattle.place_v2.specs.Says.{viewIn};
 ghost use Rattle.row_words.specs.Words.{cursorCount, rowCount, rowWords};
 ghost use Rattle.block_rows_v2.specs.Rows.{nextRows};
 ghost use Rattle.block_rows_v2.specs.Promise.{mostRows, RowsFlat};
@@ -25,11 +25,11 @@ use basics::Refusal;
 use basics::Time;
 use basics::ValueDeletable;
 use block_words::CursorRead;
+use place_v2::Place;
 use region_rows_v2::Bounds;
 use row_decode_v2::Row;
 use row_plain_v2::PlainRow;
 use step_in_place_v2::Moved;
-use step_in_place_v2::Place;
 
 // The cursor past the rows that were given, how many these are, and whether "done" came at once; or the refusal of the first row.
 enum Gave {

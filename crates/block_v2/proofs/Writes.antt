@@ -1,24 +1,22 @@
 -- The promises of the builder's methods, from what `build_in_place_v2` did with its numbers and the bytes of its last key: these are always as many as the longest
 -- key has, so nothing is refused for them.
-use Prim.Native.Nat.{ℕ, _≤_}
+use Prim.Native.Nat.{ℕ}
 use mathlib.Core.Path.{_≡_, refl, ap, sym, _∙_}
 use mathlib.Core.List.{List}
-use native.Mathlib.Nat.{zero-add}
 use native.Mathlib.Omega.{arith}
-use lib.ListN.{length, take}
+use lib.ListN.{length}
 use Rattle.layout.specs.Limits.{maxKey}
 use Rattle.layout.specs.Res.{Res, ok, bind}
 use Rattle.layout.specs.Builder.{wouldFit, grown, add}
 use Rattle.layout.specs.Key.{Key}
-use Rattle.layout.specs.Place.{splice}
 use Rattle.layout.specs.Row.{Fields}
 use Rattle.layout.specs.Laws.Made.{add-tells}
 use Rattle.layout.specs.Laws.Splice.{key-over}
 use Rattle.basics.specs.declared.Refusal.{Refusal}
 use Rattle.basics.specs.declared.Verdict.the-variants.{Good, Refused}
 use Rattle.build_in_place_v2.specs.Promise.{entered, AddsInPlaceAs, Finishes}
-use Rattle.build_in_place_v2.specs.Says.{stateFrom}
-use Rattle.build_in_place_v2.specs.declared.State.{State}
+use Rattle.state_v2.specs.Says.{stateFrom}
+use Rattle.state_v2.specs.declared.State.{State}
 use Rattle.build_in_place_v2.specs.declared.BuildAnswer.{BuildAnswer}
 use Rattle.build_in_place_v2.specs.declared.Grown.{Grown}
 use Rattle.build_in_place_v2.specs.declared.Grown.the-variants.{Row as GrownRow, Refused as GrownRefused}

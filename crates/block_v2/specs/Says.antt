@@ -4,8 +4,8 @@ use mathlib.Core.List.{List}
 use lib.ListN.{replicate}
 use Rattle.layout.specs.Limits.{maxKey}
 use Rattle.layout.specs.Builder.{Builder}
-use Rattle.build_in_place_v2.specs.Says.{viewFrom}
-use Rattle.build_in_place_v2.specs.declared.State.{State}
+use Rattle.state_v2.specs.Says.{viewFrom}
+use Rattle.state_v2.specs.declared.State.{State}
 use Rattle.block_v2.specs.declared.BlockBuilderV2.{BlockBuilderV2}
 
 abbrev pub viewOf : BlockBuilderV2 → Builder

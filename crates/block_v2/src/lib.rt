@@ -8,8 +8,8 @@ ghost use Rattle.block_v2.specs.Promise.{Makes, Fits, Adds, Empties, Bui
 use basics::Verdict;
 use build_in_place_v2::BuildAnswer;
 use build_in_place_v2::Grown;
-use build_in_place_v2::State;
 use row_flags::RowFields;
+use state_v2::State;
 
 // A builder's numbers, and beside them the bytes of the most recent key, of which the first `state.last_key_len` tell.
 pub struct BlockBuilderV2 {
@@ -60,7 +60,7 @@ impl BlockBuilderV2 {
     pub fn new_with_restart_interval(block_size: usize, restart_interval: usize) -> New
         ensures { λ r. ⌜ Makes «block_size» «restart_interval» r ⌝ }
     {
-        let new = build_in_place_v2::new_state(block_size, restart_interval);
+        let new = state_v2::new_state(block_size, restart_interval);
         let state = new.state;
         let answer = new.answer;
         let builder = BlockBuilderV2 {
@@ -126,7 +126,7 @@ impl BlockBuilderV2 {
     pub fn is_empty(self) -> bool
         ensures { λ r. ⌜ Empties self r ⌝ }
     {
-        build_in_place_v2::is_empty_state(self.state)
+        state_v2::is_empty_state(self.state)
     }
 
     // Builds the final block at the start of the data buffer, and answers its length: 18, 7, 6. The builder is given back as it came.

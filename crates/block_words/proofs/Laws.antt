@@ -20,10 +20,10 @@ use Rattle.basics.specs.Answers.{apart, yes}
 use Rattle.basics.specs.Says.{saysOrder}
 use Rattle.block_v2.specs.Says.{builderFrom as builderOver}
 use Rattle.block_v2.specs.declared.BlockBuilderV2.{BlockBuilderV2}
-use Rattle.build_in_place_v2.specs.declared.State.{State}
+use Rattle.state_v2.specs.declared.State.{State}
 use Rattle.block_iterator_v2.specs.Says.{viewOf}
 use Rattle.block_iterator_v2.specs.declared.BlockIteratorV2.{BlockIteratorV2}
-use Rattle.step_in_place_v2.specs.declared.Place.{Place}
+use Rattle.place_v2.specs.declared.Place.{Place}
 use Rattle.row_words.specs.Words.{badWords, truthIn, orderIn, wordAt, cursorFrom, cursorIn, cursorWords, builderCount, cursorCount}
 use Rattle.block_words.specs.Says.{saysCursor, saysState, stateIn}
 use Rattle.block_words.specs.declared.CursorRead.the-variants.{Is as IsCursor}

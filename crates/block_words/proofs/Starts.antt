@@ -13,8 +13,8 @@ use Rattle.layout.specs.Limits.{maxKey}
 use Rattle.layout.specs.Laws.Res.{bind-then, guard-then, ok-inj}
 use Rattle.row_flags.specs.Says.{fieldsFrom}
 use Rattle.row_flags.specs.declared.RowFields.{RowFields}
-use Rattle.build_in_place_v2.specs.Says.{viewFrom, stateFrom}
-use Rattle.build_in_place_v2.specs.declared.State.{State}
+use Rattle.state_v2.specs.Says.{viewFrom, stateFrom}
+use Rattle.state_v2.specs.declared.State.{State}
 use Rattle.row_words.specs.Words.{badWords, counted, cursorIn, builderFrom, fieldsIn, builderCount, rowCount}
 use Rattle.row_words.proofs.Laws.{counted-not, counted-so}
 use Rattle.block_words.specs.Says.{stateIn, Gain, gainIs}

@@ -11,8 +11,9 @@ use Rattle.layout.specs.Limits.{maxKey}
 use Rattle.layout.specs.RowRead.{RowRead as RowReadL}
 use Rattle.layout.specs.Laws.Res.{ok-inj}
 use Rattle.basics.specs.Answers.{apart}
-use Rattle.step_in_place_v2.specs.Says.{viewIn, row as row-told, none, toldOf, told, told-row, told-apart}
-use Rattle.step_in_place_v2.specs.declared.Place.{Place}
+use Rattle.step_in_place_v2.specs.Says.{row as row-told, none, toldOf, told, told-row, told-apart}
+use Rattle.place_v2.specs.Says.{viewIn}
+use Rattle.place_v2.specs.declared.Place.{Place}
 use Rattle.row_words.specs.Words.{badWords, doneCode, codeOf, counted, cursorIn, cursorWords, rowWords, rowCount}
 use Rattle.block_words.specs.Exports.{StepsAs, StepsFlat}
 use Rattle.block_words.proofs.Starts.{step-bad}

@@ -10,8 +10,8 @@ use Rattle.layout.specs.Cursor.{Cursor, next}
 use Rattle.layout.specs.Key.{Key}
 use Rattle.layout.specs.Limits.{maxKey}
 use Rattle.block_v2.specs.declared.BlockBuilderV2.{BlockBuilderV2}
-use Rattle.build_in_place_v2.specs.declared.State.{State}
-use Rattle.step_in_place_v2.specs.declared.Place.{Place}
+use Rattle.state_v2.specs.declared.State.{State}
+use Rattle.place_v2.specs.declared.Place.{Place}
 use Rattle.block_iterator_v2.specs.declared.BlockIteratorV2.{BlockIteratorV2}
 use Rattle.block_words.specs.declared.OrderRead.{OrderRead}
 use Rattle.block_words.specs.declared.CursorRead.{CursorRead}

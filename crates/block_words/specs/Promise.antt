@@ -9,11 +9,11 @@ use Rattle.layout.specs.Res.{Res, ok, bind}
 use Rattle.layout.specs.Limits.{maxKey}
 use Rattle.layout.specs.Place.{afterPut}
 use Rattle.block_v2.specs.Says.{builderFrom as builderOver}
-use Rattle.build_in_place_v2.specs.Says.{viewFrom}
+use Rattle.state_v2.specs.Says.{viewFrom}
 use Rattle.block_v2.specs.declared.BlockBuilderV2.{BlockBuilderV2}
-use Rattle.build_in_place_v2.specs.declared.State.{State}
-use Rattle.step_in_place_v2.specs.Says.{viewIn}
-use Rattle.step_in_place_v2.specs.declared.Place.{Place}
+use Rattle.state_v2.specs.declared.State.{State}
+use Rattle.place_v2.specs.Says.{viewIn}
+use Rattle.place_v2.specs.declared.Place.{Place}
 use Rattle.block_iterator_v2.specs.Says.{viewOf}
 use Rattle.block_iterator_v2.specs.declared.BlockIteratorV2.{BlockIteratorV2}
 use Rattle.block_words.specs.declared.OrderRead.{OrderRead}

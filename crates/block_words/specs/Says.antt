@@ -8,15 +8,15 @@ use Rattle.layout.specs.Cursor.{Direction, Cursor}
 use Rattle.layout.specs.Row.{Fields}
 use Rattle.layout.specs.Laws.Res.{ok-inj}
 use Rattle.block_iterator_v2.specs.declared.BlockIteratorV2.{BlockIteratorV2}
-use Rattle.build_in_place_v2.specs.declared.State.{State}
-use Rattle.build_in_place_v2.specs.Says.{viewFrom, stateFrom}
+use Rattle.state_v2.specs.declared.State.{State}
+use Rattle.state_v2.specs.Says.{viewFrom, stateFrom}
 use Rattle.row_flags.specs.Says.{fieldsFrom}
 use Rattle.row_flags.specs.declared.RowFields.{RowFields}
 use Rattle.row_words.specs.Says.{fieldsFrom-one}
 use Rattle.basics.specs.Answers.{apart}
 use Rattle.basics.specs.Says.{saysOrder, saysOrder-one}
-use Rattle.step_in_place_v2.specs.declared.Place.{Place}
-use Rattle.step_in_place_v2.specs.Says.{viewIn, viewIn-one}
+use Rattle.place_v2.specs.declared.Place.{Place}
+use Rattle.place_v2.specs.Says.{viewIn, viewIn-one}
 use Rattle.block_words.specs.declared.OrderRead.{OrderRead}
 use Rattle.block_words.specs.declared.OrderRead.the-variants.{Is as IsOrder, Bad as BadOrder}
 use Rattle.block_words.specs.declared.CursorRead.{CursorRead}

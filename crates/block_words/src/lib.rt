@@ -7,11 +7,11 @@ ghost use Rattle.block_words.specs.Promise.{LoadsOrder, LoadsCursor, Put
 use basics::IterationOrder;
 use block_iterator_v2::BlockIteratorV2;
 use block_v2::BlockBuilderV2;
-use build_in_place_v2::State;
+use place_v2::Place;
 use row_flags::RowFields;
 use row_words::FieldsRead;
 use row_words::TruthRead;
-use step_in_place_v2::Place;
+use state_v2::State;
 
 // ---- codes: beside these, the number of a refusal
 

@@ -13,7 +13,7 @@ use borrow.Author.Tests.{eq-eqb, ne-eqb}
 use borrow.Rule.Slice.PartMut.{midOf, putMid, mid-len}
 use Rattle.layout.specs.Res.{Res, ok, refuse, bind}
 use Rattle.layout.specs.Block.{trailer}
-use Rattle.layout.specs.Builder.{Builder, fresh, newBuilder, stateTests, atRestart, nextRow, presentSize, wouldFit, grown, add, build}
+use Rattle.layout.specs.Builder.{Builder, stateTests, atRestart, nextRow, presentSize, wouldFit, grown, add, build}
 use Rattle.layout.specs.Key.{Key}
 use Rattle.layout.specs.Limits.{maxKey, maxOffset}
 use Rattle.layout.specs.Place.{splice}
@@ -30,8 +30,7 @@ use Rattle.layout.specs.Laws.Trailer.{length-trailer}
 use Rattle.basics.specs.Answers.{apart}
 use Rattle.basics.specs.Number.{number}
 use Rattle.basics.specs.declared.Refusal.{Refusal}
-use Rattle.basics.specs.declared.Refusal.the-variants.{EmptyBlock, BadSettings, BadState}
-use Rattle.basics.specs.declared.Verdict.the-variants.{Good, Refused as NotGood}
+use Rattle.basics.specs.declared.Refusal.the-variants.{EmptyBlock, BadState}
 use Rattle.buf_mut.specs.Promise.{Puts}
 use Rattle.buf_mut.specs.declared.Put.{Put}
 use Rattle.buf_mut.specs.declared.Put.the-variants.{At, Refused as PutRefused}
@@ -41,24 +40,15 @@ use Rattle.row_flags.specs.Says.{fieldsFrom}
 use Rattle.row_encode_v2.specs.declared.Encoded.{Encoded}
 use Rattle.row_encode_v2.specs.declared.Encoded.the-variants.{Bytes as EncodedBytes, Refused as EncodedRefused}
 use Rattle.row_flags.specs.declared.RowFields.{RowFields}
-use Rattle.build_in_place_v2.specs.declared.State.{State}
+use Rattle.state_v2.specs.declared.State.{State}
 use Rattle.build_in_place_v2.specs.declared.BuildAnswer.the-variants.{Block, Refused as BuildRefused}
 use Rattle.build_in_place_v2.specs.declared.Grown.{Grown}
 use Rattle.build_in_place_v2.specs.declared.Grown.the-variants.{Row as GrownRow, Refused as GrownRefused}
-use Rattle.build_in_place_v2.specs.Says.{viewFrom, stateFrom}
+use Rattle.state_v2.specs.Says.{viewFrom}
 use Rattle.build_in_place_v2.specs.Plan.{Plan, planIs, planOf, fitted, accepted, Tested, Fitting, Grew}
-use Rattle.build_in_place_v2.specs.Promise.{MakesState, entered, AddsInPlaceAs, Ends}
+use Rattle.build_in_place_v2.specs.Promise.{entered, AddsInPlaceAs, Ends}
 use Rattle.build_in_place_v2.proofs.Plain.{over-last}
 use Rattle.build_in_place_v2.proofs.Tests.{passed-not, passed, accepted-tells}
-
--- ---- a new builder
-
-module _ (size interval : ℕ) where
-  pub made-not : {s : State} → s ≡ stateFrom (fresh 0 1) → newBuilder size interval ≡ refuse 8 → MakesState size interval (record { state = s; answer = NotGood BadSettings })
-  made-not e q = rw (e, q) (record { answer = refl; view = λ last. refl })
-
-  pub made-good : {s : State} → s ≡ stateFrom (fresh size interval) → newBuilder size interval ≡ ok (fresh size interval) → MakesState size interval (record { state = s; answer = Good })
-  made-good e q = rw (e, q) (record { answer = refl; view = λ last. refl })
 
 -- ---- a row that passed the tests
 

@@ -1,27 +1,16 @@
 -- Each promise admits one outcome: two results, with the buffers that they leave, that both keep it are equal.
 use Prim.Native.Nat.{ℕ}
-use mathlib.Core.Path.{_≡_, ap, ap₂, sym, _∙_}
-use mathlib.Core.Bool.{Bool}
+use mathlib.Core.Path.{_≡_, sym, _∙_}
 use mathlib.Core.List.{List, []}
 use Rattle.layout.specs.Key.{Key}
 use Rattle.basics.specs.Answers.{saysVerdict-one}
 use Rattle.basics.specs.declared.Verdict.{Verdict}
 use Rattle.row_flags.specs.declared.RowFields.{RowFields}
-use Rattle.build_in_place_v2.specs.declared.State.{State}
-use Rattle.build_in_place_v2.specs.declared.NewState.{NewState}
+use Rattle.state_v2.specs.declared.State.{State}
 use Rattle.build_in_place_v2.specs.declared.Grown.{Grown}
 use Rattle.build_in_place_v2.specs.declared.BuildAnswer.{BuildAnswer}
-use Rattle.build_in_place_v2.specs.Promise.{MakesState, TellsStateEmpty, FitsInPlace, AddsInPlace, Finishes}
-use Rattle.build_in_place_v2.specs.Says.{stateFrom, saysGrown-one, saysBuild-one}
-
-pub new-state-settled : (size interval : ℕ) (r q : NewState) → MakesState size interval r → MakesState size interval q → r ≡ q
-new-state-settled size interval r q a b =
-    ap₂ (λ (x : State) (y : Verdict). record { state = x; answer = y })
-    (ap stateFrom (a .view [] ∙ sym (b .view [])))
-    (saysVerdict-one (r .answer) (q .answer) (a .answer ∙ sym (b .answer)))
-
-pub is-empty-state-settled : (s : State) (r q : Bool) → TellsStateEmpty s r → TellsStateEmpty s q → r ≡ q
-is-empty-state-settled s r q a b = a [] ∙ sym (b [])
+use Rattle.build_in_place_v2.specs.Promise.{FitsInPlace, AddsInPlace, Finishes}
+use Rattle.build_in_place_v2.specs.Says.{saysGrown-one, saysBuild-one}
 
 pub would-fit-in-place-settled : (s : State) (last : List ℕ) (dataLen placesLen : ℕ) (key : Key) (value : List ℕ) (row : RowFields) (r q : Verdict)
     → FitsInPlace s last dataLen placesLen key value row r → FitsInPlace s last dataLen placesLen key value row q → r ≡ q

@@ -19,11 +19,11 @@ use Rattle.row_flags.specs.Says.{fieldsFrom}
 use Rattle.row_flags.specs.declared.RowFields.{RowFields}
 use Rattle.row_size_v2.specs.Promise.{Sizes}
 use Rattle.row_size_v2.specs.declared.Sized.{Sized}
-use Rattle.build_in_place_v2.specs.declared.State.{State}
+use Rattle.state_v2.specs.declared.State.{State}
 use Rattle.build_in_place_v2.specs.declared.Found.{Found}
 use Rattle.build_in_place_v2.specs.declared.Planned.{Planned}
 use Rattle.build_in_place_v2.specs.declared.Planned.the-variants.{Row as PlannedRow, Refused as PlannedRefused}
-use Rattle.build_in_place_v2.specs.Says.{viewFrom, stateFrom}
+use Rattle.state_v2.specs.Says.{viewFrom, stateFrom}
 
 -- ---- tested
 

@@ -1,12 +1,12 @@
 -- What each public function promises: equations to the definitions of `layout`, that settle each number answered and each byte lent.
 use Prim.Native.Nat.{ℕ}
 use mathlib.Core.Path.{_≡_}
-use mathlib.Core.Bool.{Bool, not}
+use mathlib.Core.Bool.{not}
 use mathlib.Core.List.{List}
 use lib.Dec.{eqb}
 use lib.ListN.{length}
-use Rattle.layout.specs.Res.{Res, ok, refuse, bind, guard, whether}
-use Rattle.layout.specs.Builder.{Builder, newBuilder, built, hasNoRows, wouldFit, add, dataAfter, placesAfter, build, blockAfter}
+use Rattle.layout.specs.Res.{Res, ok, refuse, bind, guard}
+use Rattle.layout.specs.Builder.{Builder, wouldFit, add, dataAfter, placesAfter, build, blockAfter}
 use Rattle.layout.specs.Key.{Key}
 use Rattle.layout.specs.Limits.{maxKey}
 use Rattle.layout.specs.Place.{splice}
@@ -15,23 +15,11 @@ use Rattle.basics.specs.Answers.{saysVerdict}
 use Rattle.basics.specs.declared.Verdict.{Verdict}
 use Rattle.row_flags.specs.Says.{fieldsFrom}
 use Rattle.row_flags.specs.declared.RowFields.{RowFields}
-use Rattle.build_in_place_v2.specs.declared.State.{State}
-use Rattle.build_in_place_v2.specs.declared.NewState.{NewState}
+use Rattle.state_v2.specs.declared.State.{State}
 use Rattle.build_in_place_v2.specs.declared.Grown.{Grown}
 use Rattle.build_in_place_v2.specs.declared.BuildAnswer.{BuildAnswer}
-use Rattle.build_in_place_v2.specs.Says.{viewFrom, stateFrom, saysGrown, saysBuild}
-
--- the builder that is wanted, or beside a refusal the zero one, whatever bytes its last key lies in
-pub record MakesStateAs (want : Res Builder) (r : NewState) : Type 0 where
-  pub answer : saysVerdict (r .answer) ≡ whether want
-  pub view : (last : List ℕ) → viewFrom (r .state) last ≡ built want
-
-abbrev pub MakesState : ℕ → ℕ → NewState → Type 0
-MakesState size interval r = MakesStateAs (newBuilder size interval) r
-
--- whatever the last key's bytes are
-abbrev pub TellsStateEmpty : State → Bool → Type 0
-TellsStateEmpty s r = (last : List ℕ) → r ≡ hasNoRows (viewFrom s last)
+use Rattle.build_in_place_v2.specs.Says.{saysGrown, saysBuild}
+use Rattle.state_v2.specs.Says.{viewFrom, stateFrom}
 
 -- the builder of these numbers and of the lent bytes of its last key, which must be as many as the longest key has: 18
 abbrev pub entered : State → List ℕ → Res Builder

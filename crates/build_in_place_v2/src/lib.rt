@@ -1,4 +1,4 @@
-// A V2 block's builder as its numbers, beside the lent bytes of its last key: a new one, whether it is empty, whether a row would fit, a row added, the block built.
+// A V2 block's builder as its numbers, beside the lent bytes of its last key: whether a row would fit, a row added, the block built.
 // The rows' bytes and the restarts' offsets are in buffers that are lent too.
 // Follows slatedb 0.16.0, src/format/block_v2.rs (Apache License 2.0), and is changed: the numbers come in and go out by value, rows go into the free rest of the lent
 // data buffer, the last key's bytes are worked on where they lie, and what the row, the room or the numbers themselves can break is a refusal. A refused call
@@ -9,22 +9,23 @@ ghost use Prim.Native.Nat.{_≤_, _<_, _+_, _*_, _^_};
 ghost use lib.Dec.{ltb, leb, eqb};
 ghost use lib.ListN.{length, take, drop, set};
 ghost use Rattle.layout.specs.Block.{isRestart, shareOf};
-ghost use Rattle.layout.specs.Builder.{fresh, restartsOf};
+ghost use Rattle.layout.specs.Builder.{restartsOf};
 ghost use Rattle.layout.specs.Key.{common};
 ghost use Rattle.layout.specs.Limits.{maxKey, maxBlock, maxInterval, maxOffset, maxRestarts};
 ghost use Rattle.layout.specs.Row.{ifSo, rowBytes};
 ghost use Rattle.layout.specs.Varint.{varint};
 ghost use Rattle.layout.specs.Laws.Splice.{Wrote};
 ghost use Rattle.row_flags.specs.Says.{fieldsFrom};
-ghost use Rattle.build_in_place_v2.specs.Says.{viewFrom, stateFrom};
+ghost use Rattle.state_v2.specs.Says.{viewFrom};
 ghost use Rattle.build_in_place_v2.specs.Plan.{Judges, SizesRow, fitted, accepted, Plans, plannedRefusal, foundIs, Finds, Tested, Fitting, plainBytes, PlainFits, Grew};
-ghost use Rattle.build_in_place_v2.specs.Promise.{MakesState, TellsStateEmpty, FitsInPlace, AddsInPlace, Finishes};
+ghost use Rattle.build_in_place_v2.specs.Promise.{FitsInPlace, AddsInPlace, Finishes};
 use basics::Refusal;
 use basics::Verdict;
 use buf_mut::Put;
 use row_encode_v2::Encoded;
 use row_flags::RowFields;
 use row_size_v2::Sized;
+use state_v2::State;
 
 const SIZEOF_U16: usize = 2;
 
@@ -34,24 +35,6 @@ fn compute_prefix(last: &[u8], last_len: usize, key: &[u8]) -> usize
     ensures { λ r. ⌜ r ≡ common (take «last_len» (now (last .entry))) (now (key .entry)) ⌝ }
 {
     keys::common_prefix(&last[..last_len], key)
-}
-
-// A builder without the bytes of its last key: those stay where they are, to compute the shared prefix. Bytes past the key's length tell nothing.
-pub struct State {
-    pub block_size: usize,
-    pub restart_interval: usize,
-    // How much of the data buffer is used, and how many places of the restart buffer.
-    pub used: usize,
-    pub restarts: usize,
-    // How many rows there are.
-    pub counter: usize,
-    pub last_key_len: usize,
-}
-
-// A refused constructor gives the numbers of a builder of size 0 and interval 1, with nothing used, beside its refusal.
-pub struct NewState {
-    pub state: State,
-    pub answer: Verdict,
 }
 
 pub enum Grown {
@@ -80,51 +63,6 @@ struct Found {
     shared: usize,
     size: usize,
     restart: bool,
-}
-
-// ---- a new builder, and whether one is empty
-
-fn empty_state(block_size: usize, restart_interval: usize) -> State
-    ensures { λ r. ⌜ r ≡ stateFrom (fresh «block_size» «restart_interval») ⌝ }
-{
-    State {
-        block_size,
-        restart_interval,
-        used: 0,
-        restarts: 0,
-        counter: 0,
-        last_key_len: 0,
-    }
-}
-
-// A new builder with no row: 8.
-pub fn new_state(block_size: usize, restart_interval: usize) -> NewState
-    ensures { λ r. ⌜ MakesState «block_size» «restart_interval» r ⌝ }
-{
-    let bad = NewState {
-        state: empty_state(0, 1),
-        answer: Verdict::Refused(Refusal::BadSettings),
-    };
-    if basics::MAX_BLOCK < block_size {
-        return bad;
-    }
-    if restart_interval == 0 {
-        return bad;
-    }
-    if basics::MAX_INTERVAL < restart_interval {
-        return bad;
-    }
-    NewState {
-        state: empty_state(block_size, restart_interval),
-        answer: Verdict::Good,
-    }
-}
-
-// Whether there is no row. Any state answers.
-pub fn is_empty_state(s: State) -> bool
-    ensures { λ r. ⌜ TellsStateEmpty s r ⌝ }
-{
-    s.counter == 0
 }
 
 // ---- the state

@@ -22,8 +22,8 @@ use Rattle.basics.specs.Answers.{saysVerdict}
 use Rattle.basics.specs.declared.Verdict.the-variants.{Good, Refused}
 use Rattle.block_v2.specs.declared.Added.{Added}
 use Rattle.block_v2.specs.declared.BlockBuilderV2.{BlockBuilderV2}
-use Rattle.step_in_place_v2.specs.Says.{viewIn}
-use Rattle.step_in_place_v2.specs.declared.Place.{Place}
+use Rattle.place_v2.specs.Says.{viewIn}
+use Rattle.place_v2.specs.declared.Place.{Place}
 use Rattle.block_iterator_v2.specs.Promise.{StepsNext}
 use Rattle.block_iterator_v2.specs.Says.{viewOf, saysNext}
 use Rattle.block_iterator_v2.specs.declared.Next.{Next}

@@ -13,7 +13,7 @@ use block_iterator_v2::NextAnswer;
 use block_v2::BlockBuilderV2;
 use block_words::CursorRead;
 use block_words::OfferRead;
-use step_in_place_v2::Place;
+use place_v2::Place;
 
 // ---- building a block
 

@@ -20,7 +20,7 @@ use Rattle.basics.specs.Says.{saysOrder}
 use Rattle.basics.specs.declared.Refusal.{Refusal}
 use Rattle.basics.specs.declared.IterationOrder.{IterationOrder}
 use Rattle.block_iterator_v2.specs.Promise.{Opens}
-use Rattle.step_in_place_v2.specs.Says.{viewIn}
+use Rattle.place_v2.specs.Says.{viewIn}
 use Rattle.block_iterator_v2.specs.Says.{viewOf}
 use Rattle.block_iterator_v2.specs.declared.Opened.{Opened}
 use Rattle.basics.specs.declared.Verdict.the-variants.{Good as GoodOpen, Refused as OpenRefused}

@@ -14,8 +14,8 @@ use Rattle.layout.specs.Trailer.{Region}
 use Rattle.layout.specs.Cursor.{Cursor, found, stepIs, pastRow, next}
 use Rattle.row_plain_v2.specs.Promise.{plainFrom}
 use Rattle.row_plain_v2.specs.declared.PlainRow.{PlainRow}
-use Rattle.step_in_place_v2.specs.Says.{viewIn}
-use Rattle.step_in_place_v2.specs.declared.Place.{Place}
+use Rattle.place_v2.specs.Says.{viewIn}
+use Rattle.place_v2.specs.declared.Place.{Place}
 use Rattle.region_rows_v2.specs.Bounds.{Inside}
 use Rattle.region_rows_v2.specs.Region.{PlainFits, movedTo, rowHere, keyHere, here-tells, here-fits, here-step, here-carried, here-over, here-stays, here-inside}
 use Rattle.compare_walks.specs.Walk.{Walk}

@@ -19,10 +19,11 @@ use Rattle.basics.specs.declared.Refusal.{Refusal}
 use Rattle.row_decode_v2.specs.Says.{rowFrom}
 use Rattle.row_decode_v2.specs.declared.Row.{Row}
 use Rattle.step_in_place_v2.specs.Promise.{StepsInPlace}
-use Rattle.step_in_place_v2.specs.Says.{viewIn, row, none, told}
+use Rattle.step_in_place_v2.specs.Says.{row, none, told}
+use Rattle.place_v2.specs.Says.{viewIn}
 use Rattle.step_in_place_v2.specs.declared.Moved.{Moved}
 use Rattle.step_in_place_v2.specs.declared.Moved.the-variants.{Found, Done, Refused}
-use Rattle.step_in_place_v2.specs.declared.Place.{Place}
+use Rattle.place_v2.specs.declared.Place.{Place}
 
 -- ---- a row found: the step from c to d, whose key stands at the start of what the buffer then holds
 

@@ -10,7 +10,7 @@ use Rattle.layout.specs.Fixed.{unbig}
 use Rattle.layout.specs.Key.{Key}
 use Rattle.layout.specs.Place.{splice}
 use Rattle.row_plain_v2.specs.declared.PlainRow.{PlainRow}
-use Rattle.step_in_place_v2.specs.Says.{viewIn}
+use Rattle.place_v2.specs.Says.{viewIn}
 use Rattle.compare_walks.specs.declared.Ran.{Ran}
 use Rattle.compare_walks.specs.Walk.{lastByte, Walk, walkIs, walk}
 

@@ -10,7 +10,7 @@ ghost use Rattle.layout.specs.Limits.{maxKey};
 ghost use Rattle.basics.specs.Says.{saysHeld};
 ghost use Rattle.row_decode_v2.specs.Says.{rowFrom};
 ghost use Rattle.trailer.specs.Says.{regionFrom};
-ghost use Rattle.step_in_place_v2.specs.Says.{viewIn};
+ghost use Rattle.place_v2.specs.Says.{viewIn};
 ghost use Rattle.block_iterator_v2.specs.Says.{viewOf};
 ghost use Rattle.region_rows_v2.specs.Bounds.{Inside};
 ghost use Rattle.region_rows_v2.specs.Region.{PlainFits};
@@ -24,11 +24,11 @@ use basics::Verdict;
 use block_iterator_v2::BlockIteratorV2;
 use block_iterator_v2::NextAnswer;
 use block_words::OrderRead;
+use place_v2::Place;
 use region_rows_v2::Bounds;
 use row_decode_v2::Row;
 use row_plain_v2::PlainRow;
 use step_in_place_v2::Moved;
-use step_in_place_v2::Place;
 
 const SUMS_WORDS: usize = 2;
 

@@ -21,10 +21,11 @@ use Rattle.row_decode_v2.specs.Says.{rowFrom}
 use Rattle.row_decode_v2.specs.declared.Row.{Row}
 use Rattle.step_in_place_v2.specs.Lent.{lent-whole}
 use Rattle.step_in_place_v2.specs.Promise.{Moves, StepsInPlace}
-use Rattle.step_in_place_v2.specs.Says.{viewIn, row, none, told, toldOf, told-row, told-apart, saysMoved, placeAfter}
+use Rattle.step_in_place_v2.specs.Says.{row, none, told, toldOf, told-row, told-apart, saysMoved, placeAfter}
+use Rattle.place_v2.specs.Says.{viewIn}
 use Rattle.step_in_place_v2.specs.declared.Moved.{Moved}
 use Rattle.step_in_place_v2.specs.declared.Moved.the-variants.{Found, Done, Refused}
-use Rattle.step_in_place_v2.specs.declared.Place.{Place}
+use Rattle.place_v2.specs.declared.Place.{Place}
 
 -- a row found: the step from c to d, and its key, which stands at the start of the lent bytes then
 pub record Finds (b : List ℕ) (c d : Cursor) (r : RowRead) (out out′ : List ℕ) : Type 0 where

@@ -2,8 +2,8 @@
 use mathlib.Core.Path.{_≡_}
 use mathlib.Core.List.{List, []}
 use Prim.Native.Nat.{ℕ}
-use Rattle.step_in_place_v2.specs.Says.{viewIn}
-use Rattle.step_in_place_v2.specs.declared.Place.{Place}
+use Rattle.place_v2.specs.Says.{viewIn}
+use Rattle.place_v2.specs.declared.Place.{Place}
 use Rattle.region_rows_v2.specs.declared.Bounds.{Bounds}
 use Rattle.region_rows_v2.specs.Bounds.{stretchFrom, stretchOf}
 

@@ -24,8 +24,8 @@ use Rattle.layout.specs.Laws.Trailer.{trailerOf-tells}
 use Rattle.row_plain_v2.specs.Promise.{plainFrom}
 use Rattle.row_plain_v2.specs.declared.PlainRow.{PlainRow}
 use Rattle.trailer.specs.Says.{regionFrom}
-use Rattle.step_in_place_v2.specs.Says.{viewIn}
-use Rattle.step_in_place_v2.specs.declared.Place.{Place}
+use Rattle.place_v2.specs.Says.{viewIn}
+use Rattle.place_v2.specs.declared.Place.{Place}
 use Rattle.region_rows_v2.specs.declared.Bounds.{Bounds}
 use Rattle.region_rows_v2.specs.Bounds.{Inside, stretch-inside}
 use Rattle.region_rows_v2.specs.Promise.{BoundsOf}

@@ -4,7 +4,7 @@ ghost use mathlib.Core.Path.{_≡_};
 ghost use Rattle.region_rows_v2.specs.Bounds.{noStretch, stretchFrom};
 ghost use Rattle.region_rows_v2.specs.Promise.{BoundsOf};
 use basics::IterationOrder;
-use step_in_place_v2::Place;
+use place_v2::Place;
 use trailer::Region;
 use trailer::RegionRead;
 use trailer::TrailerRead;

@@ -6,7 +6,7 @@ use basics::IterationOrder;
 use block_check_v2::Checked;
 use block_iterator_v2::BlockIteratorV2;
 use block_iterator_v2::NextAnswer;
-use step_in_place_v2::EmptyRead;
+use place_v2::EmptyRead;
 
 // The numbers of the commands.
 pub const SCAN: usize = 2;

@@ -26,7 +26,7 @@ use Rattle.block_regions_v2.specs.declared.PlaceRead.the-variants.{At}
 use Rattle.block_regions_v2.specs.Laws.{into-stopped}
 use Rattle.block_regions_v2.specs.Promise.{WalksInto}
 use Rattle.step_in_place_v2.proofs.Laws.{carries-key}
-use Rattle.step_in_place_v2.specs.declared.Place.{Place}
+use Rattle.place_v2.specs.declared.Place.{Place}
 use Rattle.seek_in_place_v2.specs.declared.Found.{Found}
 use Rattle.seek_in_place_v2.specs.declared.Found.the-variants.{Refused}
 use Rattle.seek_in_place_v2.specs.Parts.{landedAt, overAt, sought}

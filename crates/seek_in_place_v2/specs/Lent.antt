@@ -11,7 +11,7 @@ use Rattle.layout.specs.Res.{Res, refuse, _when_else_}
 use Rattle.layout.specs.Limits.{maxKey}
 use Rattle.layout.specs.Seek.{Sought, seek}
 use Rattle.basics.specs.Says.{saysOrder}
-use Rattle.step_in_place_v2.specs.declared.Place.{Place}
+use Rattle.place_v2.specs.declared.Place.{Place}
 
 unfoldable pub seekIn : Place → List ℕ → List ℕ → List ℕ → Res Sought
 seekIn p key b target = 18 when not (eqb (length key) maxKey) else seek (saysOrder (p .order)) b target

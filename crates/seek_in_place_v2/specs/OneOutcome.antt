@@ -3,10 +3,10 @@
 use Prim.Native.Nat.{ℕ}
 use mathlib.Core.Path.{_≡_, sym, _∙_}
 use mathlib.Core.List.{List}
-use Rattle.step_in_place_v2.specs.declared.Place.{Place}
+use Rattle.place_v2.specs.declared.Place.{Place}
 use Rattle.step_in_place_v2.specs.OneOutcome.{kept-both}
 use Rattle.step_in_place_v2.specs.Promise.{Kept}
-use Rattle.step_in_place_v2.specs.Says.{viewIn}
+use Rattle.place_v2.specs.Says.{viewIn}
 use Rattle.seek_in_place_v2.specs.declared.Found.{Found}
 use Rattle.seek_in_place_v2.specs.Lent.{seekIn}
 use Rattle.seek_in_place_v2.specs.Promise.{SeeksInPlace}

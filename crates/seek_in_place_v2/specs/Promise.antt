@@ -5,9 +5,9 @@ use mathlib.Core.Path.{_≡_}
 use mathlib.Core.List.{List}
 use Rattle.layout.specs.Res.{Res, bind}
 use Rattle.layout.specs.Seek.{Sought, soughtAfter}
-use Rattle.step_in_place_v2.specs.declared.Place.{Place}
+use Rattle.place_v2.specs.declared.Place.{Place}
 use Rattle.step_in_place_v2.specs.Promise.{Kept}
-use Rattle.step_in_place_v2.specs.Says.{viewIn}
+use Rattle.place_v2.specs.Says.{viewIn}
 use Rattle.seek_in_place_v2.specs.declared.Found.{Found}
 use Rattle.seek_in_place_v2.specs.Lent.{seekIn}
 use Rattle.seek_in_place_v2.specs.Says.{reported, saysFound, placeFound}

@@ -9,8 +9,8 @@ use Rattle.layout.specs.Seek.{Sought}
 use Rattle.layout.specs.Laws.Res.{ok-inj}
 use Rattle.basics.specs.Answers.{apart, refused-one}
 use Rattle.basics.specs.Number.{number}
-use Rattle.step_in_place_v2.specs.declared.Place.{Place}
-use Rattle.step_in_place_v2.specs.Says.{viewIn, viewIn-one}
+use Rattle.place_v2.specs.declared.Place.{Place}
+use Rattle.place_v2.specs.Says.{viewIn, viewIn-one}
 use Rattle.seek_in_place_v2.specs.declared.Found.{Found}
 use Rattle.seek_in_place_v2.specs.declared.Found.the-variants.{Landed, Done, Refused}
 

@@ -18,18 +18,20 @@ use Rattle.basics.specs.declared.Refusal.{Refusal}
 use Rattle.basics.specs.declared.Verdict.the-variants.{Good, Refused}
 use Rattle.basics.specs.Says.{saysOrder}
 use Rattle.basics.specs.declared.IterationOrder.{IterationOrder}
-use Rattle.build_in_place_v2.specs.Promise.{MakesState, Finishes}
-use Rattle.build_in_place_v2.specs.Says.{viewFrom, saysBuild}
-use Rattle.build_in_place_v2.specs.declared.NewState.{NewState}
+use Rattle.build_in_place_v2.specs.Promise.{Finishes}
+use Rattle.state_v2.specs.Promise.{MakesState}
+use Rattle.build_in_place_v2.specs.Says.{saysBuild}
+use Rattle.state_v2.specs.Says.{viewFrom}
+use Rattle.state_v2.specs.declared.NewState.{NewState}
 use Rattle.build_in_place_v2.specs.declared.BuildAnswer.{BuildAnswer}
 use Rattle.build_in_place_v2.specs.declared.BuildAnswer.the-variants.{Block, Refused as BuildRefused}
-use Rattle.step_in_place_v2.proofs.Opens.{opened-so, opened-not}
-use Rattle.step_in_place_v2.specs.Promise.{OpensPlace, TellsPlaceEmpty}
-use Rattle.step_in_place_v2.specs.Says.{viewIn, saysEmpty}
-use Rattle.step_in_place_v2.specs.declared.OpenedPlace.{OpenedPlace}
-use Rattle.step_in_place_v2.specs.declared.EmptyRead.{EmptyRead}
-use Rattle.step_in_place_v2.specs.declared.EmptyRead.the-variants.{Is as IsEmpty, Refused as EmptyRefused}
-use Rattle.step_in_place_v2.specs.declared.Place.{Place}
+use Rattle.place_v2.proofs.Opens.{opened-so, opened-not}
+use Rattle.place_v2.specs.Promise.{OpensPlace, TellsPlaceEmpty}
+use Rattle.place_v2.specs.Says.{viewIn, saysEmpty}
+use Rattle.place_v2.specs.declared.OpenedPlace.{OpenedPlace}
+use Rattle.place_v2.specs.declared.EmptyRead.{EmptyRead}
+use Rattle.place_v2.specs.declared.EmptyRead.the-variants.{Is as IsEmpty, Refused as EmptyRefused}
+use Rattle.place_v2.specs.declared.Place.{Place}
 use Rattle.row_words.specs.Words.{badWords, truthWord, orderIn, cursorIn, cursorWords, builderFrom, builderWords, builderCount, cursorCount}
 use Rattle.block_words.specs.Says.{stateIn}
 use Rattle.row_words.proofs.Laws.{counted-not, counted-so}

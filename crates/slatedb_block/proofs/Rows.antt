@@ -27,13 +27,14 @@ use Rattle.row_decode_v2.specs.declared.RowRead.{RowRead}
 use Rattle.row_decode_v2.specs.declared.RowRead.the-variants.{Read as ReadRow, Refused as RowRefused}
 use Rattle.build_in_place_v2.proofs.Writes.{entered-is}
 use Rattle.build_in_place_v2.specs.Promise.{FitsInPlace, AddsInPlace, lastAfter}
-use Rattle.build_in_place_v2.specs.Says.{stateFrom, viewFrom, saysGrown}
+use Rattle.build_in_place_v2.specs.Says.{saysGrown}
+use Rattle.state_v2.specs.Says.{stateFrom, viewFrom}
 use Rattle.basics.specs.Answers.{saysVerdict}
 use Rattle.basics.specs.declared.Verdict.{Verdict}
 use Rattle.basics.specs.declared.Verdict.the-variants.{Good, Refused}
 use Rattle.build_in_place_v2.specs.declared.Grown.{Grown}
 use Rattle.build_in_place_v2.specs.declared.Grown.the-variants.{Row as GrownRow, Refused as GrownRefused}
-use Rattle.build_in_place_v2.specs.declared.State.{State}
+use Rattle.state_v2.specs.declared.State.{State}
 use Rattle.row_words.specs.Words.{badWords, codeOf, builderFrom, builderWords, fieldsIn, rowWords, builderCount, rowCount}
 use Rattle.block_words.specs.Says.{stateIn, Gain, gainIs}
 use Rattle.block_words.specs.Promise.{offerIn}

@@ -15,8 +15,8 @@ use Rattle.basics.specs.Answers.{apart}
 use Rattle.basics.specs.Number.{number}
 use Rattle.basics.specs.Says.{saysOrder}
 use Rattle.step_in_place_v2.specs.Promise.{Kept}
-use Rattle.step_in_place_v2.specs.Says.{viewIn}
-use Rattle.step_in_place_v2.specs.declared.Place.{Place}
+use Rattle.place_v2.specs.Says.{viewIn}
+use Rattle.place_v2.specs.declared.Place.{Place}
 use Rattle.seek_in_place_v2.specs.Lent.{lent-whole}
 use Rattle.seek_in_place_v2.specs.Promise.{Finds, SeeksInPlace}
 use Rattle.seek_in_place_v2.specs.Says.{Report, reportIs, reported}

@@ -14,10 +14,11 @@ use Rattle.row_decode_v2.specs.Says.{rowFrom}
 use Rattle.row_decode_v2.specs.declared.Row.{Row}
 use Rattle.step_in_place_v2.specs.Lent.{lent-whole}
 use Rattle.step_in_place_v2.specs.Promise.{StepsInPlace, Moves}
-use Rattle.step_in_place_v2.specs.Says.{viewIn, saysMoved, placeAfter}
+use Rattle.step_in_place_v2.specs.Says.{saysMoved, placeAfter}
+use Rattle.place_v2.specs.Says.{viewIn}
 use Rattle.step_in_place_v2.specs.declared.Moved.{Moved}
 use Rattle.step_in_place_v2.specs.declared.Moved.the-variants.{Found, Done, Refused}
-use Rattle.step_in_place_v2.specs.declared.Place.{Place}
+use Rattle.place_v2.specs.declared.Place.{Place}
 use Rattle.row_words.specs.Words.{doneCode, cursorIn, cursorWords, rowWords, rowCount}
 use Rattle.block_words.specs.Exports.{StepsFlat}
 use Rattle.slatedb_block.specs.Says.{PutsMoved}

@@ -4,10 +4,10 @@ use mathlib.Core.Path.{_≡_}
 use mathlib.Core.List.{List, []}
 use Rattle.basics.specs.Number.{number}
 use Rattle.row_decode_v2.specs.Says.{rowFrom}
-use Rattle.build_in_place_v2.specs.Says.{viewFrom}
+use Rattle.state_v2.specs.Says.{viewFrom}
 use Rattle.build_in_place_v2.specs.declared.Grown.{Grown}
 use Rattle.build_in_place_v2.specs.declared.Grown.the-variants.{Row as GrownRow, Refused as GrownRefused}
-use Rattle.step_in_place_v2.specs.Says.{viewIn}
+use Rattle.place_v2.specs.Says.{viewIn}
 use Rattle.step_in_place_v2.specs.declared.Moved.{Moved}
 use Rattle.step_in_place_v2.specs.declared.Moved.the-variants.{Found, Done, Refused}
 use Rattle.seek_in_place_v2.specs.declared.Found.{Found as FoundC}

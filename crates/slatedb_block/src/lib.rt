@@ -16,11 +16,11 @@ use block_words::OrderRead;
 use block_words::StateRead;
 use build_in_place_v2::BuildAnswer;
 use build_in_place_v2::Grown;
+use place_v2::EmptyRead;
 use row_decode_v2::RowRead;
 use row_encode_v2::Encoded;
 use row_words::FieldsRead;
 use seek_in_place_v2::Found;
-use step_in_place_v2::EmptyRead;
 use step_in_place_v2::Moved;
 
 // ---- one row
@@ -82,7 +82,7 @@ pub extern "C" fn slatedb_builder_new(
     if builder.len() != block_words::BUILDER_WORDS {
         return block_words::BAD_WORDS;
     }
-    let new = build_in_place_v2::new_state(block_size, restart_interval);
+    let new = state_v2::new_state(block_size, restart_interval);
     let answer = new.answer;
     match answer {
         Verdict::Good => {
@@ -169,7 +169,7 @@ pub extern "C" fn slatedb_builder_is_empty(builder: &[u64], empty: &mut u64) -> 
     let StateRead::Is(s) = words else {
         return block_words::BAD_WORDS;
     };
-    *empty = row_words::truth_word(build_in_place_v2::is_empty_state(s));
+    *empty = row_words::truth_word(state_v2::is_empty_state(s));
     block_words::GOOD
 }
 
@@ -226,7 +226,7 @@ pub extern "C" fn slatedb_open(block: &[u8], order: u64, cursor: &mut [u64]) -> 
     let OrderRead::Is(o) = ordered else {
         return block_words::BAD_WORDS;
     };
-    let opened = step_in_place_v2::open_place(block, o);
+    let opened = place_v2::open_place(block, o);
     let answer = opened.answer;
     match answer {
         Verdict::Good => {
@@ -246,7 +246,7 @@ pub extern "C" fn slatedb_is_empty(block: &[u8], cursor: &[u64], empty: &mut u64
     let CursorRead::Is(p) = loaded else {
         return block_words::BAD_WORDS;
     };
-    let read = step_in_place_v2::is_empty_place(p, block);
+    let read = place_v2::is_empty_place(p, block);
     match read {
         EmptyRead::Is(b) => {
             *empty = row_words::truth_word(b);

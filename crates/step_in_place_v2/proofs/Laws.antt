@@ -30,7 +30,7 @@ use Rattle.block_regions_v2.specs.declared.Ended.the-variants.{Row as EndedRow,
 use Rattle.block_regions_v2.specs.Laws.{ended-row, ended-refused, step-back-used}
 use Rattle.block_regions_v2.specs.Promise.{EndsAt}
 use Rattle.block_regions_v2.specs.Regions.{endingAt}
-use Rattle.step_in_place_v2.specs.declared.Place.{Place}
+use Rattle.place_v2.specs.declared.Place.{Place}
 use Rattle.step_in_place_v2.specs.declared.Moved.{Moved}
 use Rattle.step_in_place_v2.specs.declared.Moved.the-variants.{Found, Done, Refused}
 use Rattle.step_in_place_v2.specs.declared.Ahead.{Ahead}
@@ -39,7 +39,8 @@ use Rattle.step_in_place_v2.specs.declared.Behind.{Behind}
 use Rattle.step_in_place_v2.specs.declared.Behind.the-variants.{In, Start, Refused as BehindRefused}
 use Rattle.step_in_place_v2.specs.declared.Standing.{Standing}
 use Rattle.step_in_place_v2.specs.Lent.{nextIn, lent-other, lent-whole}
-use Rattle.step_in_place_v2.specs.Says.{viewIn, row}
+use Rattle.step_in_place_v2.specs.Says.{row}
+use Rattle.place_v2.specs.Says.{viewIn}
 use Rattle.step_in_place_v2.specs.Parts.{refusalOfEnded, finished, Stands, Going, StandsAs, passed, saysAhead, Fits, Ready, LooksAhead, saysBehind, Before, LooksBehind}
 use Rattle.step_in_place_v2.specs.Promise.{Moves}
 

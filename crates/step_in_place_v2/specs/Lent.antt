@@ -9,8 +9,8 @@ use borrow.Author.Tests.{eq-eqb, ne-eqb}
 use Rattle.layout.specs.Res.{Res, refuse, guard}
 use Rattle.layout.specs.Limits.{maxKey}
 use Rattle.layout.specs.Cursor.{Step, next}
-use Rattle.step_in_place_v2.specs.declared.Place.{Place}
-use Rattle.step_in_place_v2.specs.Says.{viewIn}
+use Rattle.place_v2.specs.declared.Place.{Place}
+use Rattle.place_v2.specs.Says.{viewIn}
 
 unfoldable pub nextIn : Place → List ℕ → List ℕ → ℕ → Res Step
 nextIn p key b room = guard (not (eqb (length key) maxKey)) 18 (next (viewIn p key) b room)

@@ -1,29 +1,16 @@
 -- Each promise admits one outcome: two results, with the key bytes and the buffers that they leave, that both keep it are equal; but for the key bytes past the
 -- length of the key that a moved cursor carries.
 use Prim.Native.Nat.{ℕ}
-use mathlib.Core.Path.{_≡_, ap₂, sym, _∙_}
-use mathlib.Core.List.{List, []}
+use mathlib.Core.Path.{_≡_, sym, _∙_}
+use mathlib.Core.List.{List}
 use lib.ListN.{length}
 use Rattle.layout.specs.Res.{Res, ok, refuse}
-use Rattle.basics.specs.Answers.{saysVerdict-one}
-use Rattle.basics.specs.declared.IterationOrder.{IterationOrder}
-use Rattle.basics.specs.declared.Verdict.{Verdict}
-use Rattle.step_in_place_v2.specs.declared.Place.{Place}
-use Rattle.step_in_place_v2.specs.declared.OpenedPlace.{OpenedPlace}
-use Rattle.step_in_place_v2.specs.declared.EmptyRead.{EmptyRead}
+use Rattle.place_v2.specs.declared.Place.{Place}
 use Rattle.step_in_place_v2.specs.declared.Moved.{Moved}
 use Rattle.step_in_place_v2.specs.Lent.{nextIn}
-use Rattle.step_in_place_v2.specs.Says.{viewIn, viewIn-one, saysEmpty-one, placeAfter, saysMoved-one}
-use Rattle.step_in_place_v2.specs.Promise.{OpensPlace, TellsPlaceEmpty, Kept, StepsInPlace}
-
-pub open-place-settled : (b : List ℕ) (order : IterationOrder) (r q : OpenedPlace) → OpensPlace b order r → OpensPlace b order q → r ≡ q
-open-place-settled b order r q m n =
-    ap₂ (λ (x : Place) (y : Verdict). record { place = x; answer = y })
-    (viewIn-one (r .place) (q .place) [] [] (m .view [] ∙ sym (n .view [])))
-    (saysVerdict-one (r .answer) (q .answer) (m .answer ∙ sym (n .answer)))
-
-pub is-empty-place-settled : (p : Place) (b : List ℕ) (r q : EmptyRead) → TellsPlaceEmpty p b r → TellsPlaceEmpty p b q → r ≡ q
-is-empty-place-settled p b r q m n = saysEmpty-one r q (m [] ∙ sym (n []))
+use Rattle.step_in_place_v2.specs.Says.{placeAfter, saysMoved-one}
+use Rattle.place_v2.specs.Says.{viewIn}
+use Rattle.step_in_place_v2.specs.Promise.{Kept, StepsInPlace}
 
 pub kept-both : {A : Type 0} (want : Res A) (k l key : List ℕ) → Kept want k key → Kept want l key → Kept want k l
 kept-both (ok x) k l key m n = tt

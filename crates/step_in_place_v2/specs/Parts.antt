@@ -11,14 +11,13 @@ use Rattle.layout.specs.Trailer.{Trailer as TrailerL, trailerOf, dataOf, Region
 use Rattle.layout.specs.Cursor.{Direction, Cursor, marked, found, done, Step, stepIs, pastRow, stepUp, stepBackIn, stepDown}
 use Rattle.basics.specs.Number.{number}
 use Rattle.basics.specs.Says.{saysOrder}
-use Rattle.basics.specs.declared.IterationOrder.{IterationOrder}
 use Rattle.basics.specs.declared.Refusal.{Refusal}
 use Rattle.basics.specs.declared.Refusal.the-variants.{BadState}
 use Rattle.row_decode_v2.specs.Says.{rowFrom}
 use Rattle.trailer.specs.Says.{trailerFrom, regionFrom}
 use Rattle.block_regions_v2.specs.declared.Ended.{Ended}
 use Rattle.block_regions_v2.specs.declared.Ended.the-variants.{Row as EndedRow, Refused as EndedRefused}
-use Rattle.step_in_place_v2.specs.declared.Place.{Place}
+use Rattle.place_v2.specs.declared.Place.{Place}
 use Rattle.step_in_place_v2.specs.declared.Moved.{Moved}
 use Rattle.step_in_place_v2.specs.declared.Moved.the-variants.{Done}
 use Rattle.step_in_place_v2.specs.declared.Ahead.{Ahead}
@@ -28,7 +27,7 @@ use Rattle.step_in_place_v2.specs.declared.Behind.the-variants.{In, Star
 use Rattle.step_in_place_v2.specs.declared.Standing.{Standing}
 use Rattle.step_in_place_v2.specs.declared.Standing.the-variants.{Goes, Over, Refused as StandingRefused}
 use Rattle.step_in_place_v2.specs.Lent.{nextIn}
-use Rattle.step_in_place_v2.specs.Says.{viewIn}
+use Rattle.place_v2.specs.Says.{viewIn}
 
 -- ---- the refusal that an answer hands on: where an answer is none, it does not matter which
 
@@ -37,10 +36,6 @@ refusalOfEnded (EndedRow r) = BadState
 refusalOfEnded (EndedRefused r) = r
 
 -- ---- places
-
--- a cursor with no key
-abbrev pub fresh : IterationOrder → ℕ → ℕ → Place
-fresh order region at = record { order = order; region = region; at = at; «key_len» = 0; done = false }
 
 -- "done" sets only the mark
 abbrev pub finished : Place → Moved

@@ -4,26 +4,13 @@ use Prim.Native.Nat.{ℕ}
 use mathlib.Core.Path.{_≡_}
 use mathlib.Core.List.{List}
 use lib.ListN.{length}
-use Rattle.layout.specs.Res.{Res, ok, refuse, bind, whether}
-use Rattle.layout.specs.Cursor.{cursorOr, openBlock, isEmpty, Step, cursorAfter, keyAfter}
-use Rattle.basics.specs.Answers.{saysVerdict}
-use Rattle.basics.specs.Says.{saysOrder}
-use Rattle.basics.specs.declared.IterationOrder.{IterationOrder}
-use Rattle.step_in_place_v2.specs.declared.Place.{Place}
-use Rattle.step_in_place_v2.specs.declared.OpenedPlace.{OpenedPlace}
-use Rattle.step_in_place_v2.specs.declared.EmptyRead.{EmptyRead}
+use Rattle.layout.specs.Res.{Res, ok, refuse, bind}
+use Rattle.layout.specs.Cursor.{Step, cursorAfter, keyAfter}
+use Rattle.place_v2.specs.declared.Place.{Place}
 use Rattle.step_in_place_v2.specs.declared.Moved.{Moved}
 use Rattle.step_in_place_v2.specs.Lent.{nextIn}
-use Rattle.step_in_place_v2.specs.Says.{viewIn, saysEmpty, told, saysMoved, placeAfter}
-
--- a cursor, and beside a refusal one in region 0 at 0, whatever bytes its key lies in
-pub record OpensPlace (b : List ℕ) (order : IterationOrder) (r : OpenedPlace) : Type 0 where
-  pub answer : saysVerdict (r .answer) ≡ whether (openBlock b (saysOrder order))
-  pub view : (key : List ℕ) → viewIn (r .place) key ≡ cursorOr (saysOrder order) (openBlock b (saysOrder order))
-
--- the bytes of the key tell nothing
-abbrev pub TellsPlaceEmpty : Place → List ℕ → EmptyRead → Type 0
-TellsPlaceEmpty p b r = (key : List ℕ) → saysEmpty r ≡ isEmpty (viewIn p key) b
+use Rattle.step_in_place_v2.specs.Says.{told, saysMoved, placeAfter}
+use Rattle.place_v2.specs.Says.{viewIn}
 
 -- beside a refusal, the bytes are those that came
 abbrev pub Kept : {A : Type 0} → Res A → List ℕ → List ℕ → Type 0

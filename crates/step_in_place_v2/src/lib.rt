@@ -1,5 +1,5 @@
 // The block iterator of format V2 over key bytes that stay where they are: a cursor's numbers go in and come back by value, and the key that it carries is lent to
-// a step and worked on in place. To open a block, or to ask whether a row is left, takes no key bytes.
+// a step and worked on in place.
 // Follows slatedb 0.16.0, src/block_iterator_v2.rs (Apache License 2.0), and is changed: no region is cached, a step back reads its region again, every call
 // tests block and cursor for itself, and what they can break is a refusal that writes nothing.
 ghost use mathlib.Core.Path.{_≡_};
@@ -15,40 +15,18 @@ ghost use Rattle.layout.specs.Trailer.{trailerOf, dataOf};
 ghost use Rattle.basics.specs.Says.{saysOrder};
 ghost use Rattle.row_decode_v2.specs.Says.{rowFrom};
 ghost use Rattle.trailer.specs.Says.{trailerFrom, regionFrom};
-ghost use Rattle.step_in_place_v2.specs.Says.{viewIn};
-ghost use Rattle.step_in_place_v2.specs.Parts.{fresh, refusalOfEnded, finished, Stands, StandsAs, passed, Fits, LooksAhead, LooksBehind};
-ghost use Rattle.step_in_place_v2.specs.Promise.{OpensPlace, TellsPlaceEmpty, Moves, StepsInPlace};
+ghost use Rattle.place_v2.specs.Says.{viewIn};
+ghost use Rattle.step_in_place_v2.specs.Parts.{refusalOfEnded, finished, Stands, StandsAs, passed, Fits, LooksAhead, LooksBehind};
+ghost use Rattle.step_in_place_v2.specs.Promise.{Moves, StepsInPlace};
 use basics::IterationOrder;
 use basics::Refusal;
-use basics::Verdict;
 use block_regions_v2::Ended;
+use place_v2::Place;
 use row_decode_v2::Row;
 use row_decode_v2::RowRead;
 use trailer::Region;
 use trailer::RegionRead;
 use trailer::Trailer;
-use trailer::TrailerRead;
-
-// A cursor without the bytes of its key: those stay where they are. The numbers that change from step to step do not stand side by side, so that none is loaded
-// in one with another that was stored apart.
-pub struct Place {
-    pub region: usize,
-    pub order: IterationOrder,
-    pub at: usize,
-    pub done: bool,
-    pub key_len: usize,
-}
-
-// Beside a refusal stands a cursor at 0 in region 0.
-pub struct OpenedPlace {
-    pub place: Place,
-    pub answer: Verdict,
-}
-
-pub enum EmptyRead {
-    Is(bool),
-    Refused(Refusal),
-}
 
 // What a step answers, with the place past the row. A refusal moves nothing.
 pub enum Moved {
@@ -76,75 +54,6 @@ enum Behind {
     In { number: usize, region: Region },
     Start,
     Refused(Refusal),
-}
-
-// ---- opening, and whether a row is left
-
-// A cursor with no key.
-fn fresh(order: IterationOrder, region: usize, at: usize) -> Place
-    ensures { λ r. ⌜ r ≡ fresh order region at ⌝ }
-{
-    Place {
-        region,
-        order,
-        at,
-        done: false,
-        key_len: 0,
-    }
-}
-
-// Opens a block with all its offsets tested: 14, 15.
-pub fn open_place(block: &[u8], order: IterationOrder) -> OpenedPlace
-    ensures { λ r. ⌜ OpensPlace (now (block .entry)) order r ⌝ }
-{
-    let start = fresh(order, 0, 0);
-    let read = trailer::trailer_of(block);
-    let TrailerRead::Good(t) = read else {
-        return OpenedPlace {
-            place: start,
-            answer: Verdict::Refused(trailer::trailer_refusal(read)),
-        };
-    };
-    let offsets = trailer::all_offsets(block, t);
-    if let Verdict::Refused(refusal) = offsets {
-        return OpenedPlace {
-            place: start,
-            answer: Verdict::Refused(refusal),
-        };
-    }
-    match order {
-        IterationOrder::Ascending => OpenedPlace {
-            place: start,
-            answer: Verdict::Good,
-        },
-        IterationOrder::Descending => {
-            let end = fresh(order, t.count - 1, t.size);
-            OpenedPlace {
-                place: end,
-                answer: Verdict::Good,
-            }
-        }
-    }
-}
-
-// Whether the cursor is known to have no row left: ascending by its position or its mark; descending by its mark alone, so not before a step or a seek has
-// said "done". Only the trailer is tested: 14.
-pub fn is_empty_place(p: Place, block: &[u8]) -> EmptyRead
-    ensures { λ r. ⌜ TellsPlaceEmpty p (now (block .entry)) r ⌝ }
-{
-    let read = trailer::trailer_of(block);
-    let TrailerRead::Good(t) = read else {
-        return EmptyRead::Refused(trailer::trailer_refusal(read));
-    };
-    if p.done {
-        return EmptyRead::Is(true);
-    }
-    let at = p.at;
-    let order = p.order;
-    match order {
-        IterationOrder::Ascending => EmptyRead::Is(t.size <= at),
-        IterationOrder::Descending => EmptyRead::Is(false),
-    }
 }
 
 // ---- the refusal of an answer that is one

@@ -29,10 +29,11 @@ use Rattle.block_check_v2.specs.declared.Checked.{Checked}
 use Rattle.block_check_v2.specs.declared.Checked.the-variants.{Rows as RowsChecked, Refused as CheckRefused}
 use Rattle.step_in_place_v2.specs.Lent.{lent-whole}
 use Rattle.step_in_place_v2.specs.Promise.{Moves}
-use Rattle.step_in_place_v2.specs.Says.{viewIn, told-row, told-apart, saysMoved, placeAfter}
+use Rattle.step_in_place_v2.specs.Says.{told-row, told-apart, saysMoved, placeAfter}
+use Rattle.place_v2.specs.Says.{viewIn}
 use Rattle.step_in_place_v2.specs.declared.Moved.{Moved}
 use Rattle.step_in_place_v2.specs.declared.Moved.the-variants.{Found, Done, Refused}
-use Rattle.step_in_place_v2.specs.declared.Place.{Place}
+use Rattle.place_v2.specs.declared.Place.{Place}
 use Rattle.block_iterator_v2.specs.Promise.{Opens}
 use Rattle.block_iterator_v2.specs.Says.{viewOf}
 use Rattle.block_iterator_v2.specs.declared.Opened.{Opened}

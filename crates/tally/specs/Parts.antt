@@ -9,10 +9,10 @@ use Rattle.layout.specs.Check.{check}
 use Rattle.layout.specs.Cursor.{ascending, openBlock}
 use Rattle.basics.specs.declared.ValueDeletable.the-variants.{Tombstone}
 use Rattle.step_in_place_v2.specs.Promise.{StepsInPlace}
-use Rattle.step_in_place_v2.specs.Says.{viewIn}
+use Rattle.place_v2.specs.Says.{viewIn}
 use Rattle.step_in_place_v2.specs.declared.Moved.{Moved}
 use Rattle.step_in_place_v2.specs.declared.Moved.the-variants.{Found, Done, Refused}
-use Rattle.step_in_place_v2.specs.declared.Place.{Place}
+use Rattle.place_v2.specs.declared.Place.{Place}
 use Rattle.basics.specs.Answers.{saysVerdict}
 use Rattle.tally.specs.declared.Opening.{Opening}
 use Rattle.tally.specs.declared.Passed.{Passed}

@@ -8,8 +8,8 @@ use basics::ValueDeletable;
 use basics::Verdict;
 use block_check_v2::Checked;
 use block_iterator_v2::BlockIteratorV2;
+use place_v2::Place;
 use step_in_place_v2::Moved;
-use step_in_place_v2::Place;
 
 pub struct Tally {
     pub rows: u64,

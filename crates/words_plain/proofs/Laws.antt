@@ -21,8 +21,8 @@ use Rattle.basics.specs.declared.Time.the-variants.{Absent}
 use Rattle.basics.specs.declared.ValueDeletable.the-variants.{Value}
 use Rattle.row_decode_v2.specs.declared.Row.{Row}
 use Rattle.row_decode_v2.specs.Says.{rowFrom}
-use Rattle.step_in_place_v2.specs.declared.Place.{Place}
-use Rattle.step_in_place_v2.specs.Says.{viewIn}
+use Rattle.place_v2.specs.declared.Place.{Place}
+use Rattle.place_v2.specs.Says.{viewIn}
 use Rattle.step_plain_v2.specs.declared.Stepped.{Stepped}
 use Rattle.step_plain_v2.specs.Ahead.{plainStep, steppedTo, rowMade}
 use Rattle.step_plain_v2.specs.Promise.{Goes, StepsPlain}

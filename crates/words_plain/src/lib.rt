@@ -5,8 +5,8 @@ ghost use Rattle.words_plain.specs.Promise.{StepsFlatPlain};
 use basics::IterationOrder;
 use basics::Time;
 use basics::ValueDeletable;
+use place_v2::Place;
 use row_decode_v2::Row;
-use step_in_place_v2::Place;
 
 fn size(word: u64) -> usize
     ensures { λ r. ⌜ r ≡ word ⌝ }

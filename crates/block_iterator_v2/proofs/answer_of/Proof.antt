@@ -13,4 +13,5 @@ returns-3 : tie.Need-returns-3
 returns-3 c = sym (ap answerOf (c .before .moved2 .given .1))
 
 pub answer-of-spec : {M : Type 1} → statement M
-answer-of-spec = tie.close (tie.spec (search needs) (search needs) (search needs) returns (search needs) returns-3)
+answer-of-spec = tie.close (tie.spec
+    (λ c. search needs) (λ c. search needs) (λ c. search needs) returns (λ c. search needs) returns-3)

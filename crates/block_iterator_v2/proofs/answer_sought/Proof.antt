@@ -18,4 +18,4 @@ returns-3 c = sym (ap answerFound (c .before .found3 .given .1))
 pub answer-sought-spec : {M : Type 1} → statement M
 answer-sought-spec =
     tie.close
-    (tie.spec (search needs) (search needs) (search needs) returns returns-2 returns-3)
+    (tie.spec (λ c. search needs) (λ c. search needs) (λ c. search needs) returns returns-2 returns-3)

@@ -13,4 +13,4 @@ returns c =
     moves-as _ _ _ _ (sym (lent-whole _ _ _ _ (s .pre) refl)) (c .before .before .next-in-place .ensures)
 
 pub next-in-array-spec : {M : Type 1} → statement M
-next-in-array-spec = tie.close (tie.spec (search needs) (search needs) returns)
+next-in-array-spec = tie.close (tie.spec (λ c κs. search needs) (λ c. search needs) returns)

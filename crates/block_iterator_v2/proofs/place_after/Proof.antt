@@ -13,4 +13,6 @@ returns c =
     sym (ap (λ (m : Moved). placeAfter m (s .args .came)) (c .before .moved .given .1))
 
 pub place-after-spec : {M : Type 1} → statement M
-place-after-spec = tie.close (tie.spec (search needs) (search needs) (search needs) returns (search needs) (search needs))
+place-after-spec = tie.close (tie.spec
+    (λ c. search needs) (λ c. search needs) (λ c. search needs) returns (λ c. search needs)
+    (λ c. search needs))

@@ -11,4 +11,4 @@ returns : tie.Need-returns
 returns c = let s = c .before .before .before .before in finds-as _ _ _ (sym (lent-whole _ _ _ _ (s .pre) refl)) (c .seek-in-place .ensures)
 
 pub seek-in-array-spec : {M : Type 1} → statement M
-seek-in-array-spec = tie.close (tie.spec (search needs) returns)
+seek-in-array-spec = tie.close (tie.spec (λ c κs. search needs) returns)

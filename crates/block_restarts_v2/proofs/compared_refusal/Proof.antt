@@ -10,4 +10,4 @@ returns : tie.Need-returns
 returns c = sym (ap refusalOfCompared (c .before .a .given .1))
 
 pub compared-refusal-spec : {M : Type 1} → statement M
-compared-refusal-spec = tie.close (tie.spec (search needs) (search needs) returns (search needs))
+compared-refusal-spec = tie.close (tie.spec (search needs) (search needs) returns (λ c. search needs))

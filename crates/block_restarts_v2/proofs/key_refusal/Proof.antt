@@ -10,4 +10,4 @@ returns : tie.Need-returns
 returns c = sym (ap refusalOfKey (c .before .a .given .1))
 
 pub key-refusal-spec : {M : Type 1} → statement M
-key-refusal-spec = tie.close (tie.spec (search needs) (search needs) returns (search needs))
+key-refusal-spec = tie.close (tie.spec (search needs) (search needs) returns (λ c. search needs))

@@ -10,4 +10,4 @@ returns : tie.Need-returns
 returns c = sym (ap refusalOfSearch (c .before .a .given .1))
 
 pub search-refusal-spec : {M : Type 1} → statement M
-search-refusal-spec = tie.close (tie.spec (search needs) (search needs) returns (search needs))
+search-refusal-spec = tie.close (tie.spec (search needs) (search needs) returns (λ c. search needs))

@@ -54,7 +54,8 @@ pub carry-spec : {M : Type 1} → statement M
 carry-spec =
     tie.close
     (tie.spec
-    (search needs) (search needs) (search needs) (search needs) (search needs) (search needs) (search needs)
-    (search needs) (search needs) slice-aggregate-copy-in (search needs) (search needs) (search needs)
-    returns copy-16-requires (search needs) (search needs) (search needs) (search needs) copy-16-requires-2
-    (search needs) (search needs) returns-2)
+    (λ c. search needs) (λ c. search needs) (λ c. search needs) (λ c. search needs) (λ c. search needs)
+    (λ c. search needs) (λ c. search needs) (λ c κs. search needs) (λ c. search needs)
+    slice-aggregate-copy-in (λ c κs. search needs) (λ c. search needs) (λ c. search needs) returns
+    copy-16-requires (λ c. search needs) (λ c. search needs) (λ c. search needs) (λ c κs. search needs)
+    copy-16-requires-2 (λ c. search needs) (λ c. search needs) returns-2)

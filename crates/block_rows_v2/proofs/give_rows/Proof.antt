@@ -10,7 +10,7 @@ use borrow.Author.Needs.{needs}
 use Rattle.layout.specs.Limits.{maxKey}
 use Rattle.layout.specs.Laws.Res.{bool-cases}
 use Rattle.layout.specs.Laws.Splice.{wrote-length}
-use Rattle.step_in_place_v2.specs.Says.{viewIn}
+use Rattle.place_v2.specs.Says.{viewIn}
 use Rattle.block_rows_v2.specs.declared.Went.{Went}
 use Rattle.block_rows_v2.specs.Chain.{Gone, gone-start}
 use Rattle.block_rows_v2.specs.Says.{StepsOn}
@@ -145,6 +145,6 @@ pub give-rows-spec : {M : Type 1} → statement M
 give-rows-spec =
     tie.close
     (tie.spec
-    Inv-loop μ-loop loop-holds run-here-requires step-row-requires (search needs) loop-less loop-again
-    (search needs) same-length same-length-2 same-length-3 returns loop-less-2 loop-again-2 (search needs)
-    same-length-5 same-length-6 returns-2)
+    Inv-loop μ-loop loop-holds run-here-requires step-row-requires (λ c. search needs) loop-less loop-again
+    (λ c. search needs) same-length same-length-2 same-length-3 returns loop-less-2 loop-again-2
+    (λ c. search needs) same-length-5 same-length-6 returns-2)

@@ -3,7 +3,7 @@
 use mathlib.Core.Path.{_≡_}
 use Rattle.layout.specs.Res.{ok}
 use Rattle.basics.specs.Answers.{yes}
-use Rattle.step_in_place_v2.specs.Says.{viewIn}
+use Rattle.place_v2.specs.Says.{viewIn}
 use Rattle.row_words.specs.Words.{cursorIn}
 use Rattle.block_words.specs.Says.{saysCursor}
 use Rattle.block_words.proofs.Laws.{cursor-counts}
@@ -45,5 +45,6 @@ pub next-rows-spec : {M : Type 1} → statement M
 next-rows-spec =
     tie.close
     (tie.spec
-    returns (search needs) (search needs) (search needs) (search needs) returns-2 (search needs)
-    put-gave-requires (search needs) (search needs) (search needs) (search needs) returns-3)
+    returns (λ c κs. search needs) (λ c. search needs) (λ c. search needs) (λ c. search needs) returns-2
+    (λ c κs. search needs) put-gave-requires (λ c. search needs) (λ c. search needs) (λ c. search needs)
+    (λ c. search needs) returns-3)

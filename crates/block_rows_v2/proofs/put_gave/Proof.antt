@@ -44,5 +44,5 @@ pub put-gave-spec : {M : Type 1} → statement M
 put-gave-spec =
     tie.close
     (tie.spec
-    (search needs) (search needs) (search needs) (search needs) (search needs) returns (search needs)
-    returns-2 returns-3)
+    (λ c. search needs) (λ c κs. search needs) (λ c. search needs) (λ c κs. search needs)
+    (λ c. search needs) returns (λ c. search needs) returns-2 returns-3)

@@ -16,4 +16,4 @@ returns c =
     (seq-read (s .args .«data» .now) (s .args .at) (s .args .row) (s .pre) (c .eight .ensures))
 
 pub row-of-spec : {M : Type 1} → statement M
-row-of-spec = tie.close (tie.spec (search needs) (search needs) (search needs) (search needs) returns)
+row-of-spec = tie.close (tie.spec (λ c. search needs) (λ c. search needs) (λ c. search needs) (λ c κs. search needs) returns)

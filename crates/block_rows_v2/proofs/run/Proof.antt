@@ -16,7 +16,7 @@ use Rattle.layout.specs.Laws.Splice.{Wrote, wrote-length}
 use Rattle.row_decode_v2.specs.Says.{rowFrom}
 use Rattle.row_plain_v2.specs.Promise.{plainFrom}
 use Rattle.trailer.specs.Says.{regionFrom}
-use Rattle.step_in_place_v2.specs.Says.{viewIn}
+use Rattle.place_v2.specs.Says.{viewIn}
 use Rattle.row_words.specs.Words.{rowCount}
 use Rattle.region_rows_v2.specs.Bounds.{Inside}
 use Rattle.region_rows_v2.specs.Region.{PlainFits, here-fits, inside-long, inside-region, share-none, share-key}
@@ -218,9 +218,10 @@ pub run-spec : {M : Type 1} → statement M
 run-spec =
     tie.close
     (tie.spec
-    Inv-loop μ-loop loop-holds slice-aggregate-plain-at (search needs) (search needs) (search needs)
-    (search needs) (search needs) returns add-whole sub-if3 (search needs) same-length-4 (search needs)
-    (search needs) returns-2 sub-carry (search needs) (search needs) slice-aggregate-carry carry-requires
-    slice-aggregate-row-of row-of-requires put-nth-requires add-n add-used add-p (search needs)
-    same-length-7 same-length-8 same-length-9 returns-3 loop-less loop-again (search needs) (search needs)
-    (search needs) (search needs) returns-4)
+    Inv-loop μ-loop loop-holds slice-aggregate-plain-at (λ c κs. search needs) (λ c κs. search needs)
+    (λ c. search needs) (λ c. search needs) (λ c. search needs) returns add-whole sub-if3
+    (λ c κs. search needs) same-length-4 (λ c. search needs) (λ c. search needs) returns-2 sub-carry
+    (λ c. search needs) (λ c. search needs) slice-aggregate-carry carry-requires slice-aggregate-row-of
+    row-of-requires put-nth-requires add-n add-used add-p (λ c κs. search needs) same-length-7 same-length-8
+    same-length-9 returns-3 loop-less loop-again (λ c κs. search needs) (λ c. search needs)
+    (λ c. search needs) (λ c. search needs) returns-4)

@@ -37,5 +37,5 @@ pub run-here-spec : {M : Type 1} → statement M
 run-here-spec =
     tie.close
     (tie.spec
-    (search needs) returns returns-2 run-requires (search needs) (search needs) (search needs)
-    (search needs))
+    (λ c κs. search needs) returns returns-2 run-requires (λ c. search needs) (λ c. search needs)
+    (λ c. search needs) (λ c. search needs))

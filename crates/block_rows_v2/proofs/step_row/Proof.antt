@@ -9,8 +9,8 @@ use Rattle.layout.specs.Res.{ok}
 use Rattle.layout.specs.Cursor.{done, stepIs}
 use Rattle.layout.specs.Laws.Splice.{wrote-length}
 use Rattle.row_decode_v2.specs.Says.{rowFrom}
-use Rattle.step_in_place_v2.specs.Says.{viewIn}
-use Rattle.step_in_place_v2.specs.declared.Place.{Place}
+use Rattle.place_v2.specs.Says.{viewIn}
+use Rattle.place_v2.specs.declared.Place.{Place}
 use Rattle.region_rows_v2.specs.Found.{Finds, moved-finds, moved-ends, moved-refuses}
 use Rattle.block_rows_v2.specs.declared.Ran.{Ran}
 use Rattle.block_rows_v2.specs.Says.{ranTo, RunsOn}
@@ -94,7 +94,8 @@ pub step-row-spec : {M : Type 1} → statement M
 step-row-spec =
     tie.close
     (tie.spec
-    (search needs) (search needs) returns (search needs) (search needs) (search needs) (search needs)
-    (search needs) (search needs) add-t27 add-t28 add-t29 (search needs) (search needs) (search needs)
-    (search needs) (search needs) (search needs) (search needs) returns-2 (search needs) (search needs)
-    returns-3 (search needs) (search needs) returns-4)
+    (λ c κs. search needs) (λ c κs. search needs) returns (λ c. search needs) (λ c. search needs)
+    (λ c. search needs) (λ c κs. search needs) (λ c. search needs) (λ c κs. search needs) add-t27 add-t28
+    add-t29 (λ c. search needs) (λ c κs. search needs) (λ c. search needs) (λ c κs. search needs)
+    (λ c. search needs) (λ c. search needs) (λ c. search needs) returns-2 (λ c. search needs)
+    (λ c. search needs) returns-3 (λ c. search needs) (λ c. search needs) returns-4)

@@ -12,4 +12,4 @@ returns c =
     ap (builderFrom (start .args .s)) (c .before .copy-in .ensures .bytes)
 
 pub builder-over-spec : {M : Type 1} → statement M
-builder-over-spec = tie.close (tie.spec (search needs) (search needs) returns)
+builder-over-spec = tie.close (tie.spec (λ c. search needs) (λ c κs. search needs) returns)

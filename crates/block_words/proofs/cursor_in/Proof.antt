@@ -31,6 +31,7 @@ pub cursor-in-spec : {M : Type 1} → statement M
 cursor-in-spec =
     tie.close
     (tie.spec
-    returns (search needs) (search needs) (search needs) (search needs) returns-2 (search needs)
-    (search needs) (search needs) (search needs) returns-3 (search needs) (search needs) (search needs)
-    (search needs) (search needs) (search needs) returns-4)
+    returns (λ c. search needs) (λ c κs. search needs) (λ c. search needs) (λ c. search needs) returns-2
+    (λ c. search needs) (λ c κs. search needs) (λ c. search needs) (λ c. search needs) returns-3
+    (λ c. search needs) (λ c κs. search needs) (λ c. search needs) (λ c κs. search needs)
+    (λ c. search needs) (λ c κs. search needs) returns-4)

@@ -49,5 +49,5 @@ pub offer-in-spec : {M : Type 1} → statement M
 offer-in-spec =
     tie.close
     (tie.spec
-    (search needs) (search needs) (search needs) returns returns-2 (search needs) (search needs)
-    (search needs) returns-3 returns-4)
+    (λ c κs. search needs) (λ c. search needs) (λ c. search needs) returns returns-2 (λ c κs. search needs)
+    (λ c. search needs) (λ c. search needs) returns-3 returns-4)

@@ -24,5 +24,5 @@ pub put-cursor-spec : {M : Type 1} → statement M
 put-cursor-spec =
     tie.close
     (tie.spec
-    returns (search needs) (search needs) (search needs) (search needs) (search needs) (search needs)
-    slice-write-words-5 (search needs) returns-2)
+    returns (λ c κs. search needs) (λ c. search needs) (λ c. search needs) (λ c. search needs)
+    (λ c. search needs) (λ c κs. search needs) slice-write-words-5 (λ c. search needs) returns-2)

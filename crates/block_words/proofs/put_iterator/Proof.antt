@@ -26,4 +26,6 @@ returns-3 c =
 pub put-iterator-spec : {M : Type 1} → statement M
 put-iterator-spec =
     tie.close
-    (tie.spec returns returns-2 (search needs) (search needs) (search needs) (search needs) returns-3)
+    (tie.spec
+    returns returns-2 (λ c κs. search needs) (λ c κs. search needs) (λ c. search needs) (λ c. search needs)
+    returns-3)

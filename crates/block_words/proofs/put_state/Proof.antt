@@ -25,5 +25,5 @@ pub put-state-spec : {M : Type 1} → statement M
 put-state-spec =
     tie.close
     (tie.spec
-    returns (search needs) (search needs) (search needs) (search needs) slice-write-words-5
-    slice-write-words-6 (search needs) returns-2)
+    returns (λ c. search needs) (λ c. search needs) (λ c. search needs) (λ c. search needs)
+    slice-write-words-5 slice-write-words-6 (λ c. search needs) returns-2)

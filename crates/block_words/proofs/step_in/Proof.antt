@@ -20,4 +20,4 @@ returns-3 c =
     step-so (s .cursor .now) (s .key .now) (s .row .now) (c .before .before .if1 .left) (c .before .if2 .left) (c .cursor-in .ensures (s .key .now))
 
 pub step-in-spec : {M : Type 1} → statement M
-step-in-spec = tie.close (tie.spec returns returns-2 (search needs) returns-3)
+step-in-spec = tie.close (tie.spec returns returns-2 (λ c κs. search needs) returns-3)

@@ -10,4 +10,4 @@ returns : tie.Need-returns
 returns c = sym (ap refusalOfSigned (c .before .a .given .1))
 
 pub signed-refusal-spec : {M : Type 1} → statement M
-signed-refusal-spec = tie.close (tie.spec (search needs) (search needs) returns (search needs))
+signed-refusal-spec = tie.close (tie.spec (search needs) (search needs) returns (λ c. search needs))

@@ -10,4 +10,4 @@ returns : tie.Need-returns
 returns c = sym (ap refusalOfWord (c .before .a .given .1))
 
 pub word-refusal-spec : {M : Type 1} → statement M
-word-refusal-spec = tie.close (tie.spec (search needs) (search needs) returns (search needs))
+word-refusal-spec = tie.close (tie.spec (search needs) (search needs) returns (λ c. search needs))

@@ -28,5 +28,5 @@ pub copy-4-spec : {M : Type 1} → statement M
 copy-4-spec =
     tie.close
     (tie.spec
-    returns returns-2 (search needs) (search needs) (search needs) (search needs) (search needs)
-    slice-write-buf-2 slice-write-buf-3 (search needs) (search needs) returns-3)
+    returns returns-2 (search needs) (search needs) (search needs) (search needs) (λ c. search needs)
+    slice-write-buf-2 slice-write-buf-3 (λ c. search needs) (search needs) returns-3)

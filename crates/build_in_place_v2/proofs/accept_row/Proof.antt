@@ -8,7 +8,7 @@ use borrow.Author.Needs.{needs}
 use Rattle.layout.specs.Res.{ok}
 use Rattle.basics.specs.Answers.{yes}
 use Rattle.row_flags.specs.Says.{fieldsFrom}
-use Rattle.build_in_place_v2.specs.Says.{viewFrom}
+use Rattle.state_v2.specs.Says.{viewFrom}
 use Rattle.build_in_place_v2.specs.Plan.{planIs, fitted, saysPlanned}
 use Rattle.build_in_place_v2.proofs.Tests.{accept-no, accept-far, accept-short, accept-places, accept-good}
 use Rattle.build_in_place_v2.proofs.accept_row.Statement.{statement}

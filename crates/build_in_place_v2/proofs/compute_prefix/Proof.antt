@@ -11,4 +11,4 @@ slice-aggregate-common-prefix c = sym (length-take-le _ _ (c .before .before .be
 
 pub compute-prefix-spec : {M : Type 1} → statement M
 compute-prefix-spec =
-    tie.close (tie.spec slice-aggregate-common-prefix (search needs) (search needs))
+    tie.close (tie.spec slice-aggregate-common-prefix (search needs) (λ c. search needs))

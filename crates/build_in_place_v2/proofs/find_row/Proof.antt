@@ -10,7 +10,7 @@ use Rattle.layout.specs.Builder.{Builder, stateTests}
 use Rattle.layout.specs.Laws.Builder.{state-tells}
 use Rattle.row_flags.specs.Says.{fieldsFrom}
 use Rattle.row_size_v2.specs.Says.{saysSized}
-use Rattle.build_in_place_v2.specs.Says.{viewFrom}
+use Rattle.state_v2.specs.Says.{viewFrom}
 use Rattle.build_in_place_v2.proofs.Finds.{found-none, found-some}
 use Rattle.build_in_place_v2.proofs.Tests.{state-refused, state-taken, Measured, share-fits, plan-state, plan-unsized, plan-past, plan-fits, plan-over, size-small, accept-no, accept-far, accept-short, accept-places, accept-good}
 use Rattle.build_in_place_v2.proofs.find_row.Statement.{statement}

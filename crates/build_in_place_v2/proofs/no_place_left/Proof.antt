@@ -8,4 +8,4 @@ returns : tie.Need-returns
 returns c = rw (c .if1 .taken)
 
 pub no-place-left-spec : {M : Type 1} → statement M
-no-place-left-spec = tie.close (tie.spec returns (search needs))
+no-place-left-spec = tie.close (tie.spec returns (λ c. search needs))

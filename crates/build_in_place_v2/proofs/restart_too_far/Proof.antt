@@ -8,4 +8,4 @@ returns : tie.Need-returns
 returns c = rw (c .if1 .taken)
 
 pub restart-too-far-spec : {M : Type 1} → statement M
-restart-too-far-spec = tie.close (tie.spec returns (search needs))
+restart-too-far-spec = tie.close (tie.spec returns (λ c. search needs))

@@ -13,4 +13,4 @@ returns c =
     ap (iteratorOver (start .args .p)) (copied-whole (start .args .key .now) refl (start .pre) (c .before .copy-in .ensures))
 
 pub iterator-over-spec : {M : Type 1} → statement M
-iterator-over-spec = tie.close (tie.spec (search needs) (search needs) returns)
+iterator-over-spec = tie.close (tie.spec (λ c. search needs) (λ c κs. search needs) returns)

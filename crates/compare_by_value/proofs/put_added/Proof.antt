@@ -21,4 +21,4 @@ returns c =
 pub put-added-spec : {M : Type 1} → statement M
 put-added-spec =
     tie.close
-    (tie.spec (search needs) (search needs) (search needs) (search needs) returns)
+    (tie.spec (λ c κs. search needs) (λ c κs. search needs) (λ c. search needs) (λ c. search needs) returns)

@@ -50,7 +50,8 @@ pub slatedb-builder-add-by-value-spec : {M : Type 1} → statement M
 slatedb-builder-add-by-value-spec =
     tie.close
     (tie.spec
-    (search needs) (search needs) (search needs) (search needs) (search needs) returns (search needs)
-    (search needs) (search needs) put-added-requires (search needs) (search needs) (search needs)
-    (search needs) (search needs) (search needs) returns-2 (search needs) (search needs) (search needs)
-    (search needs) returns-3)
+    (λ c κs. search needs) (λ c. search needs) (λ c. search needs) (λ c. search needs) (λ c. search needs)
+    returns (λ c κs. search needs) (λ c κs. search needs) (λ c. search needs) put-added-requires
+    (λ c. search needs) (λ c κs. search needs) (λ c. search needs) (λ c. search needs) (λ c. search needs)
+    (λ c. search needs) returns-2 (λ c. search needs) (λ c. search needs) (λ c. search needs)
+    (λ c. search needs) returns-3)

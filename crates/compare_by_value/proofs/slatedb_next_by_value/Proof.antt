@@ -8,7 +8,7 @@ use lib.ListN.{length}
 use Rattle.layout.specs.Res.{ok}
 use Rattle.layout.specs.Limits.{maxKey}
 use Rattle.basics.specs.Answers.{yes}
-use Rattle.step_in_place_v2.specs.Says.{viewIn}
+use Rattle.place_v2.specs.Says.{viewIn}
 use Rattle.block_iterator_v2.specs.Says.{viewOf}
 use Rattle.block_iterator_v2.specs.declared.BlockIteratorV2.{BlockIteratorV2}
 use Rattle.row_words.specs.Words.{cursorIn, cursorWords, rowCount}
@@ -78,8 +78,10 @@ pub slatedb-next-by-value-spec : {M : Type 1} → statement M
 slatedb-next-by-value-spec =
     tie.close
     (tie.spec
-    (search needs) (search needs) (search needs) (search needs) (search needs) (search needs) returns
-    iterator-over-requires (search needs) (search needs) (search needs) (search needs) (search needs)
-    (search needs) (search needs) (search needs) (search needs) (search needs) (search needs) (search needs)
-    returns-2 (search needs) (search needs) (search needs) (search needs) returns-3 (search needs)
-    (search needs) (search needs) (search needs) returns-4)
+    (λ c κs. search needs) (λ c. search needs) (λ c. search needs) (λ c. search needs) (λ c. search needs)
+    (λ c. search needs) returns iterator-over-requires (λ c κs. search needs) (λ c. search needs)
+    (λ c κs. search needs) (λ c κs. search needs) (λ c. search needs) (λ c κs. search needs)
+    (λ c. search needs) (λ c κs. search needs) (λ c. search needs) (λ c. search needs) (λ c. search needs)
+    (λ c. search needs) returns-2 (λ c. search needs) (λ c. search needs) (λ c. search needs)
+    (λ c. search needs) returns-3 (λ c. search needs) (λ c. search needs) (λ c. search needs)
+    (λ c. search needs) returns-4)

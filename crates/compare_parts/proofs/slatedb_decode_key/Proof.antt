@@ -43,6 +43,6 @@ pub slatedb-decode-key-spec : {M : Type 1} → statement M
 slatedb-decode-key-spec =
     tie.close
     (tie.spec
-    returns (search needs) (search needs) (search needs) returns-2 (search needs) (search needs)
-    (search needs) (search needs) slice-write-words-3 (search needs) (search needs) (search needs) returns-3
-    returns-4)
+    returns (λ c κs. search needs) (λ c. search needs) (λ c. search needs) returns-2 (λ c κs. search needs)
+    (λ c. search needs) (λ c. search needs) (λ c. search needs) slice-write-words-3 (λ c. search needs)
+    (λ c κs. search needs) (λ c. search needs) returns-3 returns-4)

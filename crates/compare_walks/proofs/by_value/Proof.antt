@@ -75,6 +75,6 @@ pub by-value-spec : {M : Type 1} → statement M
 by-value-spec =
     tie.close
     (tie.spec
-    Inv-loop μ-loop loop-holds slice-aggregate-next (search needs) (search needs) (search needs)
-    with-row-requires (search needs) loop-less loop-again (search needs) returns (search needs) returns-2
-    returns-3)
+    Inv-loop μ-loop loop-holds slice-aggregate-next (λ c κs. search needs) (λ c. search needs)
+    (λ c. search needs) with-row-requires (λ c. search needs) loop-less loop-again (λ c. search needs)
+    returns (λ c. search needs) returns-2 returns-3)

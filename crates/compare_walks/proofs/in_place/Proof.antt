@@ -8,7 +8,7 @@ use borrow.Author.Needs.{needs}
 use Rattle.layout.specs.Res.{bind}
 use Rattle.layout.specs.Limits.{maxKey}
 use Rattle.row_decode_v2.specs.Says.{rowFrom}
-use Rattle.step_in_place_v2.specs.Says.{viewIn}
+use Rattle.place_v2.specs.Says.{viewIn}
 use Rattle.compare_walks.specs.Walk.{walk, wrapped}
 use Rattle.compare_walks.specs.Loop.{Walking}
 use Rattle.compare_walks.proofs.Steps.{Finds, moved-finds, moved-ends, moved-refuses}
@@ -102,6 +102,7 @@ pub in-place-spec : {M : Type 1} → statement M
 in-place-spec =
     tie.close
     (tie.spec
-    Inv-loop μ-loop loop-holds slice-aggregate-run-here (search needs) (search needs)
-    slice-aggregate-next-in-place-2 (search needs) (search needs) (search needs) with-row-requires add-rows
-    loop-less loop-again (search needs) returns (search needs) returns-2 loop-less-2 loop-again-2 returns-3)
+    Inv-loop μ-loop loop-holds slice-aggregate-run-here (λ c κs. search needs) (λ c. search needs)
+    slice-aggregate-next-in-place-2 (λ c κs. search needs) (λ c. search needs) (λ c. search needs)
+    with-row-requires add-rows loop-less loop-again (λ c. search needs) returns (λ c. search needs)
+    returns-2 loop-less-2 loop-again-2 returns-3)

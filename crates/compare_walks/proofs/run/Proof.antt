@@ -10,7 +10,7 @@ use Rattle.layout.specs.Res.{Res}
 use Rattle.layout.specs.Limits.{maxKey}
 use Rattle.layout.specs.RowRead.{mayShare}
 use Rattle.trailer.specs.Says.{regionFrom}
-use Rattle.step_in_place_v2.specs.Says.{viewIn}
+use Rattle.place_v2.specs.Says.{viewIn}
 use Rattle.region_rows_v2.specs.Bounds.{Inside}
 use Rattle.region_rows_v2.specs.Region.{PlainFits, movedTo, inside-long, inside-region, share-none, share-key}
 use Rattle.compare_walks.specs.Walk.{Walk}
@@ -116,6 +116,6 @@ pub run-spec : {M : Type 1} → statement M
 run-spec =
     tie.close
     (tie.spec
-    Inv-loop μ-loop loop-holds slice-aggregate-plain-at (search needs) (search needs) returns
-    slice-aggregate-pass-plain pass-plain-requires (search needs) add-p (search needs) returns-2 add-p-2
-    loop-less loop-again (search needs) returns-3)
+    Inv-loop μ-loop loop-holds slice-aggregate-plain-at (λ c κs. search needs) (λ c. search needs) returns
+    slice-aggregate-pass-plain pass-plain-requires (λ c. search needs) add-p (λ c. search needs) returns-2
+    add-p-2 loop-less loop-again (λ c. search needs) returns-3)

@@ -14,4 +14,4 @@ run-requires c κs =
     (search needs, bounds-inside (s .args .came .place) _ (s .args .block .now) (c .before .before .before .before .bounds-of .ensures) (c .before .if1 .left))
 
 pub run-here-spec : {M : Type 1} → statement M
-run-here-spec = tie.close (tie.spec (search needs) returns run-requires (search needs) (search needs))
+run-here-spec = tie.close (tie.spec (λ c κs. search needs) returns run-requires (λ c. search needs) (λ c. search needs))

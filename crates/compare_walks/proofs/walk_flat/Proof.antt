@@ -42,6 +42,7 @@ pub walk-flat-spec : {M : Type 1} → statement M
 walk-flat-spec =
     tie.close
     (tie.spec
-    returns (search needs) (search needs) (search needs) returns-2 (search needs) (search needs)
-    (search needs) (search needs) (search needs) returns-3 (search needs) (search needs) (search needs)
-    (search needs) (search needs) returns-4 returns-5)
+    returns (λ c κs. search needs) (λ c. search needs) (λ c. search needs) returns-2 (λ c κs. search needs)
+    (λ c. search needs) (λ c κs. search needs) (λ c κs. search needs) (λ c. search needs) returns-3
+    (λ c κs. search needs) (λ c κs. search needs) (λ c. search needs) (λ c κs. search needs)
+    (λ c. search needs) returns-4 returns-5)

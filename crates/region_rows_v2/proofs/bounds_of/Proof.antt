@@ -10,7 +10,7 @@ use Rattle.basics.specs.Says.{saysOrder}
 use Rattle.trailer.specs.Handed.{regionAt}
 use Rattle.trailer.specs.Laws.{region-used}
 use Rattle.trailer.specs.Says.{trailerFrom, regionFrom, saysTrailer, saysRegion}
-use Rattle.step_in_place_v2.specs.Says.{viewIn}
+use Rattle.place_v2.specs.Says.{viewIn}
 use Rattle.region_rows_v2.specs.Bounds.{none-down, none-marked, none-trailer, none-region, none-key, none-bounds, none-before, some-stretch}
 use borrow.Author.Needs.{needs}
 use Rattle.region_rows_v2.proofs.bounds_of.Statement.{statement}
@@ -95,6 +95,7 @@ pub bounds-of-spec : {M : Type 1} → statement M
 bounds-of-spec =
     tie.close
     (tie.spec
-    (search needs) (search needs) (search needs) returns (search needs) returns-2 (search needs)
-    (search needs) (search needs) (search needs) returns-3 (search needs) returns-4 (search needs) returns-5
-    (search needs) (search needs) (search needs) (search needs) returns-6 (search needs) returns-7 returns-8)
+    (search needs) (search needs) (λ c κs. search needs) returns (λ c κs. search needs) returns-2
+    (λ c κs. search needs) (search needs) (search needs) (λ c κs. search needs) returns-3
+    (λ c κs. search needs) returns-4 (λ c κs. search needs) returns-5 (λ c κs. search needs) (search needs)
+    (search needs) (λ c κs. search needs) returns-6 (λ c κs. search needs) returns-7 returns-8)

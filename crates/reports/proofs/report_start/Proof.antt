@@ -11,4 +11,4 @@ slice-aggregate-report : tie.Need-slice-aggregate-report
 slice-aggregate-report c = sym (length-take-le _ _ (omega arith))
 
 pub report-start-spec : {M : Type 1} → statement M
-report-start-spec = tie.close (tie.spec slice-aggregate-report (search needs) (search needs) (search needs))
+report-start-spec = tie.close (tie.spec slice-aggregate-report (λ c κs. search needs) (λ c. search needs) (λ c. search needs))

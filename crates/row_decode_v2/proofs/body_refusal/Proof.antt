@@ -10,4 +10,4 @@ returns : tie.Need-returns
 returns c = sym (ap refusalOfBody (c .before .a .given .1))
 
 pub body-refusal-spec : {M : Type 1} → statement M
-body-refusal-spec = tie.close (tie.spec (search needs) (search needs) returns (search needs))
+body-refusal-spec = tie.close (tie.spec (search needs) (search needs) returns (λ c. search needs))

@@ -10,4 +10,4 @@ returns : tie.Need-returns
 returns c = sym (ap refusalOfHead (c .before .a .given .1))
 
 pub head-refusal-spec : {M : Type 1} → statement M
-head-refusal-spec = tie.close (tie.spec (search needs) (search needs) returns (search needs))
+head-refusal-spec = tie.close (tie.spec (search needs) (search needs) returns (λ c. search needs))

@@ -18,4 +18,4 @@ returns-3 c =
     sym (ap (λ (k : Kind). heldFrom k (a .start) (a .len)) (c .enum-told3 .given .1))
 
 pub held-as-spec : {M : Type 1} → statement M
-held-as-spec = tie.close (tie.spec (search needs) (search needs) (search needs) returns (search needs) returns-3)
+held-as-spec = tie.close (tie.spec (search needs) (search needs) (search needs) returns (λ c. search needs) returns-3)

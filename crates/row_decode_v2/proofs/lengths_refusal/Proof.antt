@@ -10,4 +10,4 @@ returns : tie.Need-returns
 returns c = sym (ap refusalOfLengths (c .before .a .given .1))
 
 pub lengths-refusal-spec : {M : Type 1} → statement M
-lengths-refusal-spec = tie.close (tie.spec (search needs) (search needs) returns (search needs))
+lengths-refusal-spec = tie.close (tie.spec (search needs) (search needs) returns (λ c. search needs))

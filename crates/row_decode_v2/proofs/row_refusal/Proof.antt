@@ -10,4 +10,4 @@ returns : tie.Need-returns
 returns c = sym (ap refusalOfRow (c .before .a .given .1))
 
 pub row-refusal-spec : {M : Type 1} → statement M
-row-refusal-spec = tie.close (tie.spec (search needs) (search needs) returns (search needs))
+row-refusal-spec = tie.close (tie.spec (search needs) (search needs) returns (λ c. search needs))

@@ -10,4 +10,4 @@ returns : tie.Need-returns
 returns c = sym (ap refusalOfVarint (c .before .a .given .1))
 
 pub varint-refusal-spec : {M : Type 1} → statement M
-varint-refusal-spec = tie.close (tie.spec (search needs) (search needs) returns (search needs))
+varint-refusal-spec = tie.close (tie.spec (search needs) (search needs) returns (λ c. search needs))

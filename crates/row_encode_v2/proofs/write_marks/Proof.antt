@@ -51,5 +51,5 @@ pub write-marks-spec : {M : Type 1} → statement M
 write-marks-spec =
     tie.close
     (tie.spec
-    (search needs) (search needs) (search needs) (search needs) (search needs) (search needs) (search needs)
-    same-length returns)
+    (search needs) (λ c. search needs) (search needs) (search needs) (search needs) (search needs)
+    (search needs) same-length returns)

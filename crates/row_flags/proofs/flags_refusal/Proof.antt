@@ -10,4 +10,4 @@ returns : tie.Need-returns
 returns c = sym (ap refusalOfFlags (c .before .a .given .1))
 
 pub flags-refusal-spec : {M : Type 1} → statement M
-flags-refusal-spec = tie.close (tie.spec (search needs) (search needs) returns (search needs))
+flags-refusal-spec = tie.close (tie.spec (search needs) (search needs) returns (λ c. search needs))

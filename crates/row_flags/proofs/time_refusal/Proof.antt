@@ -10,4 +10,4 @@ returns : tie.Need-returns
 returns c = sym (ap refusalOfTime (c .before .a .given .1))
 
 pub time-refusal-spec : {M : Type 1} → statement M
-time-refusal-spec = tie.close (tie.spec (search needs) (search needs) returns (search needs))
+time-refusal-spec = tie.close (tie.spec (search needs) (search needs) returns (λ c. search needs))

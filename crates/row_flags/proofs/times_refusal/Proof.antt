@@ -10,4 +10,4 @@ returns : tie.Need-returns
 returns c = sym (ap refusalOfTimes (c .before .a .given .1))
 
 pub times-refusal-spec : {M : Type 1} → statement M
-times-refusal-spec = tie.close (tie.spec (search needs) (search needs) returns (search needs))
+times-refusal-spec = tie.close (tie.spec (search needs) (search needs) returns (λ c. search needs))

@@ -10,4 +10,4 @@ returns : tie.Need-returns
 returns c = sym (ap sizedRefusal (c .before .size .given .1))
 
 pub size-refusal-spec : {M : Type 1} → statement M
-size-refusal-spec = tie.close (tie.spec (search needs) (search needs) returns (search needs))
+size-refusal-spec = tie.close (tie.spec (search needs) (search needs) returns (λ c. search needs))

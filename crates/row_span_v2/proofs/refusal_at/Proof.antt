@@ -1,5 +1,5 @@
 -- `refusal_at` keeps its promise: what the read refuses with, taken out of its answer.
--- Of a row that is read, which is never asked, both sides are 9.
+-- Of a row that is read, which is never asked, both sides are 18.
 use Rattle.row_span_v2.proofs.Laws.{refusal-taken}
 use borrow.Author.Needs.{needs}
 use Rattle.row_span_v2.proofs.refusal_at.Statement.{statement}

@@ -24,5 +24,5 @@ pub row-at-spec : {M : Type 1} → statement M
 row-at-spec =
     tie.close
     (tie.spec
-    (search needs) (search needs) (search needs) (search needs) sub-get-u64 (search needs) (search needs)
-    (search needs) (search needs) (search needs) add-suffix-at add-start returns-3)
+    (search needs) (search needs) (search needs) (λ c. search needs) sub-get-u64 (search needs)
+    (search needs) (search needs) (search needs) (λ c. search needs) add-suffix-at add-start returns-3)

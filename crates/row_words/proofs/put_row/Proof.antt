@@ -54,7 +54,7 @@ pub put-row-spec : {M : Type 1} → statement M
 put-row-spec =
     tie.close
     (tie.spec
-    returns (search needs) (search needs) (search needs) (search needs) (search needs) (search needs)
-    slice-write-words-4 slice-write-words-5 slice-write-words-6 slice-write-words-7 slice-write-words-8
-    slice-write-words-9 slice-write-words-10 slice-write-words-11 slice-write-words-12 slice-write-words-13
-    same-length returns-2)
+    returns (search needs) (search needs) (search needs) (λ c. search needs) (λ c. search needs)
+    (λ c. search needs) slice-write-words-4 slice-write-words-5 slice-write-words-6 slice-write-words-7
+    slice-write-words-8 slice-write-words-9 slice-write-words-10 slice-write-words-11 slice-write-words-12
+    slice-write-words-13 same-length returns-2)

@@ -10,4 +10,4 @@ returns : tie.Need-returns
 returns c = sym (ap refusalOfPlace (c .before .a .given .1))
 
 pub place-refusal-spec : {M : Type 1} → statement M
-place-refusal-spec = tie.close (tie.spec (search needs) (search needs) returns (search needs))
+place-refusal-spec = tie.close (tie.spec (λ c. search needs) (λ c. search needs) returns (λ c. search needs))

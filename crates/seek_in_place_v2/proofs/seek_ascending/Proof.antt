@@ -30,5 +30,5 @@ pub seek-ascending-spec : {M : Type 1} → statement M
 seek-ascending-spec =
     tie.close
     (tie.spec
-    (search needs) (search needs) (search needs) (search needs) returns walk-up-requires (search needs)
-    returns-2)
+    (λ c κs. search needs) (λ c. search needs) (λ c. search needs) (λ c κs. search needs) returns
+    walk-up-requires (λ c. search needs) returns-2)

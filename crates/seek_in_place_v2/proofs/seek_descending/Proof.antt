@@ -30,4 +30,5 @@ pub seek-descending-spec : {M : Type 1} → statement M
 seek-descending-spec =
     tie.close
     (tie.spec
-    (search needs) (search needs) (search needs) (search needs) returns walk-down-requires returns-2)
+    (λ c κs. search needs) (λ c. search needs) (λ c. search needs) (λ c κs. search needs) returns
+    walk-down-requires returns-2)

@@ -47,5 +47,6 @@ pub seek-in-place-spec : {M : Type 1} → statement M
 seek-in-place-spec =
     tie.close
     (tie.spec
-    returns (search needs) (search needs) (search needs) (search needs) returns-2 (search needs)
-    seek-ascending-requires (search needs) seek-descending-requires (search needs) returns-3 returns-4)
+    returns (λ c κs. search needs) (λ c. search needs) (λ c. search needs) (λ c κs. search needs) returns-2
+    (λ c. search needs) seek-ascending-requires (λ c. search needs) seek-descending-requires
+    (λ c. search needs) returns-3 returns-4)

@@ -10,4 +10,4 @@ returns : tie.Need-returns
 returns c = sym (ap refusalOfStart (c .before .a .given .1))
 
 pub start-refusal-spec : {M : Type 1} → statement M
-start-refusal-spec = tie.close (tie.spec (search needs) (search needs) returns (search needs))
+start-refusal-spec = tie.close (tie.spec (λ c. search needs) (λ c. search needs) returns (λ c. search needs))

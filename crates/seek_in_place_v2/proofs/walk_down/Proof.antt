@@ -79,6 +79,7 @@ pub walk-down-spec : {M : Type 1} → statement M
 walk-down-spec =
     tie.close
     (tie.spec
-    Inv-loop μ-loop loop-holds (search needs) (search needs) (search needs) (search needs) returns
-    slice-aggregate-last-at-or-below (search needs) (search needs) (search needs) (search needs) returns-2
-    (search needs) returns-3 (search needs) returns-4 (search needs) (search needs) loop-again)
+    Inv-loop μ-loop loop-holds (λ c κs. search needs) (λ c. search needs) (λ c. search needs)
+    (λ c κs. search needs) returns slice-aggregate-last-at-or-below (λ c κs. search needs)
+    (λ c. search needs) (λ c. search needs) (λ c κs. search needs) returns-2 (λ c κs. search needs)
+    returns-3 (λ c κs. search needs) returns-4 (λ c. search needs) (λ c. search needs) loop-again)

@@ -98,7 +98,8 @@ pub walk-up-spec : {M : Type 1} → statement M
 walk-up-spec =
     tie.close
     (tie.spec
-    Inv-loop μ-loop loop-holds (search needs) (search needs) (search needs) (search needs) (search needs)
-    returns slice-aggregate-walk-into (search needs) (search needs) (search needs) (search needs)
-    same-length-2 returns-2 (search needs) same-length-3 returns-3 (search needs) loop-less loop-again
-    sub-over (search needs) (search needs) returns-4)
+    Inv-loop μ-loop loop-holds (λ c κs. search needs) (λ c. search needs) (λ c. search needs)
+    (λ c κs. search needs) (λ c. search needs) returns slice-aggregate-walk-into (λ c κs. search needs)
+    (λ c. search needs) (λ c. search needs) (λ c κs. search needs) same-length-2 returns-2
+    (λ c κs. search needs) same-length-3 returns-3 (λ c. search needs) loop-less loop-again sub-over
+    (λ c κs. search needs) (λ c. search needs) returns-4)

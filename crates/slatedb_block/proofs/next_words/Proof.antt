@@ -5,7 +5,7 @@ use lib.ListN.{length}
 use Rattle.layout.specs.Res.{ok}
 use Rattle.layout.specs.Limits.{maxKey}
 use Rattle.basics.specs.Answers.{yes}
-use Rattle.step_in_place_v2.specs.Says.{viewIn}
+use Rattle.place_v2.specs.Says.{viewIn}
 use Rattle.row_words.specs.Words.{cursorIn, rowCount}
 use Rattle.block_words.specs.Says.{saysCursor}
 use Rattle.block_words.proofs.Laws.{cursor-counts}
@@ -48,5 +48,6 @@ pub next-words-spec : {M : Type 1} → statement M
 next-words-spec =
     tie.close
     (tie.spec
-    (search needs) (search needs) (search needs) (search needs) (search needs) (search needs) returns
-    (search needs) put-moved-requires (search needs) (search needs) (search needs) (search needs) returns-2)
+    (λ c κs. search needs) (λ c. search needs) (λ c. search needs) (λ c. search needs) (λ c. search needs)
+    (λ c. search needs) returns (λ c κs. search needs) put-moved-requires (λ c. search needs)
+    (λ c. search needs) (λ c. search needs) (λ c. search needs) returns-2)

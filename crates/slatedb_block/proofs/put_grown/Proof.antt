@@ -30,4 +30,6 @@ returns-2 c =
 pub put-grown-spec : {M : Type 1} → statement M
 put-grown-spec =
     tie.close
-    (tie.spec (search needs) (search needs) (search needs) (search needs) (search needs) returns returns-2)
+    (tie.spec
+    (λ c. search needs) (λ c κs. search needs) (λ c. search needs) (λ c κs. search needs)
+    (λ c. search needs) returns returns-2)

@@ -39,5 +39,6 @@ pub slatedb-builder-add-spec : {M : Type 1} → statement M
 slatedb-builder-add-spec =
     tie.close
     (tie.spec
-    (search needs) (search needs) (search needs) (search needs) (search needs) returns (search needs)
-    put-grown-requires (search needs) (search needs) (search needs) (search needs) returns-2)
+    (λ c κs. search needs) (λ c. search needs) (λ c. search needs) (λ c. search needs) (λ c. search needs)
+    returns (λ c κs. search needs) put-grown-requires (λ c. search needs) (λ c. search needs)
+    (λ c. search needs) (λ c. search needs) returns-2)

@@ -31,5 +31,6 @@ pub slatedb-builder-build-spec : {M : Type 1} → statement M
 slatedb-builder-build-spec =
     tie.close
     (tie.spec
-    (search needs) (search needs) (search needs) returns (search needs) (search needs) (search needs)
-    (search needs) (search needs) returns-2 (search needs) returns-3)
+    (λ c κs. search needs) (λ c. search needs) (λ c. search needs) returns (λ c κs. search needs)
+    (λ c. search needs) (λ c. search needs) (λ c κs. search needs) (λ c. search needs) returns-2
+    (λ c. search needs) returns-3)

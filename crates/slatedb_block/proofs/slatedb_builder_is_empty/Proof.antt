@@ -22,4 +22,6 @@ returns-2 c =
 pub slatedb-builder-is-empty-spec : {M : Type 1} → statement M
 slatedb-builder-is-empty-spec =
     tie.close
-    (tie.spec (search needs) (search needs) (search needs) returns (search needs) (search needs) returns-2)
+    (tie.spec
+    (λ c κs. search needs) (λ c. search needs) (λ c. search needs) returns (λ c κs. search needs)
+    (λ c κs. search needs) returns-2)

@@ -24,5 +24,5 @@ pub slatedb-builder-new-spec : {M : Type 1} → statement M
 slatedb-builder-new-spec =
     tie.close
     (tie.spec
-    returns (search needs) (search needs) (search needs) (search needs) (search needs) (search needs)
-    returns-2 returns-3)
+    returns (λ c κs. search needs) (λ c. search needs) (λ c κs. search needs) (λ c. search needs)
+    (λ c κs. search needs) (λ c. search needs) returns-2 returns-3)

@@ -4,7 +4,7 @@ use mathlib.Core.Path.{_≡_}
 use Rattle.layout.specs.Res.{ok}
 use Rattle.basics.specs.Answers.{yes}
 use Rattle.row_flags.specs.Says.{fieldsFrom}
-use Rattle.build_in_place_v2.specs.Says.{viewFrom}
+use Rattle.state_v2.specs.Says.{viewFrom}
 use Rattle.block_words.specs.Says.{gainIs, saysOffer}
 use Rattle.block_words.specs.Promise.{offerIn}
 use Rattle.slatedb_block.proofs.Rows.{fits-bad, fits-yes, fits-refused}
@@ -42,5 +42,5 @@ pub slatedb-builder-would-fit-spec : {M : Type 1} → statement M
 slatedb-builder-would-fit-spec =
     tie.close
     (tie.spec
-    (search needs) (search needs) (search needs) returns (search needs) (search needs) (search needs)
-    (search needs) returns-2 returns-3)
+    (λ c κs. search needs) (λ c. search needs) (λ c. search needs) returns (λ c κs. search needs)
+    (λ c. search needs) (λ c. search needs) (λ c κs. search needs) returns-2 returns-3)

@@ -16,4 +16,5 @@ returns-2 c = tells-refused (yes saysChecked (c .before .before .before .before 
 pub slatedb-check-spec : {M : Type 1} → statement M
 slatedb-check-spec =
     tie.close
-    (tie.spec (search needs) (search needs) (search needs) (search needs) returns returns-2)
+    (tie.spec
+    (λ c κs. search needs) (λ c. search needs) (λ c. search needs) (λ c κs. search needs) returns returns-2)

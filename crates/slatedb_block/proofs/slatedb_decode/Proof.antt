@@ -25,5 +25,5 @@ pub slatedb-decode-spec : {M : Type 1} → statement M
 slatedb-decode-spec =
     tie.close
     (tie.spec
-    returns (search needs) (search needs) (search needs) (search needs) (search needs) returns-2
-    (search needs) (search needs) returns-3)
+    returns (λ c κs. search needs) (λ c. search needs) (λ c. search needs) (λ c κs. search needs)
+    (λ c κs. search needs) returns-2 (λ c κs. search needs) (λ c. search needs) returns-3)

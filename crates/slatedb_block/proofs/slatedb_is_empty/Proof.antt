@@ -27,5 +27,6 @@ pub slatedb-is-empty-spec : {M : Type 1} → statement M
 slatedb-is-empty-spec =
     tie.close
     (tie.spec
-    (search needs) (search needs) (search needs) returns (search needs) (search needs) (search needs)
-    (search needs) (search needs) returns-2 returns-3)
+    (λ c κs. search needs) (λ c. search needs) (λ c. search needs) returns (λ c κs. search needs)
+    (λ c. search needs) (λ c κs. search needs) (λ c. search needs) (λ c κs. search needs) returns-2
+    returns-3)

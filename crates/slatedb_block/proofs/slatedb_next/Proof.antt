@@ -32,5 +32,6 @@ pub slatedb-next-spec : {M : Type 1} → statement M
 slatedb-next-spec =
     tie.close
     (tie.spec
-    returns returns-2 returns-3 (search needs) (search needs) (search needs) (search needs) (search needs)
-    returns-4 (search needs) (search needs) (search needs) (search needs) (search needs) returns-5)
+    returns returns-2 returns-3 (λ c κs. search needs) (λ c. search needs) (λ c. search needs)
+    (λ c. search needs) (λ c. search needs) returns-4 (λ c κs. search needs) (λ c. search needs)
+    (λ c. search needs) (λ c. search needs) (λ c. search needs) returns-5)

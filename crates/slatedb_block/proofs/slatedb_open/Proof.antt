@@ -33,5 +33,6 @@ pub slatedb-open-spec : {M : Type 1} → statement M
 slatedb-open-spec =
     tie.close
     (tie.spec
-    returns (search needs) (search needs) (search needs) returns-2 (search needs) (search needs)
-    (search needs) (search needs) (search needs) (search needs) returns-3 returns-4)
+    returns (λ c κs. search needs) (λ c. search needs) (λ c. search needs) returns-2 (λ c κs. search needs)
+    (λ c. search needs) (λ c κs. search needs) (λ c. search needs) (λ c κs. search needs)
+    (λ c. search needs) returns-3 returns-4)

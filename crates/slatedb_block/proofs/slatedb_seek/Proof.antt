@@ -4,7 +4,7 @@ use mathlib.Core.Path.{_≡_}
 use lib.ListN.{length}
 use Rattle.layout.specs.Res.{ok}
 use Rattle.basics.specs.Answers.{yes}
-use Rattle.step_in_place_v2.specs.Says.{viewIn}
+use Rattle.place_v2.specs.Says.{viewIn}
 use Rattle.row_words.specs.Words.{cursorIn, cursorCount}
 use Rattle.block_words.specs.Says.{saysCursor}
 use Rattle.block_words.proofs.Laws.{cursor-counts}
@@ -42,5 +42,5 @@ pub slatedb-seek-spec : {M : Type 1} → statement M
 slatedb-seek-spec =
     tie.close
     (tie.spec
-    returns (search needs) (search needs) (search needs) (search needs) returns-2 (search needs)
-    put-found-requires (search needs) (search needs) returns-3)
+    returns (λ c κs. search needs) (λ c. search needs) (λ c. search needs) (λ c. search needs) returns-2
+    (λ c κs. search needs) put-found-requires (λ c. search needs) (λ c. search needs) returns-3)

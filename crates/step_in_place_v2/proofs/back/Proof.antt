@@ -30,5 +30,5 @@ pub back-spec : {M : Type 1} → statement M
 back-spec =
     tie.close
     (tie.spec
-    slice-aggregate-row-ending-at (search needs) (search needs) (search needs) (search needs) (search needs)
-    returns (search needs) returns-2)
+    slice-aggregate-row-ending-at (λ c κs. search needs) (search needs) (search needs)
+    (λ c κs. search needs) (search needs) returns (search needs) returns-2)

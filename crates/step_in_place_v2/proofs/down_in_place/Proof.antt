@@ -26,5 +26,5 @@ pub down-in-place-spec : {M : Type 1} → statement M
 down-in-place-spec =
     tie.close
     (tie.spec
-    (search needs) (search needs) next-descending-requires (search needs) (search needs) (search needs)
-    returns returns-2 returns-3)
+    (λ c κs. search needs) (search needs) next-descending-requires (search needs) (search needs)
+    (search needs) returns returns-2 returns-3)

@@ -10,4 +10,4 @@ returns : tie.Need-returns
 returns c = sym (ap refusalOfEnded (c .before .a .given .1))
 
 pub ended-refusal-spec : {M : Type 1} → statement M
-ended-refusal-spec = tie.close (tie.spec (search needs) (search needs) returns (search needs))
+ended-refusal-spec = tie.close (tie.spec (search needs) (search needs) returns (λ c. search needs))

@@ -17,4 +17,4 @@ returns c =
     copied (rw (length-take-le (s .args .n) (s .args .key .now) (s .pre .0)) (omega arith)) (c .before .before .copy-in .ensures)
 
 pub give-key-spec : {M : Type 1} → statement M
-give-key-spec = tie.close (tie.spec slice-aggregate-copy-in (search needs) (search needs) returns)
+give-key-spec = tie.close (tie.spec slice-aggregate-copy-in (λ c κs. search needs) (search needs) returns)

@@ -69,6 +69,6 @@ pub look-ahead-spec : {M : Type 1} → statement M
 look-ahead-spec =
     tie.close
     (tie.spec
-    (search needs) (search needs) (search needs) (search needs) returns returns-2 returns-3 returns-4
-    slice-aggregate-decode-at (search needs) (search needs) (search needs) (search needs) returns-5 add-if4
-    returns-6 returns-7)
+    (λ c κs. search needs) (search needs) (search needs) (λ c κs. search needs) returns returns-2 returns-3
+    returns-4 slice-aggregate-decode-at (λ c κs. search needs) (search needs) (search needs)
+    (λ c κs. search needs) returns-5 add-if4 returns-6 returns-7)

@@ -69,6 +69,6 @@ pub look-behind-spec : {M : Type 1} → statement M
 look-behind-spec =
     tie.close
     (tie.spec
-    (search needs) (search needs) (search needs) (search needs) returns returns-2 returns-3 returns-4
-    returns-5 (search needs) (search needs) (search needs) (search needs) (search needs) returns-6
-    (search needs) returns-7)
+    (λ c κs. search needs) (search needs) (search needs) (λ c κs. search needs) returns returns-2 returns-3
+    returns-4 returns-5 (search needs) (λ c κs. search needs) (search needs) (search needs)
+    (λ c κs. search needs) returns-6 (search needs) returns-7)

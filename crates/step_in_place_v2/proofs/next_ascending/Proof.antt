@@ -24,5 +24,5 @@ pub next-ascending-spec : {M : Type 1} → statement M
 next-ascending-spec =
     tie.close
     (tie.spec
-    (search needs) (search needs) pass-requires (search needs) (search needs) (search needs) (search needs)
-    (search needs) returns returns-2 returns-3)
+    (λ c κs. search needs) (search needs) pass-requires (search needs) (λ c κs. search needs) (search needs)
+    (search needs) (search needs) returns returns-2 returns-3)

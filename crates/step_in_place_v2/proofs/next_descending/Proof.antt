@@ -23,5 +23,5 @@ pub next-descending-spec : {M : Type 1} → statement M
 next-descending-spec =
     tie.close
     (tie.spec
-    (search needs) (search needs) back-requires (search needs) (search needs) (search needs) (search needs)
-    returns returns-2 returns-3)
+    (λ c κs. search needs) (search needs) back-requires (search needs) (λ c κs. search needs) (search needs)
+    (search needs) returns returns-2 returns-3)

@@ -11,5 +11,5 @@ pub next-in-place-spec : {M : Type 1} → statement M
 next-in-place-spec =
     tie.close
     (tie.spec
-    (search needs) (search needs) (search needs) (search needs) (search needs) (search needs) (search needs)
-    (search needs) returns-2)
+    (search needs) (λ c κs. search needs) (search needs) (λ c κs. search needs) (search needs) (search needs)
+    (λ c. search needs) (search needs) returns-2)

@@ -14,4 +14,5 @@ pub put-suffix-spec : {M : Type 1} → statement M
 put-suffix-spec =
     tie.close
     (tie.spec
-    (search needs) (search needs) (search needs) (search needs) (search needs) (search needs) returns)
+    (search needs) (search needs) (search needs) (search needs) (λ c κs. search needs) (search needs)
+    returns)

@@ -7,7 +7,7 @@ use Rattle.layout.specs.Trailer.{trailerOf}
 use Rattle.layout.specs.Laws.Cursor.{next-trailer, next-region, next-key, next-marked}
 use Rattle.trailer.specs.Plain.{trailer-is, trailer-not}
 use Rattle.trailer.specs.Says.{trailerFrom}
-use Rattle.step_in_place_v2.specs.Says.{viewIn}
+use Rattle.place_v2.specs.Says.{viewIn}
 use Rattle.step_in_place_v2.proofs.Laws.{stand-other, stand-as}
 use borrow.Author.Needs.{needs}
 use Rattle.step_in_place_v2.proofs.stand.Statement.{statement}
@@ -38,4 +38,4 @@ returns-6 c = (c .before .before .before .before .before .before .before .before
 pub stand-spec : {M : Type 1} → statement M
 stand-spec =
     tie.close
-    (tie.spec returns (search needs) returns-2 returns-3 returns-4 returns-5 returns-6)
+    (tie.spec returns (λ c κs. search needs) returns-2 returns-3 returns-4 returns-5 returns-6)

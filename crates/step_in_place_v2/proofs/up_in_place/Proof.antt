@@ -26,5 +26,5 @@ pub up-in-place-spec : {M : Type 1} → statement M
 up-in-place-spec =
     tie.close
     (tie.spec
-    (search needs) (search needs) next-ascending-requires (search needs) (search needs) (search needs)
-    (search needs) returns returns-2 returns-3)
+    (λ c κs. search needs) (search needs) next-ascending-requires (search needs) (search needs)
+    (search needs) (search needs) returns returns-2 returns-3)

@@ -9,4 +9,4 @@ returns c = let s = c .before in
     all-copied 0 (s .args .src .now) (s .args .from) (s .args .buf .now) (s .args .at) (s .pre .0) (s .pre .1)
 
 pub copy-1-spec : {M : Type 1} → statement M
-copy-1-spec = tie.close (tie.spec (search needs) (search needs) (search needs) returns)
+copy-1-spec = tie.close (tie.spec (search needs) (λ c. search needs) (search needs) returns)

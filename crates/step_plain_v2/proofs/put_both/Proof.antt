@@ -13,6 +13,6 @@ pub put-both-spec : {M : Type 1} → statement M
 put-both-spec =
     tie.close
     (tie.spec
-    (search needs) (search needs) (search needs) (search needs) (search needs) (search needs) (search needs)
-    (search needs) (search needs) (search needs) returns-3 (search needs) (search needs) (search needs)
-    (search needs) (search needs))
+    (search needs) (search needs) (search needs) (search needs) (λ c. search needs) (search needs)
+    (search needs) (search needs) (search needs) (λ c. search needs) returns-3 (search needs) (search needs)
+    (search needs) (search needs) (λ c. search needs))

@@ -17,4 +17,6 @@ returns-3 c = record { moved = _; steps = c .before .before .next-in-place .ensu
 pub step-spec : {M : Type 1} → statement M
 step-spec =
     tie.close
-    (tie.spec (search needs) (search needs) (search needs) (search needs) returns returns-2 returns-3)
+    (tie.spec
+    (λ c κs. search needs) (λ c. search needs) (λ c. search needs) (λ c. search needs) returns returns-2
+    returns-3)

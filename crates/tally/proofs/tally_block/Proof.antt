@@ -51,10 +51,10 @@ use denote.Triple.Walked.{says, Stays, stay-ref, stay-none-slice, walkOf, goes-r
 use Rattle.layout.specs.Limits.{maxKey}
 use Rattle.basics.specs.declared.ValueDeletable.{ValueDeletable}
 use Rattle.basics.proofs.ValueDeletable as K
-use Rattle.step_in_place_v2.specs.Says.{viewIn}
-use Rattle.step_in_place_v2.specs.declared.Place.{Place}
-use Rattle.step_in_place_v2.proofs.Place as P
-use Rattle.step_in_place_v2.proofs.Place.Laws as P′
+use Rattle.place_v2.specs.Says.{viewIn}
+use Rattle.place_v2.specs.declared.Place.{Place}
+use Rattle.place_v2.proofs.Place as P
+use Rattle.place_v2.proofs.Place.Laws as P′
 use Rattle.basics.specs.Answers.{saysVerdict}
 use Rattle.tally.specs.Tally.{tallyBlock}
 use Rattle.tally.specs.Says.{Told, afterBlock as tallyAfter}

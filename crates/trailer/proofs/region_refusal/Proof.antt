@@ -10,4 +10,4 @@ returns : tie.Need-returns
 returns c = sym (ap refusalOfRegion (c .before .a .given .1))
 
 pub region-refusal-spec : {M : Type 1} → statement M
-region-refusal-spec = tie.close (tie.spec (search needs) (search needs) returns (search needs))
+region-refusal-spec = tie.close (tie.spec (search needs) (search needs) returns (λ c. search needs))

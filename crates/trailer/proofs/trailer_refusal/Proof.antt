@@ -10,4 +10,4 @@ returns : tie.Need-returns
 returns c = sym (ap refusalOfTrailer (c .before .a .given .1))
 
 pub trailer-refusal-spec : {M : Type 1} → statement M
-trailer-refusal-spec = tie.close (tie.spec (search needs) (search needs) returns (search needs))
+trailer-refusal-spec = tie.close (tie.spec (search needs) (search needs) returns (λ c. search needs))

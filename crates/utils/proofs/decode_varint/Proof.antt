@@ -29,4 +29,5 @@ returns-2 c = one-byte _ _ _ (c .before .before .before .if1 .left) (c .before .
 pub decode-varint-spec : {M : Type 1} → statement M
 decode-varint-spec =
     tie.close
-    (tie.spec returns (search needs) (search needs) (search needs) returns-2 (search needs) (search needs))
+    (tie.spec
+    returns (search needs) (search needs) (search needs) returns-2 (search needs) (λ c. search needs))

@@ -12,4 +12,4 @@ pub encode-varint-spec : {M : Type 1} → statement M
 encode-varint-spec =
     tie.close
     (tie.spec
-    (search needs) (search needs) (search needs) returns (search needs) (search needs) (search needs))
+    (search needs) (search needs) (search needs) returns (search needs) (search needs) (λ c. search needs))

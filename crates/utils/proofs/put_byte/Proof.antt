@@ -14,4 +14,4 @@ returns-2 : tie.Need-returns-2
 returns-2 c = puts-short _ _ _ (omega arith)
 
 pub put-byte-spec : {M : Type 1} → statement M
-put-byte-spec = tie.close (tie.spec (search needs) (search needs) (search needs) returns returns-2)
+put-byte-spec = tie.close (tie.spec (λ c. search needs) (search needs) (search needs) returns returns-2)

@@ -64,7 +64,8 @@ pub plain-next-spec : {M : Type 1} → statement M
 plain-next-spec =
     tie.close
     (tie.spec
-    returns slice-read-if2 slice-read-if2-2 returns-2 slice-read-size (search needs) slice-read-size-2
-    (search needs) slice-read-size-3 (search needs) (search needs) (search needs) (search needs) returns-3
-    add-suffix-at add-t13 (search needs) (search needs) (search needs) (search needs) (search needs)
-    (search needs) returns-4)
+    returns slice-read-if2 slice-read-if2-2 returns-2 slice-read-size (λ c κs. search needs)
+    slice-read-size-2 (λ c κs. search needs) slice-read-size-3 (λ c κs. search needs) (λ c κs. search needs)
+    (λ c. search needs) (λ c. search needs) returns-3 add-suffix-at add-t13 (λ c κs. search needs)
+    (λ c κs. search needs) (λ c. search needs) (λ c. search needs) (λ c. search needs) (λ c. search needs)
+    returns-4)

@@ -7,4 +7,4 @@ returns : tie.Need-returns
 returns c = c .is-empty-place .ensures _
 
 pub is-empty-spec : {M : Type 1} → statement M
-is-empty-spec = tie.close (tie.spec (search needs) returns)
+is-empty-spec = tie.close (tie.spec (λ c κs. search needs) returns)

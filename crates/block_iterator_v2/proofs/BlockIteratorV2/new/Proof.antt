@@ -10,4 +10,4 @@ returns c =
     record { answer = m .answer; view = m .view _; bytes = refl }
 
 pub new-spec : {M : Type 1} → statement M
-new-spec = tie.close (tie.spec (search needs) returns)
+new-spec = tie.close (tie.spec (λ c κs. search needs) returns)

@@ -11,4 +11,5 @@ returns c =
     steps-put (s .before .args .t1) _ _ _ _ (c .before .before .before .before .next-in-array .ensures) (c .before .place-after .ensures) (c .answer-of .ensures)
 
 pub next-spec : {M : Type 1} → statement M
-next-spec = tie.close (tie.spec (search needs) (search needs) (search needs) (search needs) returns)
+next-spec = tie.close (tie.spec
+    (λ c κs. search needs) (λ c κs. search needs) (λ c κs. search needs) (λ c. search needs) returns)

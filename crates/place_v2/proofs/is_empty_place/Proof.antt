@@ -6,10 +6,10 @@ use Rattle.layout.specs.Trailer.{trailerOf}
 use Rattle.layout.specs.Laws.Cursor.{empty-trailer}
 use Rattle.basics.specs.Answers.{yes, no}
 use Rattle.trailer.specs.Says.{trailerFrom, saysTrailer, refusalOfTrailer}
-use Rattle.step_in_place_v2.proofs.Opens.{empty-marked, empty-up, empty-down}
+use Rattle.place_v2.proofs.Opens.{empty-marked, empty-up, empty-down}
 use borrow.Author.Needs.{needs}
-use Rattle.step_in_place_v2.proofs.is_empty_place.Statement.{statement}
-use Rattle.step_in_place_v2.proofs.is_empty_place.Tie as tie
+use Rattle.place_v2.proofs.is_empty_place.Statement.{statement}
+use Rattle.place_v2.proofs.is_empty_place.Tie as tie
 
 module _ (k : tie.After-known-told) where
   trailer-read : trailerOf (k .before .before .before .before .before .args .block .now) ≡ ok (trailerFrom (k .before .read .given .0 .0))

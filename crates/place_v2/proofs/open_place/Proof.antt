@@ -9,10 +9,10 @@ use Rattle.layout.specs.Laws.Cursor.{open-trailer, open-offsets, open-good}
 use Rattle.basics.specs.Answers.{yes, no, saysVerdict}
 use Rattle.trailer.specs.Says.{trailerFrom, saysTrailer, refusalOfTrailer}
 use Rattle.trailer.specs.Laws.{offsets-used}
-use Rattle.step_in_place_v2.proofs.Opens.{opens-not, opens-up, opens-down}
+use Rattle.place_v2.proofs.Opens.{opens-not, opens-up, opens-down}
 use borrow.Author.Needs.{needs}
-use Rattle.step_in_place_v2.proofs.open_place.Statement.{statement}
-use Rattle.step_in_place_v2.proofs.open_place.Tie as tie
+use Rattle.place_v2.proofs.open_place.Statement.{statement}
+use Rattle.place_v2.proofs.open_place.Tie as tie
 
 module _ (k : tie.After-known-told) where
   trailer-read : trailerOf (k .before .before .before .before .before .before .args .block .now) ≡ ok (trailerFrom (k .before .read .given .0 .0))

@@ -19,10 +19,10 @@ use Rattle.basics.specs.declared.IterationOrder.the-variants.{Ascending, Descen
 use Rattle.basics.specs.declared.Refusal.{Refusal}
 use Rattle.basics.specs.declared.Verdict.{Verdict}
 use Rattle.basics.specs.declared.Verdict.the-variants.{Good, Refused}
-use Rattle.step_in_place_v2.specs.declared.Place.{Place}
-use Rattle.step_in_place_v2.specs.Parts.{fresh}
-use Rattle.step_in_place_v2.specs.Promise.{OpensPlace}
-use Rattle.step_in_place_v2.specs.Says.{viewIn}
+use Rattle.place_v2.specs.declared.Place.{Place}
+use Rattle.place_v2.specs.Parts.{fresh}
+use Rattle.place_v2.specs.Promise.{OpensPlace}
+use Rattle.place_v2.specs.Says.{viewIn}
 
 -- ---- opening
 

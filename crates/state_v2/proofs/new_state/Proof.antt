@@ -2,9 +2,9 @@
 -- The three tests are the definition's, in its order, and each exit is one of its laws.
 use borrow.Author.Needs.{needs}
 use Rattle.layout.specs.Laws.Builder.{new-large, new-none, new-long, new-good}
-use Rattle.build_in_place_v2.proofs.Writes.{made-not, made-good}
-use Rattle.build_in_place_v2.proofs.new_state.Statement.{statement}
-use Rattle.build_in_place_v2.proofs.new_state.Tie as tie
+use Rattle.state_v2.proofs.Made.{made-not, made-good}
+use Rattle.state_v2.proofs.new_state.Statement.{statement}
+use Rattle.state_v2.proofs.new_state.Tie as tie
 
 returns : tie.Need-returns
 returns c = made-not _ _ (c .before .empty-state .ensures) (new-large _ _ (c .if1 .taken))
