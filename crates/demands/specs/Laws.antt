@@ -1,4 +1,5 @@
 pub mod Reads
+pub mod Numbered
 pub mod Refusals
 pub mod Local
 pub mod First

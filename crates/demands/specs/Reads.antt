@@ -22,6 +22,11 @@ regionRows (suc left) d g at before =
     ok (keyed r (keyOf d before r) ∷ more))
     (ok [])
 
+-- row number `i` of a region, counted from 0 at the row at `at`: it is the one with so many before it (`rows-numbered`)
+unfoldable pub rowNumber : ℕ → List ℕ → Region → ℕ → Key → Res Keyed
+rowNumber zero d g at before = bind (rowIn d g at (length before)) λ r. ok (keyed r (keyOf d before r))
+rowNumber (suc i) d g at before = bind (rowIn d g at (length before)) λ r. rowNumber i d g (r .next) (keyOf d before r)
+
 -- the rows of as many regions, from `region` on
 unfoldable pub regionsRows : ℕ → List ℕ → Trailer → ℕ → Res (List (List Keyed))
 regionsRows zero b t region = ok []
