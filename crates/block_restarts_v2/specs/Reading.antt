@@ -10,18 +10,12 @@ use Rattle.basics.specs.Number.{number}
 use Rattle.keys.specs.Says.{saysOrdering}
 use Rattle.basics.specs.declared.Refusal.{Refusal}
 use Rattle.basics.specs.declared.Refusal.the-variants.{BadState}
-use Rattle.row_decode_v2.specs.declared.KeyRead.{KeyRead}
-use Rattle.row_decode_v2.specs.declared.KeyRead.the-variants.{Read as ReadKey, Refused as KeyRefused}
 use Rattle.block_restarts_v2.specs.declared.Start.{Start}
 use Rattle.block_restarts_v2.specs.declared.Search.{Search}
 use Rattle.block_restarts_v2.specs.declared.Search.the-variants.{Found, Refused as SearchRefused}
 use Rattle.block_restarts_v2.specs.declared.Compared.{Compared}
 use Rattle.block_restarts_v2.specs.declared.Compared.the-variants.{Is, Refused as ComparedRefused}
 use Rattle.block_restarts_v2.specs.Handed.{startIs}
-
-abbrev pub refusalOfKey : KeyRead → Refusal
-refusalOfKey (ReadKey k) = BadState
-refusalOfKey (KeyRefused r) = r
 
 abbrev pub saysCompared : Compared → Res Ordering
 saysCompared (Is o) = ok (saysOrdering o)

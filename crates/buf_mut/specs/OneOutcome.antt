@@ -4,8 +4,9 @@ use mathlib.Core.Path.{_≡_, sym, _∙_}
 use mathlib.Core.List.{List}
 use lib.IntN.{ℤ}
 use Rattle.layout.specs.Fixed.{big, bits}
+use Rattle.basics.specs.declared.Refusal.{Refusal}
 use Rattle.buf_mut.specs.declared.Put.{Put}
-use Rattle.buf_mut.specs.Promise.{Puts, CopiesFirst, PlaceAfter}
+use Rattle.buf_mut.specs.Promise.{Puts, CopiesFirst, PlaceAfter, PutRefusal}
 use Rattle.buf_mut.specs.Says.{saysPut-one}
 
 -- any bytes, and those of each writer
@@ -38,3 +39,6 @@ copy-4-settled = copies-settled 4
 
 pub place-after-settled : (put : Put) (m n : ℕ) → PlaceAfter put m → PlaceAfter put n → m ≡ n
 place-after-settled put m n p q = p ∙ sym q
+
+pub put-refusal-settled : (a : Put) (r q : Refusal) → PutRefusal a r → PutRefusal a q → r ≡ q
+put-refusal-settled a r q m n = m ∙ sym n

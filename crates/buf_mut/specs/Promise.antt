@@ -6,8 +6,9 @@ use mathlib.Core.List.{List}
 use lib.Dec.{ltb}
 use lib.ListN.{length, take}
 use Rattle.layout.specs.Place.{splice, putAt, afterPut}
+use Rattle.basics.specs.declared.Refusal.{Refusal}
 use Rattle.buf_mut.specs.declared.Put.{Put}
-use Rattle.buf_mut.specs.Says.{saysPut, placeAfter}
+use Rattle.buf_mut.specs.Says.{saysPut, placeAfter, refusalOfPut}
 
 -- a writer of the bytes w: its answer r, and the buffer that it leaves
 pub record Puts (w buf : List ℕ) (at : ℕ) (r : Put) (buf′ : List ℕ) : Type 0 where
@@ -24,3 +25,6 @@ CopiesFirst n src buf buf′ = buf′ ≡ firstCopied n src buf
 -- the place in a writer's answer
 abbrev pub PlaceAfter : Put → ℕ → Type 0
 PlaceAfter put r = r ≡ placeAfter put
+
+abbrev pub PutRefusal : Put → Refusal → Type 0
+PutRefusal a r = r ≡ refusalOfPut a

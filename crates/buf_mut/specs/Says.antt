@@ -5,6 +5,8 @@ use Rattle.layout.specs.Res.{Res, ok, refuse}
 use Rattle.layout.specs.Laws.Res.{ok-inj}
 use Rattle.basics.specs.Answers.{apart, refused-one}
 use Rattle.basics.specs.Number.{number}
+use Rattle.basics.specs.declared.Refusal.{Refusal}
+use Rattle.basics.specs.declared.Refusal.the-variants.{BadState}
 use Rattle.buf_mut.specs.declared.Put.{Put}
 use Rattle.buf_mut.specs.declared.Put.the-variants.{At, Refused as PutRefused}
 
@@ -16,6 +18,10 @@ saysPut (PutRefused r) = refuse (number r)
 abbrev pub placeAfter : Put → ℕ
 placeAfter (At n) = n
 placeAfter (PutRefused r) = 0
+
+abbrev pub refusalOfPut : Put → Refusal
+refusalOfPut (At n) = BadState
+refusalOfPut (PutRefused r) = r
 
 -- ---- one to one
 

@@ -6,7 +6,7 @@ ghost use Prim.Native.Nat.{_+_, _≤_};
 ghost use lib.ListN.{length, take, drop};
 ghost use Rattle.layout.specs.Fixed.{big, bits};
 ghost use Rattle.layout.specs.Place.{splice};
-ghost use Rattle.buf_mut.specs.Promise.{Puts, CopiesFirst, PlaceAfter};
+ghost use Rattle.buf_mut.specs.Promise.{Puts, CopiesFirst, PlaceAfter, PutRefusal};
 use basics::Refusal;
 
 // The place after what was written.
@@ -22,6 +22,16 @@ pub fn place_after(put: Put) -> usize
     match put {
         Put::At(next) => next,
         Put::Refused(_) => 0,
+    }
+}
+
+// A writer that refuses ends the call with its refusal, which a `let .. else` can't bind: this takes it out of the answer. Its other case is not met there.
+pub fn put_refusal(a: Put) -> Refusal
+    ensures { λ r. ⌜ PutRefusal a r ⌝ }
+{
+    match a {
+        Put::Refused(refusal) => refusal,
+        Put::At(_) => Refusal::BadState,
     }
 }
 

@@ -9,19 +9,19 @@ use Rattle.layout.specs.Res.{Res, ok, refuse, bind}
 use Rattle.layout.specs.Place.{varintAt, numAt}
 use Rattle.layout.specs.RowRead.{KeyRead as KeyReadL, readKey}
 use Rattle.layout.specs.Varint.{varint}
-use Rattle.basics.specs.Answers.{yes}
+use Rattle.basics.specs.Answers.{yes, no}
 use Rattle.basics.specs.Number.{number}
 use Rattle.basics.specs.declared.Refusal.{Refusal}
 use Rattle.buf_mut.specs.Promise.{Puts}
-use Rattle.buf_mut.specs.Says.{saysPut}
+use Rattle.buf_mut.specs.Says.{saysPut, refusalOfPut}
 use Rattle.buf_mut.specs.declared.Put.{Put}
 use Rattle.buf_mut.specs.declared.Put.the-variants.{At, Refused as PutRefused}
 use Rattle.utils.specs.Promise.{ReadsVarint}
-use Rattle.utils.specs.Says.{saysVarint}
+use Rattle.utils.specs.Says.{saysVarint, refusalOfVarint}
 use Rattle.utils.specs.declared.VarintRead.{VarintRead}
 use Rattle.utils.specs.declared.VarintRead.the-variants.{Number as VarintNumber, Refused as VarintRefused}
 use Rattle.row_decode_v2.specs.Promise.{DecodesKey}
-use Rattle.row_decode_v2.specs.Says.{keyFrom, saysKey}
+use Rattle.row_decode_v2.specs.Says.{keyFrom, saysKey, refusalOfKey}
 use Rattle.row_decode_v2.specs.declared.KeyPlace.{KeyPlace}
 use Rattle.row_decode_v2.specs.declared.KeyRead.{KeyRead}
 use Rattle.row_decode_v2.specs.declared.KeyRead.the-variants.{Read as ReadKey, Refused as KeyRefused}
@@ -37,8 +37,8 @@ module _ (v : ℕ) (out : List ℕ) (n : ℕ) (r : Put) (out′ : List ℕ) (p :
   pub writes-good : {k : ℕ} → r ≡ At k → WritesVarintFlat v out n 0 out′ k
   writes-good e = let is = yes saysPut (p .answer) e in record { answer = rw is refl; number = rw is refl; bytes = p .bytes }
 
-  pub writes-refused : {x : Refusal} {code : ℕ} → r ≡ PutRefused x → code ≡ number x → WritesVarintFlat v out n code out′ n
-  writes-refused e q = let is = yes saysPut (p .answer) e in record { answer = rw is q; number = rw is refl; bytes = p .bytes }
+  pub writes-refused : {y x : Refusal} {code : ℕ} → r ≡ PutRefused y → x ≡ refusalOfPut r → code ≡ number x → WritesVarintFlat v out n code out′ n
+  writes-refused e t q = let is = no saysPut refusalOfPut (p .answer) e refl t in record { answer = rw is q; number = rw is refl; bytes = p .bytes }
 
 -- ---- a varint read
 
@@ -50,8 +50,8 @@ module _ (s : List ℕ) (at : ℕ) (ws : List ℕ) where
     pub reads-good : {v n : ℕ} → r ≡ VarintNumber v n → ReadsVarintFlat s at ws 0 (set (set ws 0 v) 1 n)
     reads-good {v} {n} e = sets-good (numAt v n) (counted-so ws 2 (varintAt s at) h ∙ yes saysVarint p e) (all-stored (v ∷ n ∷ []) ws h)
 
-    pub reads-refused : {x : Refusal} {code : ℕ} → r ≡ VarintRefused x → code ≡ number x → ReadsVarintFlat s at ws code ws
-    reads-refused e q = sets-refused (counted-so ws 2 (varintAt s at) h ∙ yes saysVarint p e) q
+    pub reads-refused : {y x : Refusal} {code : ℕ} → r ≡ VarintRefused y → x ≡ refusalOfVarint r → code ≡ number x → ReadsVarintFlat s at ws code ws
+    reads-refused e t q = sets-refused (counted-so ws 2 (varintAt s at) h ∙ no saysVarint refusalOfVarint p e refl t) q
 
 -- ---- a key read
 
@@ -73,5 +73,5 @@ module _ (s : List ℕ) (at end prevLen restart : ℕ) (ws : List ℕ) where
         → ReadsKeyFlat s at end prevLen restart ws 0 (set (set (set ws 0 (k .shared)) 1 (k .«suffix_at»)) 2 (k .«suffix_len»))
     key-good {k} e = sets-good (keyFrom k) (asked ∙ yes saysKey p e) (all-stored (k .shared ∷ k .«suffix_at» ∷ k .«suffix_len» ∷ []) ws h)
 
-    pub key-refused : {x : Refusal} {code : ℕ} → r ≡ KeyRefused x → code ≡ number x → ReadsKeyFlat s at end prevLen restart ws code ws
-    key-refused e q = sets-refused (asked ∙ yes saysKey p e) q
+    pub key-refused : {y x : Refusal} {code : ℕ} → r ≡ KeyRefused y → x ≡ refusalOfKey r → code ≡ number x → ReadsKeyFlat s at end prevLen restart ws code ws
+    key-refused e t q = sets-refused (asked ∙ no saysKey refusalOfKey p e refl t) q

@@ -18,13 +18,11 @@ pub extern "C" fn slatedb_varint_put(output: &mut [u8], value: u32, count: &mut 
     ensures { λ r. ⌜ WritesVarintFlat value (now (output .entry)) (now (count .entry)) r (now (output .exit)) (now (count .exit)) ⌝ }
 {
     let put = utils::encode_varint(output, 0, value);
-    match put {
-        Put::At(n) => {
-            *count = n as u64;
-            block_words::GOOD
-        }
-        Put::Refused(refusal) => basics::number(refusal),
-    }
+    let Put::At(n) = put else {
+        return basics::number(buf_mut::put_refusal(put));
+    };
+    *count = n as u64;
+    block_words::GOOD
 }
 
 // Reads the varint at `at`: 254, 9, 10. Good sets the words to its number and to the place after it.
@@ -36,14 +34,12 @@ pub extern "C" fn slatedb_varint_get(input: &[u8], at: usize, words: &mut [u64])
         return block_words::BAD_WORDS;
     }
     let read = utils::decode_varint(input, at);
-    match read {
-        VarintRead::Number { value, next } => {
-            words[0] = value as u64;
-            words[1] = next as u64;
-            block_words::GOOD
-        }
-        VarintRead::Refused(refusal) => basics::number(refusal),
-    }
+    let VarintRead::Number { value, next } = read else {
+        return basics::number(utils::varint_refusal(read));
+    };
+    words[0] = value as u64;
+    words[1] = next as u64;
+    block_words::GOOD
 }
 
 // Reads the key alone of the row at `at`, after a key of `previous_len` bytes, in a region that ends at `region_end`: 254, 9, 10, 13, 1, 2, 9, 16. Good sets the
@@ -67,13 +63,11 @@ pub extern "C" fn slatedb_decode_key(
         return block_words::BAD_WORDS;
     };
     let read = row_decode_v2::decode_key_only(input, at, region_end, previous_len, first);
-    match read {
-        KeyRead::Read(key) => {
-            words[0] = key.shared as u64;
-            words[1] = key.suffix_at as u64;
-            words[2] = key.suffix_len as u64;
-            block_words::GOOD
-        }
-        KeyRead::Refused(refusal) => basics::number(refusal),
-    }
+    let KeyRead::Read(key) = read else {
+        return basics::number(row_decode_v2::key_refusal(read));
+    };
+    words[0] = key.shared as u64;
+    words[1] = key.suffix_at as u64;
+    words[2] = key.suffix_len as u64;
+    block_words::GOOD
 }

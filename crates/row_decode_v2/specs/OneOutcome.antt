@@ -6,7 +6,7 @@ use mathlib.Core.List.{List}
 use Rattle.basics.specs.declared.Refusal.{Refusal}
 use Rattle.row_decode_v2.specs.declared.RowRead.{RowRead}
 use Rattle.row_decode_v2.specs.declared.KeyRead.{KeyRead}
-use Rattle.row_decode_v2.specs.Promise.{Decodes, DecodesAt, RowRefusal, DecodesKey}
+use Rattle.row_decode_v2.specs.Promise.{Decodes, DecodesAt, RowRefusal, DecodesKey, KeyRefusal}
 use Rattle.row_decode_v2.specs.Says.{saysRow-one, saysKey-one}
 
 pub decode-settled : (s : List ℕ) (prevLen : ℕ) (r q : RowRead) → Decodes s prevLen r → Decodes s prevLen q → r ≡ q
@@ -14,6 +14,9 @@ decode-settled s prevLen r q a b = saysRow-one r q (a ∙ sym b)
 
 pub row-refusal-settled : (a : RowRead) (r q : Refusal) → RowRefusal a r → RowRefusal a q → r ≡ q
 row-refusal-settled a r q m n = m ∙ sym n
+
+pub key-refusal-settled : (a : KeyRead) (r q : Refusal) → KeyRefusal a r → KeyRefusal a q → r ≡ q
+key-refusal-settled a r q m n = m ∙ sym n
 
 module _ (s : List ℕ) (at end prevLen : ℕ) (restart : Bool) where
   pub decode-at-settled : (r q : RowRead) → DecodesAt s at end prevLen restart r → DecodesAt s at end prevLen restart q → r ≡ q

@@ -7,7 +7,7 @@ use Rattle.layout.specs.RowRead.{decodeRow, readRow, readKey}
 use Rattle.basics.specs.declared.Refusal.{Refusal}
 use Rattle.row_decode_v2.specs.declared.RowRead.{RowRead}
 use Rattle.row_decode_v2.specs.declared.KeyRead.{KeyRead}
-use Rattle.row_decode_v2.specs.Says.{saysRow, refusalOfRow, saysKey}
+use Rattle.row_decode_v2.specs.Says.{saysRow, refusalOfRow, saysKey, refusalOfKey}
 
 -- a single row
 abbrev pub Decodes : List ℕ → ℕ → RowRead → Type 0
@@ -23,3 +23,6 @@ RowRefusal a r = r ≡ refusalOfRow a
 -- its key alone
 abbrev pub DecodesKey : List ℕ → ℕ → ℕ → ℕ → Bool → KeyRead → Type 0
 DecodesKey s at end prevLen restart r = saysKey r ≡ readKey s at end prevLen restart
+
+abbrev pub KeyRefusal : KeyRead → Refusal → Type 0
+KeyRefusal a r = r ≡ refusalOfKey a

@@ -7,8 +7,6 @@ use Rattle.basics.specs.Says.{saysKind, saysHeld}
 use Rattle.basics.specs.declared.Kind.{Kind}
 use Rattle.basics.specs.declared.Refusal.{Refusal}
 use Rattle.basics.specs.declared.Refusal.the-variants.{BadState}
-use Rattle.utils.specs.declared.VarintRead.{VarintRead}
-use Rattle.utils.specs.declared.VarintRead.the-variants.{Number as VarintNumber, Refused as VarintRefused}
 use Rattle.row_flags.specs.Says.{flagsFrom}
 use Rattle.row_decode_v2.specs.declared.LengthsRead.{LengthsRead}
 use Rattle.row_decode_v2.specs.declared.LengthsRead.the-variants.{Read as ReadLengths, Refused as LengthsRefused}
@@ -18,10 +16,6 @@ use Rattle.row_decode_v2.specs.declared.HeadRead.the-variants.{Read as R
 use Rattle.row_decode_v2.specs.declared.Body.{Body}
 use Rattle.row_decode_v2.specs.declared.BodyRead.{BodyRead}
 use Rattle.row_decode_v2.specs.declared.BodyRead.the-variants.{Read as ReadBody, Refused as BodyRefused}
-
-abbrev pub refusalOfVarint : VarintRead → Refusal
-refusalOfVarint (VarintNumber v n) = BadState
-refusalOfVarint (VarintRefused r) = r
 
 -- ---- the lengths, and the key's
 

@@ -47,6 +47,10 @@ abbrev pub refusalOfRow : RowRead → Refusal
 refusalOfRow (ReadRow r) = BadState
 refusalOfRow (RowRefused r) = r
 
+abbrev pub refusalOfKey : KeyRead → Refusal
+refusalOfKey (ReadKey k) = BadState
+refusalOfKey (KeyRefused r) = r
+
 -- ---- one to one
 
 -- the row with the numbers of x, and with what the definitions know by another type

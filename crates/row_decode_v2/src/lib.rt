@@ -9,8 +9,8 @@ ghost use Rattle.layout.specs.RowRead.{lengthsAt, mayShare, headAt, bodyAt, row
 ghost use Rattle.basics.specs.Says.{saysHeld};
 ghost use Rattle.row_flags.specs.Says.{timesFrom};
 ghost use Rattle.row_decode_v2.specs.Says.{rowFrom};
-ghost use Rattle.row_decode_v2.specs.Promise.{Decodes, DecodesAt, DecodesKey, RowRefusal};
-ghost use Rattle.row_decode_v2.specs.Reading.{saysLengths, lengthsFrom, saysHead, heldFrom, bodyFrom, saysBody, refusalOfVarint, refusalOfLengths, refusalOfHead, refusalOfBody};
+ghost use Rattle.row_decode_v2.specs.Promise.{Decodes, DecodesAt, DecodesKey, RowRefusal, KeyRefusal};
+ghost use Rattle.row_decode_v2.specs.Reading.{saysLengths, lengthsFrom, saysHead, heldFrom, bodyFrom, saysBody, refusalOfLengths, refusalOfHead, refusalOfBody};
 use basics::Kind;
 use basics::Refusal;
 use basics::Time;
@@ -136,7 +136,7 @@ fn lengths_at(s: &[u8], at: usize) -> LengthsRead
         next: unshared_at,
     } = one
     else {
-        return LengthsRead::Refused(varint_refusal(one));
+        return LengthsRead::Refused(utils::varint_refusal(one));
     };
     let two = utils::decode_varint(s, unshared_at);
     let VarintRead::Number {
@@ -144,7 +144,7 @@ fn lengths_at(s: &[u8], at: usize) -> LengthsRead
         next: value_len_at,
     } = two
     else {
-        return LengthsRead::Refused(varint_refusal(two));
+        return LengthsRead::Refused(utils::varint_refusal(two));
     };
     let three = utils::decode_varint(s, value_len_at);
     let VarintRead::Number {
@@ -152,7 +152,7 @@ fn lengths_at(s: &[u8], at: usize) -> LengthsRead
         next: suffix_at,
     } = three
     else {
-        return LengthsRead::Refused(varint_refusal(three));
+        return LengthsRead::Refused(utils::varint_refusal(three));
     };
     LengthsRead::Read {
         shared,
@@ -307,12 +307,12 @@ pub fn row_refusal(a: RowRead) -> Refusal
     }
 }
 
-fn varint_refusal(a: VarintRead) -> Refusal
-    ensures { λ r. ⌜ r ≡ refusalOfVarint a ⌝ }
+pub fn key_refusal(a: KeyRead) -> Refusal
+    ensures { λ r. ⌜ KeyRefusal a r ⌝ }
 {
     match a {
-        VarintRead::Refused(refusal) => refusal,
-        VarintRead::Number { value: _, next: _ } => Refusal::BadState,
+        KeyRead::Refused(refusal) => refusal,
+        KeyRead::Read(_) => Refusal::BadState,
     }
 }
 

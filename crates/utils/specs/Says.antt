@@ -5,12 +5,19 @@ use Rattle.layout.specs.Place.{NumAt, numAt}
 use Rattle.layout.specs.Laws.Res.{ok-inj}
 use Rattle.basics.specs.Answers.{apart, refused-one}
 use Rattle.basics.specs.Number.{number}
+use Rattle.basics.specs.declared.Refusal.{Refusal}
+use Rattle.basics.specs.declared.Refusal.the-variants.{BadState}
 use Rattle.utils.specs.declared.VarintRead.{VarintRead}
 use Rattle.utils.specs.declared.VarintRead.the-variants.{Number as VarintNumber, Refused as VarintRefused}
 
 abbrev pub saysVarint : VarintRead → Res NumAt
 saysVarint (VarintNumber v n) = ok (numAt v n)
 saysVarint (VarintRefused r) = refuse (number r)
+
+-- what is taken out of an answer; the other case is never asked
+abbrev pub refusalOfVarint : VarintRead → Refusal
+refusalOfVarint (VarintNumber v n) = BadState
+refusalOfVarint (VarintRefused r) = r
 
 -- ---- one to one
 

@@ -7,7 +7,7 @@ ghost use Prim.Native.Nat.{_<_};
 ghost use lib.ListN.{length};
 ghost use Rattle.layout.specs.Varint.{varint};
 ghost use Rattle.buf_mut.specs.Promise.{Puts};
-ghost use Rattle.utils.specs.Promise.{VarintLength, ReadsVarint};
+ghost use Rattle.utils.specs.Promise.{VarintLength, ReadsVarint, VarintRefusal};
 use basics::Refusal;
 use buf_mut::Put;
 
@@ -123,4 +123,14 @@ pub fn decode_varint(s: &[u8], at: usize) -> VarintRead
         };
     }
     get_varint(s, at)
+}
+
+// A read that is refused ends the call with its refusal, which a `let .. else` can't bind: this takes it out of the answer. Its other case is not met there.
+pub fn varint_refusal(a: VarintRead) -> Refusal
+    ensures { λ r. ⌜ VarintRefusal a r ⌝ }
+{
+    match a {
+        VarintRead::Refused(refusal) => refusal,
+        VarintRead::Number { value: _, next: _ } => Refusal::BadState,
+    }
 }

@@ -20,29 +20,29 @@ returns-2 c =
     let start = told .before .before .before .before in
     key-no-truth _ _ _ _ (start .args .restart) (start .args .words .now) (told .before .if1 .left) (yes saysTruth (told .truth-in .ensures) (c .enum-told .given .1))
 
+returns-3 : tie.Need-returns-3
+returns-3 c =
+    let read = c .before .before .before .before in
+    let known = read .before .before in
+    let told = known .before .before in
+    let start = told .before .before .before .before in
+    key-refused _ _ _ _ (start .args .restart) (start .args .words .now) _ _ (told .before .if1 .left) (yes saysTruth (told .truth-in .ensures) (known .truth .given .1)) (read .decode-key-only .ensures) (c .before .before .enum-told2 .given .1) (c .before .key-refusal .ensures) (c .number .ensures)
+
 slice-write-words-3 : tie.Need-slice-write-words-3
 slice-write-words-3 c = simp length-set (omega (arith, c .before .before .before .before .before .before .before .before .if1 .left))
 
-returns-3 : tie.Need-returns-3
-returns-3 c =
+returns-4 : tie.Need-returns-4
+returns-4 c =
     let read = c .before .before .before in
     let known = read .before .before in
     let told = known .before .before in
     let start = told .before .before .before .before in
     key-good _ _ _ _ (start .args .restart) (start .args .words .now) _ _ (told .before .if1 .left) (yes saysTruth (told .truth-in .ensures) (known .truth .given .1)) (read .decode-key-only .ensures) (c .before .read .given .1)
 
-returns-4 : tie.Need-returns-4
-returns-4 c =
-    let read = c .before .before .before .before in
-    let known = read .before .before in
-    let told = known .before .before in
-    let start = told .before .before .before .before in
-    key-refused _ _ _ _ (start .args .restart) (start .args .words .now) _ _ (told .before .if1 .left) (yes saysTruth (told .truth-in .ensures) (known .truth .given .1)) (read .decode-key-only .ensures) (c .before .before .read2 .given .1) (c .number .ensures)
-
 pub slatedb-decode-key-spec : {M : Type 1} → statement M
 slatedb-decode-key-spec =
     tie.close
     (tie.spec
-    returns (λ c κs. search needs) (λ c. search needs) (λ c. search needs) returns-2 (λ c κs. search needs)
-    (λ c. search needs) (λ c. search needs) (λ c. search needs) slice-write-words-3 (λ c. search needs)
-    (λ c κs. search needs) (λ c. search needs) returns-3 returns-4)
+    returns (search needs) (search needs) (search needs) returns-2 (search needs) (search needs) (search needs)
+    (search needs) (search needs) returns-3 (search needs) (λ c. search needs) slice-write-words-3 (search needs)
+    returns-4)

@@ -7,17 +7,17 @@ use Rattle.compare_parts.proofs.slatedb_varint_put.Tie as tie
 
 returns : tie.Need-returns
 returns c =
-    let after-put = c .before .before .before .before .before in
-    writes-good _ _ _ _ _ (after-put .encode-varint .ensures) (c .before .put .given .1)
+    let after-put = c .before .before .before .before .before .before in
+    writes-refused _ _ _ _ _ (after-put .encode-varint .ensures) (c .before .before .enum-told .given .1) (c .before .put-refusal .ensures) (c .number .ensures)
 
 returns-2 : tie.Need-returns-2
 returns-2 c =
-    let after-put = c .before .before .before .before .before .before in
-    writes-refused _ _ _ _ _ (after-put .encode-varint .ensures) (c .before .before .put2 .given .1) (c .number .ensures)
+    let after-put = c .before .before .before .before .before in
+    writes-good _ _ _ _ _ (after-put .encode-varint .ensures) (c .before .put .given .1)
 
 pub slatedb-varint-put-spec : {M : Type 1} → statement M
 slatedb-varint-put-spec =
     tie.close
     (tie.spec
-    (λ c κs. search needs) (λ c. search needs) (λ c. search needs) (λ c κs. search needs)
-    (λ c. search needs) returns (λ c. search needs) returns-2)
+    (search needs) (search needs) (search needs) (search needs) (search needs) (search needs) returns (search needs)
+    returns-2)

@@ -1,10 +1,10 @@
 -- `key_refusal` takes the refusal out of an answer.
 -- In the arm that binds it the answer is known to be that refusal, and the definition computes at it.
 use mathlib.Core.Path.{sym, ap}
-use Rattle.block_restarts_v2.specs.Reading.{refusalOfKey}
 use borrow.Author.Needs.{needs}
-use Rattle.block_restarts_v2.proofs.key_refusal.Statement.{statement}
-use Rattle.block_restarts_v2.proofs.key_refusal.Tie as tie
+use Rattle.row_decode_v2.specs.Says.{refusalOfKey}
+use Rattle.row_decode_v2.proofs.key_refusal.Statement.{statement}
+use Rattle.row_decode_v2.proofs.key_refusal.Tie as tie
 
 returns : tie.Need-returns
 returns c = sym (ap refusalOfKey (c .before .a .given .1))

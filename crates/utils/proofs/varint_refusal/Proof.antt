@@ -1,10 +1,10 @@
 -- `varint_refusal` takes the refusal out of an answer.
 -- In the arm that binds it the answer is known to be that refusal, and the definition computes at it.
 use mathlib.Core.Path.{sym, ap}
-use Rattle.row_decode_v2.specs.Reading.{refusalOfVarint}
 use borrow.Author.Needs.{needs}
-use Rattle.row_decode_v2.proofs.varint_refusal.Statement.{statement}
-use Rattle.row_decode_v2.proofs.varint_refusal.Tie as tie
+use Rattle.utils.specs.Says.{refusalOfVarint}
+use Rattle.utils.proofs.varint_refusal.Statement.{statement}
+use Rattle.utils.proofs.varint_refusal.Tie as tie
 
 returns : tie.Need-returns
 returns c = sym (ap refusalOfVarint (c .before .a .given .1))
