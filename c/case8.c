@@ -331,35 +331,35 @@ static uint8_t large[131072];
 
 /* The largest row, alone and as a block's first: one byte less does not do. */
 static void largest_row(void) {
-    static uint8_t output[66594], key[KEY], last_key[KEY];
+    static uint8_t output[SLATEDB_MOST_FIRST], key[KEY], last_key[KEY];
     slatedb_fields fields = {.kind = SLATEDB_MERGE, .has_expire = 1, .has_create = 1};
     for (size_t less = 0; less <= 1; less++) {
         uint8_t wanted = less ? SLATEDB_BUFFER_TOO_SMALL : SLATEDB_GOOD;
         slatedb_builder builder;
         uint64_t count = 0;
         uint16_t restarts[1];
-        expect("the largest row", slatedb_encode(output, 66590 - less, 0, 0, key, sizeof key, large, 65535,
+        expect("the largest row", slatedb_encode(output, SLATEDB_MOST_ROW - less, 0, 0, key, sizeof key, large, SLATEDB_MOST_VALUE,
                                                  slatedb_fields_words(&fields), FIELDS, &count), wanted);
-        expect("its bytes", count, less ? 0 : 66590);
+        expect("its bytes", count, less ? 0 : SLATEDB_MOST_ROW);
         expect("a new builder", slatedb_builder_new(slatedb_builder_words(&builder), BUILDER, 0, 1), SLATEDB_GOOD);
         expect("a block of the largest row",
-               slatedb_builder_add(slatedb_builder_words(&builder), BUILDER, last_key, KEY, output, 66594 - less, restarts, 1,
-                                   key, sizeof key, large, 65535, slatedb_fields_words(&fields), FIELDS), wanted);
+               slatedb_builder_add(slatedb_builder_words(&builder), BUILDER, last_key, KEY, output, SLATEDB_MOST_FIRST - less, restarts, 1,
+                                   key, sizeof key, large, SLATEDB_MOST_VALUE, slatedb_fields_words(&fields), FIELDS), wanted);
     }
 }
 
-/* Rows of 13 bytes, each a restart: 5,042 of them, and then a restart would lie too far. */
+/* Rows of 13 bytes, each a restart: as many as there can be, and then a restart would lie too far. */
 static void most_restarts(void) {
     static uint8_t last_key[KEY];
-    static uint16_t restarts[5042];
+    static uint16_t restarts[SLATEDB_MOST_RESTARTS];
     slatedb_fields fields = {.kind = SLATEDB_TOMBSTONE};
     slatedb_builder builder;
     uint8_t key = 'a', code = slatedb_builder_new(slatedb_builder_words(&builder), BUILDER, sizeof large, 1);
     while (code == SLATEDB_GOOD)
-        code = slatedb_builder_add(slatedb_builder_words(&builder), BUILDER, last_key, KEY, large, sizeof large, restarts, 5042,
+        code = slatedb_builder_add(slatedb_builder_words(&builder), BUILDER, last_key, KEY, large, sizeof large, restarts, SLATEDB_MOST_RESTARTS,
                                    &key, 1, &key, 0, slatedb_fields_words(&fields), FIELDS);
     expect("the end of short rows", code, SLATEDB_RESTART_TOO_FAR);
-    expect("the most restarts", builder.restarts, 5042);
+    expect("the most restarts", builder.restarts, SLATEDB_MOST_RESTARTS);
 }
 
 /* ---- the header's constants: each call with n[0] words or key bytes in its first array, n[1] in its second, and so on */

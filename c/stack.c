@@ -1,7 +1,7 @@
 /* How deep a stack each function of the libraries uses: it is run on a stack of its own that is painted before,
  * over blocks with short keys and with the longest, with the most restarts and with the deepest search among them,
  * both ways, and the lowest byte that lost its paint is looked for. The most of all runs is printed. It must be at
- * most 4 KiB for a function of slatedb_block, and 16 KiB for one of a library that is there for comparing. */
+ * most 16 KiB for a function of slatedb_block, and 32 KiB for one of a library that is there for comparing. */
 #define _GNU_SOURCE
 #include "slatedb_compare.h"
 
@@ -9,13 +9,13 @@
 #include <string.h>
 #include <ucontext.h>
 
-enum { STACK = 256 * 1024, DATA = 65536, PLACES = 64, PAINT = 0xA5 };
+enum { STACK = 256 << 10, DATA = 65536, PLACES = 64, PAINT = 0xA5 };
 
 /* The limits. */
-enum { OF_BLOCK = 4 * 1024, FOR_COMPARING = 16 * 1024 };
+enum { OF_BLOCK = 16 << 10, FOR_COMPARING = 32 << 10 };
 
 /* The least row of a restart, its bytes up to its key, and how many such restarts a block can have whose rows are whole. */
-enum { ROW = 13, KEY_END = 4, MOST_RESTARTS = 5042 };
+enum { ROW = 13, KEY_END = 4, MOST_RESTARTS = SLATEDB_MOST_RESTARTS };
 
 /* Regions of one byte, but for the 16 that the search for a key below all reads: as many as offsets up to 65,535 allow. */
 enum { DEEPEST = 16, DEEP_RESTARTS = 65536 - (ROW - 1) - (DEEPEST - 1) * (KEY_END - 1), LARGEST = 65536 + 2 * DEEP_RESTARTS + 2 };
@@ -24,7 +24,7 @@ static _Alignas(64) uint8_t stack[STACK];
 static ucontext_t desk, painted;
 static void (*job)(void);
 
-static uint8_t data[LARGEST], key[SLATEDB_KEY_BYTES], last[SLATEDB_KEY_BYTES], carried[SLATEDB_KEY_BYTES], out[SLATEDB_KEY_BYTES], encoded[2048];
+static uint8_t data[LARGEST], key[SLATEDB_KEY_BYTES], last[SLATEDB_KEY_BYTES], carried[SLATEDB_KEY_BYTES], out[SLATEDB_KEY_BYTES], encoded[2 * SLATEDB_KEY_BYTES];
 enum { MANY = 4 }; /* rows a call */
 
 static uint8_t keys[MANY * SLATEDB_KEY_BYTES];

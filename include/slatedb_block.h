@@ -31,7 +31,7 @@ extern "C" {
 
 #define SLATEDB_GOOD 0
 #define SLATEDB_EMPTY_KEY 1            /* the key is empty */
-#define SLATEDB_KEY_TOO_LONG 2         /* the key has over 1,024 bytes */
+#define SLATEDB_KEY_TOO_LONG 2         /* the key has over 4,096 bytes */
 #define SLATEDB_VALUE_TOO_LONG 3       /* the value, or its length, is over 65,535 */
 #define SLATEDB_ROW_DOES_NOT_FIT 4     /* the row doesn't fit into the block */
 #define SLATEDB_RESTART_TOO_FAR 5      /* a restart would lie past 65,535 */
@@ -56,9 +56,16 @@ extern "C" {
  * one of several cases and is none of them. */
 #define SLATEDB_CURSOR_WORDS 5
 #define SLATEDB_BUILDER_WORDS 6
-#define SLATEDB_KEY_BYTES 1024
+#define SLATEDB_KEY_BYTES 4096
 #define SLATEDB_FIELDS_WORDS 6
 #define SLATEDB_ROW_WORDS 13
+
+/* Lengths that always do: a value's, a row's bytes (lengths of 1, 2 and 3 bytes, the key, the value, sequence number, flags
+ * and two times), the data of a block of one row, with its trailer, and the restarts of a block. */
+#define SLATEDB_MOST_VALUE 65535
+#define SLATEDB_MOST_ROW (1 + 2 + 3 + SLATEDB_KEY_BYTES + SLATEDB_MOST_VALUE + 8 + 1 + 8 + 8)
+#define SLATEDB_MOST_FIRST (SLATEDB_MOST_ROW + 4)
+#define SLATEDB_MOST_RESTARTS 5042
 
 #define SLATEDB_ASCENDING 0
 #define SLATEDB_DESCENDING 1
@@ -132,7 +139,7 @@ static inline uint64_t *slatedb_row_words(slatedb_row *row) { return (uint64_t *
 /* ---- one row */
 
 /* Writes a row after a key of previous_len bytes, of which it shares the first `shared`: 254, 13, 1, 2, 3, 6.
- * *count: its bytes, which start the output. 66,590 bytes of output always do. */
+ * *count: its bytes, which start the output. SLATEDB_MOST_ROW bytes of output always do. */
 SLATEDB_MUST_USE
 uint8_t slatedb_encode(uint8_t *output, size_t output_len, size_t previous_len, size_t shared,
                        const uint8_t *key_suffix, size_t key_suffix_len, const uint8_t *value, size_t value_len,
@@ -145,8 +152,8 @@ uint8_t slatedb_decode(const uint8_t *input, size_t input_len, size_t previous_l
 
 /* ---- building a block: rows go into `data`, the restarts' offsets into `restarts`
  *
- * As restarts 5,042 places always do; as data the larger of the block size and 66,594 bytes, since a first row of any size
- * is taken. Shorter buffers are answered with 6 once a row needs more: then longer ones that begin alike may be lent. */
+ * As restarts SLATEDB_MOST_RESTARTS places always do; as data the larger of the block size and SLATEDB_MOST_FIRST bytes,
+ * since a first row of any size is taken. Shorter buffers are answered with 6 once a row needs more: then longer ones that begin alike may be lent. */
 
 /* A new builder: 254, 8. Its key bytes need no setting. */
 SLATEDB_MUST_USE
@@ -188,8 +195,8 @@ SLATEDB_MUST_USE
 uint8_t slatedb_open(const uint8_t *block, size_t block_len, uint64_t order, uint64_t *cursor, size_t cursor_len);
 
 /* One step: 254, 14, 18, done if that was said before, then any of 15, 18, 9 to 13, 1, 2, 3, 16, and 19 last. Good gives the
- * row, and its key, of shared + suffix_len bytes, to the start of `out`, for which 1,024 bytes always do; done: no row is
- * left, and both stay. */
+ * row, and its key, of shared + suffix_len bytes, to the start of `out`, for which SLATEDB_KEY_BYTES always do; done: no
+ * row is left, and both stay. */
 SLATEDB_MUST_USE
 uint8_t slatedb_next(const uint8_t *block, size_t block_len, uint64_t *cursor, size_t cursor_len,
                      uint8_t *key_bytes, size_t key_bytes_len, uint8_t *out, size_t out_len, uint64_t *row, size_t row_len);
@@ -199,8 +206,8 @@ uint8_t slatedb_next(const uint8_t *block, size_t block_len, uint64_t *cursor, s
  * used. 254, then the numbers of slatedb_next and done, but only where the first step answers so: a step that finds no row
  * after others did is not made, and the next call answers it. Good: *count rows were given, their words one after another
  * from the start of `rows`, their keys one after another from the start of `keys`, each of shared + suffix_len bytes; other
- * words and bytes stay, and the cursor stands past the last of these rows. With 1,024 bytes of keys for each row all rows
- * asked for have room. Done sets *count to 0; with no room for a row nothing is asked: good, and *count is 0. */
+ * words and bytes stay, and the cursor stands past the last of these rows. With SLATEDB_KEY_BYTES of keys for each row
+ * all rows asked for have room. Done sets *count to 0; with no room for a row nothing is asked: good, and *count is 0. */
 SLATEDB_MUST_USE
 uint8_t slatedb_next_rows(const uint8_t *block, size_t block_len, uint64_t *cursor, size_t cursor_len,
                           uint8_t *key_bytes, size_t key_bytes_len, uint8_t *keys, size_t keys_len,

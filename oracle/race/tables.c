@@ -180,7 +180,7 @@ static void stack_aim(size_t stack) {
         not_run++;
         return;
     }
-    verdict("the deepest stack of slatedb_block", (double)stack, "bytes", 4096, 1);
+    verdict("the deepest stack of slatedb_block", (double)stack, "bytes", 16384, 1);
 }
 
 void print_aims(size_t stack) {

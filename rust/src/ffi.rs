@@ -11,7 +11,7 @@ pub(crate) const DONE: u8 = 255;
 
 pub(crate) const CURSOR_WORDS: usize = 5;
 pub(crate) const BUILDER_WORDS: usize = 6;
-pub(crate) const KEY_BYTES: usize = 1024;
+pub(crate) const KEY_BYTES: usize = 4096;
 pub(crate) const FIELDS_WORDS: usize = 6;
 pub(crate) const ROW_WORDS: usize = 13;
 

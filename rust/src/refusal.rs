@@ -29,7 +29,7 @@ macro_rules! refusals {
 
 refusals! {
     1 EmptyKey "the key is empty"
-    2 KeyTooLong "the key has over 1,024 bytes"
+    2 KeyTooLong "the key has over 4,096 bytes"
     3 ValueTooLong "the value, or its length, is over 65,535"
     4 RowDoesNotFit "the row doesn't fit into the block"
     5 RestartTooFar "a restart would lie past 65,535"

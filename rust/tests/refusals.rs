@@ -24,8 +24,8 @@ fn refused(row: RowEntry) -> Option<Refusal> {
 #[test]
 fn keys_and_values_1_2_3() {
     assert_eq!(refused(value(b"", 0)), Some(Refusal::EmptyKey));
-    assert_eq!(refused(value(&[0; 1024], 0)), None);
-    assert_eq!(refused(value(&[0; 1025], 0)), Some(Refusal::KeyTooLong));
+    assert_eq!(refused(value(&[0; 4096], 0)), None);
+    assert_eq!(refused(value(&[0; 4097], 0)), Some(Refusal::KeyTooLong));
     assert_eq!(refused(value(b"a", 65_535)), None);
     assert_eq!(refused(value(b"a", 65_536)), Some(Refusal::ValueTooLong));
 }

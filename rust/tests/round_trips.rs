@@ -65,7 +65,7 @@ fn any_number_of_rows_comes_back() {
 
 #[test]
 fn the_longest_key_and_value_come_back() {
-    let long = RowEntry::new_value(&[b'k'; 1024], &[1; 65_535], 1)
+    let long = RowEntry::new_value(&[b'k'; 4096], &[1; 65_535], 1)
         .with_create_ts(2)
         .with_expire_ts(3);
     let rows = [RowEntry::new_tombstone(b"a", 0), long];

@@ -6,7 +6,7 @@ ghost use Rattle.basics.specs.Promise.{Numbered};
 pub enum Refusal {
     // 1: the key is empty
     EmptyKey,
-    // 2: the key has over 1,024 bytes
+    // 2: the key has over 4,096 bytes
     KeyTooLong,
     // 3: the value, or its length, is over 65,535
     ValueTooLong,
@@ -101,7 +101,7 @@ pub enum IterationOrder {
     Descending,
 }
 
-pub const MAX_KEY: usize = 1024;
+pub const MAX_KEY: usize = 4096;
 
 pub const MAX_VALUE: usize = 65535;
 

@@ -9,12 +9,13 @@ use native.Mathlib.Nat.{div-add-mod', mod-lt, mul-comm, mul-mod-right, mul-le-mu
 use lib.Arith.{digits-div}
 use lib.Dec.{leb, eqb}
 use borrow.Author.Tests.{eq-eqb, ne-eqb, eqb-true, leb-true, leb-false}
+use Rattle.layout.specs.Limits.{maxInterval, maxRestarts}
 use Rattle.layout.specs.Block.{isRestart}
 use Rattle.layout.specs.Builder.{restartsOf}
 use Rattle.layout.specs.Laws.Res.{eqb-cases, bool-cases}
 
 -- no product here wraps
-pub product-small : {a b : ℕ} → a ≤ 5042 → b ≤ 1024 → a * b ≤ 5163008
+pub product-small : {a b : ℕ} → a ≤ maxRestarts → b ≤ maxInterval → a * b ≤ maxRestarts * maxInterval
 product-small h k = mul-le-mul h k
 
 module _ (rows n : ℕ) (some : 1 ≤ n) where

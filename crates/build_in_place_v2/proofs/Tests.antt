@@ -13,7 +13,7 @@ use Rattle.layout.specs.Res.{Res, ok, refuse, bind, guard}
 use Rattle.layout.specs.Block.{shareOf}
 use Rattle.layout.specs.Builder.{Builder, restartsOf, stateTests, atRestart, nextRow, grownSize, fits, wouldFit, grown, add}
 use Rattle.layout.specs.Key.{Key}
-use Rattle.layout.specs.Limits.{maxKey, maxBlock, maxInterval, maxOffset, maxRestarts}
+use Rattle.layout.specs.Limits.{maxKey, maxBlock, maxInterval, maxOffset, maxRestarts, maxValue}
 use Rattle.layout.specs.Row.{Fields, valueOf, ifSo, present, rowBytes, keptLength, lengthTests}
 use Rattle.layout.specs.Laws.Res.{handed, ok-inj, eqb-cases, bool-cases}
 use Rattle.layout.specs.Laws.Block.{shares-is}
@@ -34,6 +34,10 @@ module _ (counter used : ℕ) {n : ℕ} (e : n ≡ cond (eqb counter 0) used 0) 
   stray-some h k = ⊎-elim (λ t. let q : n ≡ used = rw (t .0) at e in let z = k (t .1) in absurd (omega arith)) (λ t. let q : n ≡ 0 = rw (t .0) at e in absurd (omega arith)) (eqb-cases counter 0)
 
 -- a state that no test refuses
+-- no row has more bytes: three lengths of at most five, the key, number and flags, two times, the value
+abbrev pub mostRow : ℕ
+mostRow = 15 + maxKey + 9 + 16 + maxValue
+
 pub state-passed : (b : Builder) (dataLen placesLen : ℕ) → b .blockSize ≤ maxBlock → (b .restartInterval ≡ 0 → ⊥) → b .restartInterval ≤ maxInterval → b .used ≤ dataLen
     → b .restarts ≤ placesLen → b .restarts ≤ maxRestarts → b .restarts ≡ restartsOf (b .counter) (b .restartInterval) → 12 * b .counter ≤ b .used → (b .counter ≡ 0 → b .used ≡ 0)
     → b .lastKeyLen ≤ maxKey → stateTests b dataLen placesLen ≡ ok tt
@@ -99,7 +103,7 @@ module _ (b : Builder) (dataLen placesLen : ℕ) (key : Key) (f : Fields) where
       bytes-are = size-bytes shared (drop shared key) f (m .size-is ∙ q)
 
       -- no sum with it wraps
-      pub size-small : n ≤ 66599
+      pub size-small : n ≤ mostRow
       size-small = omega (arith, bytes-are, rowBytes-most shared (drop shared key) f, tells .key-small, tells .value-small, length-kept (f .kind) (f .val))
 
       pub plan-past : b .blockSize < b .used → refuse 4 ≡ fitted b dataLen placesLen key f

@@ -218,7 +218,7 @@ fn plan_row(
     no
 }
 
-// Whether the row would fit a builder whose last key's bytes are lent, over buffers of these lengths: 18 unless those bytes are 1,024; then 18, 1, 2, 3, and 4 for "no".
+// Whether the row would fit a builder whose last key's bytes are lent, over buffers of these lengths: 18 unless those bytes are MAX_KEY; then 18, 1, 2, 3, and 4 for "no".
 pub fn would_fit_in_place(
     last_key: &[u8],
     s: State,
@@ -460,7 +460,7 @@ fn planned_refusal(planned: Planned) -> Refusal
     }
 }
 
-// Adds a row to a builder whose last key's bytes are lent: 18 unless they are 1,024; then 18, 1, 2, 3, 4, 5, 6. All tests, then all writes.
+// Adds a row to a builder whose last key's bytes are lent: 18 unless they are MAX_KEY; then 18, 1, 2, 3, 4, 5, 6. All tests, then all writes.
 pub fn add_in_place(
     last_key: &mut [u8],
     s: State,

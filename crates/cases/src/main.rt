@@ -1,6 +1,7 @@
 // The desk's cases and the slips this trade knows, through the code. It prints the bytes and numbers that the code answered; what they should be stands in the
 // file `stdout` alone.
 mod reading;
+mod say;
 mod show;
 mod writing;
 

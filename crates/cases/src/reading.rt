@@ -1,5 +1,5 @@
 // Cases 8 to 10, and the walks both ways, on the block of keys a, b, b, b, c with interval 2. A row is known by its sequence number, which is its place.
-use crate::show;
+use crate::say;
 use crate::writing::add;
 use crate::writing::built;
 use basics::IterationOrder;
@@ -12,11 +12,11 @@ use block_v2::BlockBuilderV2;
 fn checked(block: &[u8]) {
     match block_check_v2::check(block) {
         Checked::Rows(n) => {
-            show::text(b"accepted, rows: ");
-            show::number(n as u64);
-            show::text(b"\n");
+            say::text(b"accepted, rows: ");
+            say::number(n as u64);
+            say::text(b"\n");
         }
-        Checked::Refused(r) => show::refusal(r),
+        Checked::Refused(r) => say::refusal(r),
     }
 }
 
@@ -27,11 +27,11 @@ fn step(cursor: BlockIteratorV2, block: &[u8]) -> BlockIteratorV2 {
     let answer = next.answer;
     match answer {
         NextAnswer::Found(row) => {
-            show::text(b" row ");
-            show::number(row.seq);
+            say::text(b" row ");
+            say::number(row.seq);
         }
-        NextAnswer::Done => show::text(b" done"),
-        NextAnswer::Refused(r) => show::refusal(r),
+        NextAnswer::Done => say::text(b" done"),
+        NextAnswer::Refused(r) => say::refusal(r),
     }
     next.iterator
 }
@@ -45,7 +45,7 @@ fn walk(block: &[u8], order: IterationOrder) {
     let four = step(three, block);
     let five = step(four, block);
     step(five, block);
-    show::text(b"\n");
+    say::text(b"\n");
 }
 
 fn seek(block: &[u8], order: IterationOrder, target: &[u8]) {
@@ -55,38 +55,38 @@ fn seek(block: &[u8], order: IterationOrder, target: &[u8]) {
     let answer = sought.answer;
     match answer {
         SeekAnswer::Landed(reads) => {
-            show::number(reads as u64);
-            show::text(b" keys read:");
+            say::number(reads as u64);
+            say::text(b" keys read:");
         }
         SeekAnswer::Done(reads) => {
-            show::number(reads as u64);
-            show::text(b" keys read, none:");
+            say::number(reads as u64);
+            say::text(b" keys read, none:");
         }
-        SeekAnswer::Refused(r) => show::refusal(r),
+        SeekAnswer::Refused(r) => say::refusal(r),
     }
     step(sought.iterator, block);
-    show::text(b"\n");
+    say::text(b"\n");
 }
 
 fn both_ways(block: &[u8], target: &[u8]) {
-    show::text(b"ascending: ");
+    say::text(b"ascending: ");
     seek(block, IterationOrder::Ascending, target);
-    show::text(b"descending: ");
+    say::text(b"descending: ");
     seek(block, IterationOrder::Descending, target);
 }
 
 fn all_seeks(block: &[u8]) {
-    show::text(b"forwards:");
+    say::text(b"forwards:");
     walk(block, IterationOrder::Ascending);
-    show::text(b"backwards:");
+    say::text(b"backwards:");
     walk(block, IterationOrder::Descending);
-    show::text(b"case 8, target b\n");
+    say::text(b"case 8, target b\n");
     both_ways(block, b"b");
-    show::text(b"case 9, target bb\n");
+    say::text(b"case 9, target bb\n");
     both_ways(block, b"bb");
-    show::text(b"case 10, target d\n");
+    say::text(b"case 10, target d\n");
     both_ways(block, b"d");
-    show::text(b"case 10, empty target\n");
+    say::text(b"case 10, empty target\n");
     both_ways(block, b"");
 }
 
@@ -104,7 +104,7 @@ fn row_then_b(
 }
 
 pub fn seeks() {
-    show::text(b"keys a, b, b, b, c\n");
+    say::text(b"keys a, b, b, b, c\n");
     // The block fills the buffer.
     let mut data = [0u8; 72];
     let mut restarts = [0u16; 3];

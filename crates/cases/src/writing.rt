@@ -1,4 +1,5 @@
 // Cases 1 to 7 and 11, and the slips on writing.
+use crate::say;
 use crate::show;
 use basics::Kind;
 use basics::Time;
@@ -24,19 +25,19 @@ fn row(previous_len: usize, shared: usize, suffix: &[u8], value: &[u8], held: Ro
     let mut out = [0u8; 64];
     match row_encode_v2::encode(&mut out, previous_len, shared, suffix, value, held) {
         Encoded::Bytes(n) => show::bytes(&out, n),
-        Encoded::Refused(r) => show::refusal(r),
+        Encoded::Refused(r) => say::refusal(r),
     }
 }
 
 pub fn rows() {
-    show::text(b"case 1: ");
+    say::text(b"case 1: ");
     row(0, 0, b"a", b"", fields(1));
 }
 
 fn added(answer: Verdict) {
     match answer {
-        Verdict::Good => show::text(b"taken\n"),
-        Verdict::Refused(r) => show::refusal(r),
+        Verdict::Good => say::text(b"taken\n"),
+        Verdict::Refused(r) => say::refusal(r),
     }
 }
 
@@ -60,7 +61,7 @@ pub fn built(builder: BlockBuilderV2, data: &mut [u8], restarts: &[u16]) {
     let answer = b.answer;
     match answer {
         BuildAnswer::Block(n) => show::bytes(data, n),
-        BuildAnswer::Refused(r) => show::refusal(r),
+        BuildAnswer::Refused(r) => say::refusal(r),
     }
 }
 
@@ -75,13 +76,13 @@ fn two_rows(block_size: usize, restart_interval: usize) {
 }
 
 pub fn blocks() {
-    show::text(b"case 2\n");
+    say::text(b"case 2\n");
     two_rows(4096, basics::DEFAULT_RESTART_INTERVAL);
-    show::text(b"case 3, block size 31\n");
+    say::text(b"case 3, block size 31\n");
     two_rows(31, basics::DEFAULT_RESTART_INTERVAL);
-    show::text(b"case 3, block size 30\n");
+    say::text(b"case 3, block size 30\n");
     two_rows(30, basics::DEFAULT_RESTART_INTERVAL);
-    show::text(b"case 4\n");
+    say::text(b"case 4\n");
     two_rows(4096, 1);
 }
 
@@ -89,27 +90,27 @@ fn varint(v: u32) {
     let mut out = [0u8; 5];
     match utils::encode_varint(&mut out, 0, v) {
         Put::At(n) => show::bytes(&out, n),
-        Put::Refused(r) => show::refusal(r),
+        Put::Refused(r) => say::refusal(r),
     }
 }
 
 fn number(s: &[u8]) {
     match utils::decode_varint(s, 0) {
         VarintRead::Number { value, next: _ } => {
-            show::number(value as u64);
-            show::text(b"\n");
+            say::number(value as u64);
+            say::text(b"\n");
         }
-        VarintRead::Refused(r) => show::refusal(r),
+        VarintRead::Refused(r) => say::refusal(r),
     }
 }
 
 pub fn numbers() {
-    show::text(b"case 5\n");
+    say::text(b"case 5\n");
     varint(127);
     varint(128);
     varint(16383);
     varint(16384);
-    show::text(b"case 6\n");
+    say::text(b"case 6\n");
     number(b"\xFF\xFF\xFF\xFF\x0F");
     number(b"\xFF\xFF\xFF\xFF\x10");
 }
@@ -117,16 +118,16 @@ pub fn numbers() {
 fn read(s: &[u8]) {
     match row_decode_v2::decode(s, 0) {
         RowRead::Read(found) => {
-            show::text(b"a row up to ");
-            show::number(found.next as u64);
-            show::text(b"\n");
+            say::text(b"a row up to ");
+            say::number(found.next as u64);
+            say::text(b"\n");
         }
-        RowRead::Refused(r) => show::refusal(r),
+        RowRead::Refused(r) => say::refusal(r),
     }
 }
 
 pub fn flags() {
-    show::text(b"case 7\n");
+    say::text(b"case 7\n");
     read(b"\x00\x01\x00a\x00\x00\x00\x00\x00\x00\x00\x01\x09");
     read(b"\x00\x01\x00a\x00\x00\x00\x00\x00\x00\x00\x01\x10");
 }
@@ -137,14 +138,14 @@ fn second_restart(value: &[u8]) {
     let mut restarts = [0u16; 2];
     let fresh = BlockBuilderV2::new_with_restart_interval(131072, 1).builder;
     let one = add(fresh, &mut data, &mut restarts, b"a", value, 1);
-    show::text(b"the next row at ");
-    show::number(one.state.used as u64);
-    show::text(b"\n");
+    say::text(b"the next row at ");
+    say::number(one.state.used as u64);
+    say::text(b"\n");
     add(one, &mut data, &mut restarts, b"b", b"", 2);
 }
 
 pub fn far_restarts() {
-    show::text(b"case 11\n");
+    say::text(b"case 11\n");
     let value = [0u8; 65520];
     second_restart(&value);
     let longer = [0u8; 65521];
@@ -163,9 +164,9 @@ fn refused_key() {
 }
 
 pub fn slips() {
-    show::text(b"the last key of a refused row\n");
+    say::text(b"the last key of a refused row\n");
     refused_key();
-    show::text(b"the expire time, then the create time: ");
+    say::text(b"the expire time, then the create time: ");
     row(
         0,
         0,

@@ -1,4 +1,4 @@
--- What a step tells a walk, whose buffer has 1,024 bytes: its row's key has a byte, fits the buffer and stands whole at its start.
+-- What a step tells a walk, whose buffer is as long as the longest key: its row's key has a byte, fits the buffer and stands whole at its start.
 -- The laws are those of any step (`region_rows_v2`, Found), at that length.
 use Prim.Native.Nat.{ℕ, _+_, _≤_}
 use mathlib.Core.Path.{_≡_, ap, sym, _∙_}
@@ -57,7 +57,7 @@ module _ (b : List ℕ) (c d : Cursor) (out out′ : List ℕ) (h : length out �
 pub refuses : (b : List ℕ) (c : Cursor) (room : ℕ) {k : ℕ} → room ≡ maxKey → bind (next c b room) told ≡ refuse k → next c b maxKey ≡ refuse k
 refuses b c room h t = rw h at (any.refuses (next c b room) t)
 
--- ---- the same of a step in place, whose key bytes are 1,024
+-- ---- the same of a step in place, whose key bytes are as many
 
 module _ (p : Place) (key b out : List ℕ) (r : Moved) (key′ out′ : List ℕ) (k : length key ≡ maxKey) (h : length out ≡ maxKey) (m : StepsInPlace p key b out r key′ out′) where
   pub moved-finds : {q : Place} {x : Row} → r ≡ Found q x → Finds b (viewIn p key) (viewIn q key′) (rowFrom x) out′

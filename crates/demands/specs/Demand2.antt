@@ -2,7 +2,7 @@
 -- descending seek on the last whose key is at most it, or says that none is left.
 --
 -- What the statements say is in Rows, of runs of calls and of steps in Runs; every call in them is a definition that a contract names. The rows of an accepted block (`Rows`) are named by
--- their places. A key buffer is asked that is no shorter than any key (`RoomFor`): one of 1,024 bytes is (`room-enough`). The proofs are in Proof2.
+-- their places. A key buffer is asked that is no shorter than any key (`RoomFor`): one as long as the key limit is (`room-enough`). The proofs are in Proof2.
 use Prim.Native.Nat.{ℕ, _<_, _≤_}
 use mathlib.Core.Path.{_≡_, ap, sym, _∙_}
 use mathlib.Core.Bool.{true, false}

@@ -31,7 +31,7 @@ blocks-differ size₁ size₂ n₁ n₂ calls₁ calls₂ rows₁ rows₂ end₁
     differ
     (same-rows block₂ n₁ n₂ rows₁ rows₂ (rw same at (ran-laid size₁ n₁ calls₁ rows₁ end₁ ran₁ block₁ f₁)) (ran-laid size₂ n₂ calls₂ rows₂ end₂ ran₂ block₂ f₂))
 
--- A key buffer of 1,024 bytes is no shorter than any accepted key.
+-- A key buffer as long as the longest key is no shorter than any accepted key.
 pub keys-fit : (size interval : ℕ) (calls : List Call) (rows : List Row) (end : Lending) → Ran size interval calls rows end → KeysFit maxKey rows
 keys-fit size interval calls rows end ran = ran-fits size interval calls rows end ran
 
@@ -43,12 +43,12 @@ module _ (size interval : ℕ) (calls : List Call) (rows : List Row) (end : Lend
   -- Opened ascending and stepped, with a key buffer no shorter than any key: exactly the accepted rows, then "done" ever after. Keys may have come in any order.
   pub reads-forwards : (t : Trailer) × (given : List Keyed) × (openBlock block ascending ≡ ok (opened ascending t)) × WalksAll block room (opened ascending t) given
       × (map (contentOf (dataOf block t)) given ≡ map plainRow rows)
-  reads-forwards = (all-back .t, all-back .given, all-back .opens-up, all-back .forwards, all-back .are)
+  reads-forwards = (all-back .t, all-back .given, all-back .walks .opens-up, all-back .walks .forwards, all-back .are)
 
   -- Opened descending: the same rows reversed.
   pub reads-backwards : (t : Trailer) × (given : List Keyed) × (openBlock block descending ≡ ok (opened descending t)) × WalksAll block room (opened descending t) (backwards given)
       × (map (contentOf (dataOf block t)) given ≡ map plainRow rows)
-  reads-backwards = (all-back .t, all-back .given, all-back .opens-down, all-back .back, all-back .are)
+  reads-backwards = (all-back .t, all-back .given, all-back .walks .opens-down, all-back .walks .back, all-back .are)
 
 -- Whatever key buffers the steps are lent, refused steps among them, they give the accepted rows in order, or reversed: none twice, and none left out before one that is given.
 pub reads-any-buffers : (size interval : ℕ) (calls : List Call) (rows : List Row) (end : Lending) (block : List ℕ) → Ran size interval calls rows end → Finishes end block
@@ -56,7 +56,7 @@ pub reads-any-buffers : (size interval : ℕ) (calls : List Call) (rows : List R
     × (map (contentOf (dataOf block t)) given ≡ map plainRow rows)
 reads-any-buffers size interval calls rows end block ran f rooms =
     let r = laid-reads-back block interval maxKey rows (ran-laid size interval calls rows end ran block f) (ran-fits size interval calls rows end ran) in
-    (r .t, r .given, walks-first block maxKey rooms (opened ascending (r .t)) (r .given) (r .forwards), walks-first block maxKey rooms (opened descending (r .t)) (backwards (r .given)) (r .back), r .are)
+    (r .t, r .given, walks-first block maxKey rooms (opened ascending (r .t)) (r .given) (r .walks .forwards), walks-first block maxKey rooms (opened descending (r .t)) (backwards (r .given)) (r .walks .back), r .are)
 
 -- After one previous key, of two rows that `encode` accepts: where one's bytes begin the other's, they are one row, and nothing follows.
 pub row-begins-no-other : (prevLen : ℕ) (shared₁ : ℕ) (suffix₁ : List ℕ) (f₁ : Fields) (room₁ : ℕ) (w₁ : List ℕ) (shared₂ : ℕ) (suffix₂ : List ℕ) (f₂ : Fields) (room₂ : ℕ) (w₂ tail : List ℕ)

@@ -1,6 +1,6 @@
 -- Each demand's theorem once, on the desk's own rows, so that none is empty: what a theorem asks for is there, by computation, for a run that makes case 2's block with calls of every kind,
 -- a refused row and longer buffers among them, for case 8's block, and for two runs with other settings whose keys fall.
-use Prim.Native.Nat.{ℕ, zero, suc, _<_, _≤_}
+use Prim.Native.Nat.{ℕ, zero, suc, _+_, _<_, _≤_}
 use mathlib.Core.Path.{_≡_, refl}
 use mathlib.Core.Bool.{Bool, true, false, cond}
 use mathlib.Core.List.{List, [], _∷_, _++_, map, append-nil}
@@ -11,7 +11,7 @@ use lib.Dec.{ltb}
 use lib.IntN.{ℤ, negsuc}
 use lib.ListN.{length, take, drop, replicate, getD}
 use Rattle.layout.specs.Res.{Res, ok, refuse}
-use Rattle.layout.specs.Limits.{maxKey, maxRestarts}
+use Rattle.layout.specs.Limits.{maxKey, maxRestarts, maxBlock, maxInterval}
 use Rattle.layout.specs.Varint.{varint, varintIn, readVarint, readVarintIn}
 use Rattle.layout.specs.Fixed.{big, unbig, bits, unbits}
 use Rattle.layout.specs.Place.{varintAt, fixedAt, splice}
@@ -31,6 +31,8 @@ use Rattle.demands.specs.Rows.{DecodesBack, Rows, BothWays, SoughtUp, So
 use Rattle.demands.specs.Demand1.{refused-step, refused-seek, refused-add, refused-build, refused-encode, refused-restore, given-bytes, stale-bytes-tell-nothing, stale-bytes-empty, stale-bytes-seek, stale-bytes-fit, stale-bytes-add, stale-bytes-build}
 use Rattle.demands.specs.Demand2.{decode-encode, check-exact, has-rows, room-enough, walk-any-buffers, first-at-or-above, last-at-or-below, walk-steps, seek-ascending-lands, seek-descending-lands, retry-found, restarts-at-most, finished-accepted}
 use Rattle.demands.specs.Demand3.{run-finishes, blocks-differ, keys-fit, reads-forwards, reads-backwards, reads-any-buffers, row-begins-no-other, read-begins-no-other}
+use Rattle.demands.specs.OldBlocks.{Stand, old-blocks-stand}
+use Rattle.demands.specs.RunsProof.{made-ran}
 use Rattle.layout.specs.Laws.Res.{ltb-cases, clash}
 use Rattle.demands.specs.Laws.Refusals.{seek-never-18}
 
@@ -103,6 +105,12 @@ case-2-backwards = reads-backwards 4096 16 calls2 (rowA ∷ rowAB ∷ []) (run s
 pub case-2-any-buffers : (rooms : List ℕ) → (t : Trailer) × (given : List Keyed) × GivesFirst block2 (opened ascending t) rooms given × GivesFirst block2 (opened descending t) rooms (backwards given)
     × (map (contentOf (dataOf block2 t)) given ≡ map plainRow (rowA ∷ rowAB ∷ []))
 case-2-any-buffers rooms = reads-any-buffers 4096 16 calls2 (rowA ∷ rowAB ∷ []) (run start2 calls2) block2 case-2-ran case-2-finishes rooms
+
+-- its keys are short, so it was built before the key limit rose, and reads the same
+pub case-2-stands : Stand block2 (rowA ∷ rowAB ∷ [])
+case-2-stands =
+    let m = made-ran 4096 16 calls2 (rowA ∷ rowAB ∷ []) (run start2 calls2) case-2-ran in
+    old-blocks-stand 16 (rowA ∷ rowAB ∷ []) (omega arith) (m .rows-ok) (m .offsets-fit) (omega arith, (omega arith, tt))
 
 -- the run of case 2's first row alone accepts other rows, so it makes another block
 abbrev calls1 : List Call
@@ -291,9 +299,9 @@ pub case-2-refused : let want = add (fresh 4096 16) 48 2 [] (noKey .fields) in (
 unfolding add wouldFit stateTests lengthTests keyLengthTests
 case-2-refused = (refl, refused-add (fresh 4096 16) (replicate 48 7) (replicate 2 7) 1 [] (noKey .fields) refl .0)
 
--- a cursor that says its key has 2,000 bytes is refused with 18
+-- a cursor that says its key has a byte more than any key is refused with 18
 abbrev forged : Cursor
-forged = keptCursor ascending 0 1 2000 [] false
+forged = keptCursor ascending 0 1 (maxKey + 1) [] false
 
 pub case-8-refused-step : (next forged block8 8 ≡ refuse 18) × (keyAfter (next forged block8 8) (replicate 8 7) ≡ replicate 8 7)
 unfolding blockBytes blockRows offsets rowsFrom offsetsFrom trailer offsetBytes isRestart shareOf laidRow rowBytes timeBytes big varint varintIn common trailerOf shortAt unbig next
@@ -347,7 +355,7 @@ abbrev callsY : List Call
 callsY = offer rowY ∷ offer rowA ∷ []
 
 abbrev startY : Lending
-startY = lending (fresh 131072 1024) (replicate 64 3) (replicate 5 9)
+startY = lending (fresh maxBlock maxInterval) (replicate 64 3) (replicate 5 9)
 
 ran-x : Ran 0 1 callsX (rowX ∷ []) (run startX callsX)
 unfolding leadingZeros run rowsOf newBuilder stateTests fits wouldFit add build keyLengthTests lengthTests isRestart shareOf laidRow rowBytes timeBytes big bits varint varintIn common splice trailer offsetBytes
@@ -362,11 +370,11 @@ ran-x =
       ends = refl;
     }
 
-ran-y : Ran 131072 1024 callsY (rowY ∷ rowA ∷ []) (run startY callsY)
+ran-y : Ran maxBlock maxInterval callsY (rowY ∷ rowA ∷ []) (run startY callsY)
 unfolding leadingZeros run rowsOf newBuilder stateTests fits wouldFit add build keyLengthTests lengthTests isRestart shareOf laidRow rowBytes timeBytes big bits varint varintIn common splice trailer offsetBytes
 ran-y =
     record {
-      fresh-one = fresh 131072 1024;
+      fresh-one = fresh maxBlock maxInterval;
       bytes = replicate 64 3;
       places = replicate 5 9;
       is-new = refl;
@@ -376,14 +384,14 @@ ran-y =
     }
 
 abbrev blockY : List ℕ
-blockY = blockBytes 1024 (rowY ∷ rowA ∷ [])
+blockY = blockBytes maxInterval (rowY ∷ rowA ∷ [])
 
 finishes-y : Finishes (run startY callsY) blockY
-finishes-y = run-finishes 131072 1024 callsY (rowY ∷ rowA ∷ []) (run startY callsY) ran-y (omega arith)
+finishes-y = run-finishes maxBlock maxInterval callsY (rowY ∷ rowA ∷ []) (run startY callsY) ran-y (omega arith)
 
 pub one-time-differs : blockBytes 1 (rowX ∷ []) ≡ blockY → ⊥
 one-time-differs =
-    blocks-differ 0 131072 1 1024 callsX callsY (rowX ∷ []) (rowY ∷ rowA ∷ []) (run startX callsX) (run startY callsY) (blockBytes 1 (rowX ∷ [])) blockY ran-x ran-y
+    blocks-differ 0 maxBlock 1 maxInterval callsX callsY (rowX ∷ []) (rowY ∷ rowA ∷ []) (run startX callsX) (run startY callsY) (blockBytes 1 (rowX ∷ [])) blockY ran-x ran-y
     (run-finishes 0 1 callsX (rowX ∷ []) (run startX callsX) ran-x (omega arith))
     finishes-y
     (λ e. let z : _≡_ {A = ℕ} 0 1 = cc in omega arith)
@@ -395,7 +403,7 @@ falling-refused = refl
 
 pub falling-backwards : (t : Trailer) × (given : List Keyed) × (openBlock blockY descending ≡ ok (opened descending t)) × WalksAll blockY 1 (opened descending t) (backwards given)
     × (map (contentOf (dataOf blockY t)) given ≡ map plainRow (rowY ∷ rowA ∷ []))
-falling-backwards = reads-backwards 131072 1024 callsY (rowY ∷ rowA ∷ []) (run startY callsY) blockY ran-y finishes-y 1 (omega arith, (omega arith, tt))
+falling-backwards = reads-backwards maxBlock maxInterval callsY (rowY ∷ rowA ∷ []) (run startY callsY) blockY ran-y finishes-y 1 (omega arith, (omega arith, tt))
 
 pub falling-keys-fit : KeysFit maxKey (rowY ∷ rowA ∷ [])
-falling-keys-fit = keys-fit 131072 1024 callsY (rowY ∷ rowA ∷ []) (run startY callsY) ran-y
+falling-keys-fit = keys-fit maxBlock maxInterval callsY (rowY ∷ rowA ∷ []) (run startY callsY) ran-y

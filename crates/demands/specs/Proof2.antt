@@ -320,7 +320,7 @@ restarts-few b t regions q h =
 -- ---- a finished block is accepted exactly when its rows are in order
 
 -- rows of equal content stand alike in the order of rows
-same-ranks : (d : List ℕ) (ks : List Keyed) (rows : List Row) → map (contentOf d) ks ≡ map plainRow rows → ranksOf ks ≡ offeredRanks rows
+pub same-ranks : (d : List ℕ) (ks : List Keyed) (rows : List Row) → map (contentOf d) ks ≡ map plainRow rows → ranksOf ks ≡ offeredRanks rows
 same-ranks d [] [] e = refl
 same-ranks d [] (r ∷ rows) e = absurd (let z : _≡_ {A = ℕ} 0 1 = cc in omega arith)
 same-ranks d (k ∷ ks) [] e = absurd (let z : _≡_ {A = ℕ} 0 1 = cc in omega arith)

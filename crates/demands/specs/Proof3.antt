@@ -17,6 +17,7 @@ use Rattle.layout.specs.Trailer.{Trailer, dataOf}
 use Rattle.layout.specs.Builder.{blockAfter}
 use Rattle.layout.specs.Cursor.{ascending, descending, opened, openBlock, Keyed}
 use Rattle.demands.specs.Reads.{regionsRows, Reads, allRows, AllOf, contentOf}
+use Rattle.demands.specs.Rows.{BothWays}
 use Rattle.demands.specs.Runs.{Lending, Call, Ran, Finishes, RoomFor, backwards, WalksAll, KeysFit}
 use Rattle.demands.specs.RunsProof.{made-ran, finishes-some, made-finishes, walks-before, walks-after}
 use Rattle.layout.specs.Laws.Res.{bind-then, guard-then, ok-inj}
@@ -40,6 +41,11 @@ finishes-one h x y f g =
     let n : f .n ≡ g .n = ok-inj (sym (f .answers) ∙ g .answers) in
     sym (f .block-is) ∙ ap (λ (k : ℕ). take k (blockAfter (ok k) (h .builder) (h .bytes) (h .places))) n ∙ g .block-is
 
+-- rows that are laid make a block
+pub laid-rows : (n : ℕ) (rows : List Row) → 1 ≤ length rows → AllOk rows → AllFit (offsets n rows) → LaidBlock (blockBytes n rows) n rows
+laid-rows n [] s a o = absurd (omega arith)
+laid-rows n (r ∷ rs) s a o = laid-block n r rs a o
+
 module _ (size n : ℕ) (calls : List Call) (rows : List Row) (end : Lending) (ran : Ran size n calls rows end) where
   m : Made n rows (end .builder) (end .bytes) (end .places)
   m = made-ran size n calls rows end ran
@@ -54,11 +60,7 @@ module _ (size n : ℕ) (calls : List Call) (rows : List Row) (end : Lending) (r
   ran-block block f = finishes-one end block (blockBytes n rows) f (ran-finishes (ran-some block f))
 
   pub ran-laid : (block : List ℕ) → Finishes end block → LaidBlock block n rows
-  ran-laid block f = rw (ran-block block f) (laid rows (ran-some block f) (m .rows-ok) (m .offsets-fit))
-    where
-      laid : (rows : List Row) → 1 ≤ length rows → AllOk rows → AllFit (offsets n rows) → LaidBlock (blockBytes n rows) n rows
-      laid [] s a o = absurd (omega arith)
-      laid (r ∷ rs) s a o = laid-block n r rs a o
+  ran-laid block f = rw (ran-block block f) (laid-rows n rows (ran-some block f) (m .rows-ok) (m .offsets-fit))
 
 -- no accepted key is longer than the key limit
 pub ran-fits : (size n : ℕ) (calls : List Call) (rows : List Row) (end : Lending) → Ran size n calls rows end → KeysFit maxKey rows
@@ -95,31 +97,30 @@ rooms room d (x ∷ ks) (r ∷ rows) e k f =
     let l : length (x .key) ≡ length (r .key) = ap (λ (y : Row). length (y .key)) h in
     (omega (arith, k .0, f .0), rooms room d ks rows t (k .1) (f .1))
 
--- opened, and stepped through to the end
+module _ (block : List ℕ) (n room : ℕ) (rows : List Row) (l : LaidBlock block n rows) (f : KeysFit room rows) where
+  pub laid-room : RoomFor room (allRows (l .regions))
+  laid-room =
+      rooms room (dataOf block (l .t)) (allRows (l .regions)) rows (l .contents) (rows-all (λ (k : Keyed). length (k .key) ≡ keyLength (k .row)) keyOf-length (l .t .count) block (l .t) 0 (l .regions) (l .reads .rows-read)) f
+
+  -- opened, and stepped through to the end
+  pub laid-both-ways : BothWays block (l .t) room (allRows (l .regions))
+  laid-both-ways =
+      record {
+        opens-up = open-good block ascending (l .t) (l .reads .trailer-good) (l .reads .offsets-good);
+        opens-down = open-good block descending (l .t) (l .reads .trailer-good) (l .reads .offsets-good);
+        forwards = walks-before block (l .t) room (opened ascending (l .t)) (allRows (l .regions)) (opened-before block (l .t) (l .regions) (l .reads)) laid-room;
+        back =
+            walks-after (length (allRows (l .regions))) block (l .t) room (opened descending (l .t)) (allRows (l .regions)) (omega arith) (opened-after block (l .t) (l .regions) (l .reads)) laid-room;
+      }
+
 pub record ReadsBack (block : List ℕ) (room : ℕ) (rows : List Row) : Type 0 where
   pub t : Trailer
   pub given : List Keyed
-  pub opens-up : openBlock block ascending ≡ ok (opened ascending t)
-  pub opens-down : openBlock block descending ≡ ok (opened descending t)
-  pub forwards : WalksAll block room (opened ascending t) given
-  pub back : WalksAll block room (opened descending t) (backwards given)
+  pub walks : BothWays block t room given
   pub are : map (contentOf (dataOf block t)) given ≡ map plainRow rows
 
 pub laid-reads-back : (block : List ℕ) (n room : ℕ) (rows : List Row) → LaidBlock block n rows → KeysFit room rows → ReadsBack block room rows
-laid-reads-back block n room rows l f =
-    let q : Reads block (l .t) (l .regions) = l .reads in
-    let r : RoomFor room (allRows (l .regions)) =
-    rooms room (dataOf block (l .t)) (allRows (l .regions)) rows (l .contents) (rows-all (λ (k : Keyed). length (k .key) ≡ keyLength (k .row)) keyOf-length (l .t .count) block (l .t) 0 (l .regions) (l .reads .rows-read)) f in
-    record {
-      t = l .t;
-      given = allRows (l .regions);
-      opens-up = open-good block ascending (l .t) (l .reads .trailer-good) (l .reads .offsets-good);
-      opens-down = open-good block descending (l .t) (l .reads .trailer-good) (l .reads .offsets-good);
-      forwards = walks-before block (l .t) room (opened ascending (l .t)) (allRows (l .regions)) (opened-before block (l .t) (l .regions) (l .reads)) r;
-      back =
-          walks-after (length (allRows (l .regions))) block (l .t) room (opened descending (l .t)) (allRows (l .regions)) (omega arith) (opened-after block (l .t) (l .regions) (l .reads)) r;
-      are = l .contents;
-    }
+laid-reads-back block n room rows l f = record { t = l .t; given = allRows (l .regions); walks = laid-both-ways block n room rows l f; are = l .contents }
 
 -- ---- rows after one key
 

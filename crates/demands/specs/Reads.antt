@@ -1,12 +1,12 @@
 -- A block's rows, region by region, each read from its restart to the region's end. The order of rows is not asked: it stands beside, as `Rising`.
-use Prim.Native.Nat.{ℕ, zero, suc}
+use Prim.Native.Nat.{ℕ, zero, suc, _+_}
 use mathlib.Core.Path.{_≡_}
-use mathlib.Core.Bool.{cond}
+use mathlib.Core.Bool.{cond, not}
 use mathlib.Core.List.{List, [], _∷_, _++_, map}
 use lib.Dec.{ltb}
 use lib.ListN.{length}
-use Rattle.layout.specs.Res.{Res, ok, bind}
-use Rattle.layout.specs.Key.{Key, Rank, rankIs, noRank, Rising}
+use Rattle.layout.specs.Res.{Res, ok, bind, _when_else_}
+use Rattle.layout.specs.Key.{Key, Rank, rankIs, noRank, mayFollow, Rising}
 use Rattle.layout.specs.Row.{Row}
 use Rattle.layout.specs.RowRead.{keyOf, fieldsOf}
 use Rattle.layout.specs.Trailer.{Trailer, trailerOf, dataOf, Region, regionOf, allOffsets, rowIn}
@@ -50,6 +50,11 @@ allRows (rows ∷ more) = rows ++ allRows more
 -- rows that were read, in the order of rows
 abbrev pub ranksOf : List Keyed → List Rank
 ranksOf ks = map (λ (k : Keyed). rankIs (k .key) (k .row .seq)) ks
+
+-- what is made of rows that were read, `rows` of them before: counted while each may follow the one before, else 17
+unfoldable pub verdict : Rank → List Rank → ℕ → Res ℕ
+verdict before [] rows = ok rows
+verdict before (r ∷ rs) rows = 17 when not (mayFollow before r) else verdict r rs (rows + 1)
 
 -- accepted: the rows are read, in order, and the answer is how many there are
 pub record Accepts (b : List ℕ) (n : ℕ) : Type 0 where

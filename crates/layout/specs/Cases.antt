@@ -1,5 +1,5 @@
 -- "Rows from the desk", cases 1 to 10, in a single list; `cases-hold` is the one fact over it, by computation against the definitions.
-use Prim.Native.Nat.{ℕ, zero, suc}
+use Prim.Native.Nat.{ℕ, zero, suc, _-_}
 use mathlib.Core.Path.{_≡_, refl}
 use mathlib.Core.Bool.{Bool, true, false, cond}
 use mathlib.Core.List.{List, [], _∷_, _++_}
@@ -11,13 +11,14 @@ use Rattle.layout.specs.Limits.{maxKey}
 use Rattle.layout.specs.Varint.{varint, varintIn, varintLength, Num, num, readVarint, readVarintIn}
 use Rattle.layout.specs.Fixed.{big, unbig, bits, unbits}
 use Rattle.layout.specs.Place.{varintAt, fixedAt, splice}
-use Rattle.layout.specs.Key.{Key, below, common}
-use Rattle.layout.specs.Row.{value, Absent, Row, present, timeBytes, rowBytes, rowSize, sizeAlone, keyLengthTests, lengthTests}
-use Rattle.layout.specs.RowRead.{decodeRow, lengthsAt, headTests, headAt, flagsAt, bodyTests, bodyAt, timeAt, timesAt, rowAt, readRow, readKey}
-use Rattle.layout.specs.Block.{isRestart, shareOf, laidRow, offsetBytes, trailer}
+use Rattle.layout.specs.Key.{Key, below, common, mayFollow}
+use Rattle.layout.specs.Row.{value, Absent, Row, present, timeBytes, rowBytes, rowSize, sizeAlone, keyLengthTests, lengthTests, encodeRow, restoreKey}
+use Rattle.layout.specs.RowRead.{decodeRow, lengthsAt, headTests, headAt, flagsAt, bodyTests, bodyAt, timeAt, timesAt, rowAt, readRow, readKey, keyLength}
+use Rattle.layout.specs.Block.{isRestart, shareOf, laidRow, rowsFrom, offsetsFrom, blockRows, offsets, offsetBytes, trailer, blockBytes}
 use Rattle.layout.specs.Trailer.{shortAt, trailerOf, risingFrom, allOffsets, regionOf}
 use Rattle.layout.specs.Builder.{Builder, fresh, stateTests, fits, wouldFit, add, stateAfter, dataAfter, placesAfter, build, blockAfter}
-use Rattle.layout.specs.Cursor.{Direction, ascending, descending, Cursor, opened, Answer, found, done, Step, rowEndingAt, stepUp, stepBackIn, stepDown, next}
+use Rattle.layout.specs.Cursor.{Direction, ascending, descending, Cursor, keptCursor, cursorIs, opened, Answer, found, done, Step, rowEndingAt, stepUp, stepBackIn, stepDown, next}
+use Rattle.layout.specs.Check.{check, checkFrom, checkRow}
 use Rattle.layout.specs.Seek.{middle, searchIn, search, restartKey, restartBelow, searchRestarts, walkRegion, walkUp, seekUp, lastEqual, startDown, lastAtOrBelow, walkDown, seekDown, seek}
 
 -- ---- a builder that is offered rows, over buffers that hold something before
@@ -101,6 +102,35 @@ landed d b target =
     bind (next (s .cursor) b maxKey) λ a.
     landedBy (rowStarts 9 (opened ascending t) b) (s .reads) (s .cursor .done) (a .answer)
 
+-- ---- a key at the edge
+
+abbrev pub rowWith : Key → List ℕ → ℕ → Row
+rowWith key val seq = record { key = key; fields = record { kind = value; val = val; seq = seq; expire = Absent; create = Absent } }
+
+-- a block of one row, as it is laid: no limit is asked
+abbrev pub laidAlone : Row → List ℕ
+laidAlone r = blockBytes 16 (r ∷ [])
+
+-- what each call that takes or reads the row's key answers, 0 for good: its size, encoding, decoding, restoring, the fit question, adding, and then building; the check of its block, a
+-- step and a seek both ways; and a step of a cursor and a question to a builder that carry a key so long
+unfoldable pub edgeAnswers : Row → List ℕ
+edgeAnswers r =
+    numberOf (sizeAlone 0 (length (r .key)) value 0 false false)
+    ∷ numberOf (encodeRow 0 0 (r .key) (r .fields) 8192)
+    ∷ numberOf (decodeRow (rowBytes 0 (r .key) (r .fields)) 0)
+    ∷ numberOf (restoreKey [] 0 (r .key) 8192)
+    ∷ numberOf (wouldFit (fresh 8192 16) 8192 1 (r .key) (r .fields))
+    ∷ numberOf (add (fresh 8192 16) 8192 1 (r .key) (r .fields))
+    ∷ numberOf (build (stateAfter (add (fresh 8192 16) 8192 1 (r .key) (r .fields)) (fresh 8192 16)) 8192 1)
+    ∷ numberOf (check (laidAlone r))
+    ∷ numberOf (next (cursorIs ascending 0 0 [] false) (laidAlone r) 8192)
+    ∷ numberOf (next (cursorIs descending 0 (length (rowBytes 0 (r .key) (r .fields))) [] false) (laidAlone r) 8192)
+    ∷ numberOf (seek ascending (laidAlone r) (r .key))
+    ∷ numberOf (seek descending (laidAlone r) (r .key))
+    ∷ numberOf (next (keptCursor ascending 0 0 (length (r .key)) [] true) (laidAlone r) 0)
+    ∷ numberOf (stateTests (record { blockSize = 8192; restartInterval = 16; used = 12; restarts = 1; counter = 1; lastKeyLen = length (r .key); lastKey = r .key }) 8192 1)
+    ∷ []
+
 -- ---- the cases
 
 pub data Case : Type 0 where
@@ -116,6 +146,10 @@ pub data Case : Type 0 where
   refuses : List ℕ → ℕ → Case
   -- a seek in a block of rows with these keys
   seeks : ℕ → List Row → Direction → Key → Landed → Case
+  -- a key of so many bytes: the answer of each call
+  edges : ℕ → List ℕ → Case
+  -- a row after a key, not at a restart: its bytes, and the length of its key as it is read back
+  shares : Key → Row → List ℕ → ℕ → Case
 
 abbrev pub Holds : Case → Type 0
 Holds (lays r bytes n) =
@@ -127,13 +161,13 @@ Holds (spells v bytes) = (varint v ≡ bytes) × (readVarint bytes ≡ ok (num v
 Holds (reads bytes answer) = readVarint bytes ≡ answer
 Holds (refuses bytes n) = decodeRow bytes 0 ≡ refuse n
 Holds (seeks interval rows d target answer) = landed d (blockFor 4096 interval rows) target ≡ ok answer
+Holds (edges n said) = edgeAnswers (rowWith (replicate n 107) [] 1) ≡ said
+Holds (shares before r bytes n) =
+    (laidRow false before (r .key) (r .fields) ≡ bytes) × (bind (readRow bytes 0 (length bytes) (length before) false) (λ q. ok (keyLength q)) ≡ ok n)
 
 abbrev pub AllHold : List Case → Type 0
 AllHold [] = Unit {0}
 AllHold (c ∷ cs) = Holds c × AllHold cs
-
-abbrev pub rowWith : Key → List ℕ → ℕ → Row
-rowWith key val seq = record { key = key; fields = record { kind = value; val = val; seq = seq; expire = Absent; create = Absent } }
 
 -- the letters of the cases
 abbrev keyA : Key
@@ -194,9 +228,15 @@ cases =
     ∷ seeks 2 rows8 ascending (100 ∷ []) (none 2)
     ∷ seeks 2 rows8 descending [] (none 2)
     ∷ seeks 2 rows8 ascending [] (row 0 2)
+    -- the longest key
+    ∷ edges maxKey (replicate 14 0)
+    -- one byte more: nothing was added, so nothing is built
+    ∷ edges (suc maxKey) (replicate 6 2 ++ (7 ∷ (replicate 5 2 ++ (18 ∷ 18 ∷ []))))
+    -- a row that shares all of the longest key but its last byte
+    ∷ shares (replicate (maxKey - 1) 107 ++ (97 ∷ [])) (rowWith (replicate (maxKey - 1) 107 ++ (98 ∷ [])) [] 2) (255 ∷ 31 ∷ 1 ∷ 0 ∷ 98 ∷ 0 ∷ 0 ∷ 0 ∷ 0 ∷ 0 ∷ 0 ∷ 0 ∷ 2 ∷ 0 ∷ []) maxKey
     ∷ []
 
 pub cases-hold : AllHold cases
-unfolding leadingZeros answers offered finished blockFor rowStarts numberIn landed varint varintIn varintLength readVarint readVarintIn big unbig bits unbits varintAt fixedAt splice below common timeBytes rowBytes rowSize sizeAlone keyLengthTests lengthTests decodeRow lengthsAt headTests headAt flagsAt bodyTests bodyAt timeAt timesAt rowAt readRow readKey isRestart shareOf laidRow offsetBytes trailer shortAt trailerOf risingFrom allOffsets regionOf stateTests fits wouldFit add build rowEndingAt stepUp stepBackIn stepDown next middle searchIn search restartKey restartBelow searchRestarts walkRegion walkUp seekUp lastEqual startDown lastAtOrBelow walkDown seekDown seek
+unfolding leadingZeros answers offered finished blockFor rowStarts numberIn landed varint varintIn varintLength readVarint readVarintIn big unbig bits unbits varintAt fixedAt splice below common timeBytes rowBytes rowSize sizeAlone keyLengthTests lengthTests decodeRow lengthsAt headTests headAt flagsAt bodyTests bodyAt timeAt timesAt rowAt readRow readKey isRestart shareOf laidRow offsetBytes trailer shortAt trailerOf risingFrom allOffsets regionOf stateTests fits wouldFit add build rowEndingAt stepUp stepBackIn stepDown next middle searchIn search restartKey restartBelow searchRestarts walkRegion walkUp seekUp lastEqual startDown lastAtOrBelow walkDown seekDown seek edgeAnswers encodeRow restoreKey check checkFrom checkRow mayFollow blockBytes blockRows offsets rowsFrom offsetsFrom
 cases-hold =
-    ((refl, refl, refl), ((refl, refl), ((refl, refl), ((refl, refl), ((refl, refl, refl), ((refl, refl), ((refl, refl), ((refl, refl), ((refl, refl), ((refl, refl), (refl, (refl, (refl, (refl, (refl, (refl, (refl, (refl, (refl, (refl, (refl, tt)))))))))))))))))))))
+    ((refl, refl, refl), ((refl, refl), ((refl, refl), ((refl, refl), ((refl, refl, refl), ((refl, refl), ((refl, refl), ((refl, refl), ((refl, refl), ((refl, refl), (refl, (refl, (refl, (refl, (refl, (refl, (refl, (refl, (refl, (refl, (refl, (refl, (refl, ((refl, refl), tt))))))))))))))))))))))))

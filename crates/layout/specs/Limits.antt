@@ -2,7 +2,7 @@
 use Prim.Native.Nat.{ℕ}
 
 abbrev pub maxKey : ℕ
-maxKey = 1024
+maxKey = 4096
 
 abbrev pub maxValue : ℕ
 maxValue = 65535

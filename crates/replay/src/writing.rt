@@ -6,6 +6,11 @@ use basics::Verdict;
 use block_v2::BlockBuilderV2;
 use build_in_place_v2::BuildAnswer;
 
+// How long the builder's buffers are.
+const DATA: usize = 8192;
+
+const PLACES: usize = 1024;
+
 // The builder with the settings of the line. A refusal is said, as a word by itself, whatever follows.
 fn fresh(line: &[u8]) -> BlockBuilderV2 {
     let block_size = parse::number(words::word(line, b' ', 1)) as usize;
@@ -55,8 +60,8 @@ fn add_rows(line: &[u8], to: usize, data: &mut [u8], restarts: &mut [u16]) -> Bl
 
 // build2 BLOCK_SIZE INTERVAL ROW..: a word for each row, then the block.
 pub fn build(line: &[u8]) {
-    let mut data = [0u8; 8192];
-    let mut restarts = [0u16; 1024];
+    let mut data = [0u8; DATA];
+    let mut restarts = [0u16; PLACES];
     let to = words::count(line, b' ');
     let all = add_rows(line, to, &mut data, &mut restarts);
     let answer = all.build(&mut data, &restarts).answer;
@@ -86,9 +91,9 @@ fn fits(row: &[u8], builder: BlockBuilderV2, data_len: usize, places_len: usize)
 
 // fit2 BLOCK_SIZE INTERVAL ROW..: a word for each row but the last, then whether that one fits.
 pub fn fit(line: &[u8]) {
-    let mut data = [0u8; 8192];
-    let mut restarts = [0u16; 1024];
+    let mut data = [0u8; DATA];
+    let mut restarts = [0u16; PLACES];
     let last = std::num::wrapping_sub_usize(words::count(line, b' '), 1);
     let most = add_rows(line, last, &mut data, &mut restarts);
-    fits(words::word(line, b' ', last), most, 8192, 1024);
+    fits(words::word(line, b' ', last), most, DATA, PLACES);
 }

@@ -169,7 +169,7 @@ fn seek_descending(block: &[u8], t: Trailer, target: &[u8]) -> Found
     walk_down(block, t, target, start)
 }
 
-// A seek, over a cursor whose key bytes are lent. It starts afresh: only the order is taken from the cursor. Tested in this order: that they are 1,024 (18),
+// A seek, over a cursor whose key bytes are lent. It starts afresh: only the order is taken from the cursor. Tested in this order: that they are MAX_KEY (18),
 // the trailer (14), then what the search and the walk meet. All tests come before the first write.
 pub fn seek_in_place(key: &mut [u8], p: Place, block: &[u8], target: &[u8]) -> Found
     ensures { λ r. ⌜ SeeksInPlace p (now (key .entry)) (now (block .entry)) (now (target .entry)) r (now (key .exit)) ⌝ }

@@ -239,7 +239,7 @@ fn next_descending(p: Place, block: &[u8], t: Trailer, out: &mut [u8]) -> Moved
 
 // ---- one step
 
-// What is tested before the direction matters: that the lent key bytes are 1,024 (18), the trailer (14), the region number and the key's length (18), the mark.
+// What is tested before the direction matters: that the lent key bytes are MAX_KEY (18), the trailer (14), the region number and the key's length (18), the mark.
 fn stand(held: usize, p: Place, block: &[u8]) -> Standing
     ensures { λ r. ⌜ StandsAs p held (now (block .entry)) r ⌝ }
 {
@@ -286,7 +286,7 @@ fn down_in_place(held: usize, p: Place, block: &[u8], out: &mut [u8]) -> Moved
     }
 }
 
-// One step, over a cursor whose key bytes are lent. Tested in this order: that they are 1,024 (18), the trailer (14), the region number and the key's length
+// One step, over a cursor whose key bytes are lent. Tested in this order: that they are MAX_KEY (18), the trailer (14), the region number and the key's length
 // (18), the mark, then what the step's direction asks for. All tests come before the first write.
 pub fn next_in_place(key: &mut [u8], p: Place, block: &[u8], out: &mut [u8]) -> Moved
     ensures { λ r. ⌜ StepsInPlace p (now (key .entry)) (now (block .entry)) (now (out .entry)) r (now (key .exit)) (now (out .exit)) ⌝ }

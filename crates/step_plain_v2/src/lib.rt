@@ -205,8 +205,8 @@ fn carry(key: &mut [u8], out: &mut [u8], block: &[u8], shared: usize, from: usiz
 
 // ---- the step
 
-// One step past a plain row, of an ascending cursor that is not marked. Its key's bytes are lent, 1,024 of
-// them.
+// One step past a plain row, of an ascending cursor that is not marked. Its key's bytes are lent, MAX_KEY
+// of them.
 pub fn plain_step(
     key: &mut [u8],
     region: usize,

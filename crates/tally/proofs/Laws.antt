@@ -142,7 +142,7 @@ module _ {want : Told} {v : Res (Unit {0})} (b : List ℕ) (left : ℕ) (c : Cur
       go last d rows (gives e e′ e″ k ks p w) same z m =
           record { r = k .row; key = k .key; moved = e′; is = rw (← same) p; then = record { rows = ks; last = e″; walks = w; all = omega arith; makes = m } }
 
--- a step in place, over 1,024 bytes of key, with rows to go: it finds the next row, and hands on what that holds
+-- a step in place, over as many key bytes as the longest key has, with rows to go: it finds the next row, and hands on what that holds
 module _ {want : Told} {v : Res (Unit {0})} (b : List ℕ) (left : ℕ) (p : Place) (key out : List ℕ) (t : Tally) (s : Folding want v b left (viewIn p key) t) (h : 0 < left)
     (k : length key ≡ maxKey) (l : length out ≡ maxKey) (x : Passed) (key′ out′ : List ℕ) (m : PassesRow p key b out x key′ out′) where
   turn : Turns b left (viewIn p key) t s

@@ -44,7 +44,7 @@ impl Builder {
 
     /// 18, for a builder: "settings outside their limits, data or restarts beyond their buffers, over 5,042 restarts, a restart
     /// count other than rows divided by interval, rounded up, fewer than 12 data bytes a row, data without rows, or a last key
-    /// over 1,024".
+    /// over 4,096".
     fn test_state(&self, data_len: usize, restarts_len: usize) -> Result<(), Refusal> {
         let wrong = !settings_good(self.block_size, self.interval)
             || self.used > data_len

@@ -6,7 +6,7 @@ use crate::check::check;
 use crate::cursor::{Cursor, Order, Order::*};
 use crate::row::{self, Fields, Kind, Place};
 use crate::seek::Sought;
-use crate::{varint, Key, Refusal};
+use crate::{varint, Key, Refusal, KEY_LIMIT};
 
 /// Case 1's row.
 const R: [u8; 13] = [0, 1, 0, 0x61, 0, 0, 0, 0, 0, 0, 0, 1, 0];
@@ -84,7 +84,7 @@ fn gives(key: &[u8]) -> Result<Option<Vec<u8>>, Refusal> {
 
 /// The seqs of all rows, in the order they come.
 fn walk(block: &[u8], mut cursor: Cursor) -> Result<Vec<u64>, Refusal> {
-    let (mut seqs, mut out) = (Vec::new(), [0; 1_024]);
+    let (mut seqs, mut out) = (Vec::new(), [0; KEY_LIMIT]);
     while let Some(row) = cursor.next(block, &mut out)? {
         seqs.push(row.fields.seq);
     }
@@ -97,7 +97,7 @@ fn seek(block: &[u8], order: Order, target: &[u8]) -> Result<(Option<u64>, usize
     let mut cursor = Cursor { order, region: usize::MAX, at: usize::MAX, key: Key::of(&[7; 3_000]), done: true };
     let before = cursor.clone();
     let sought = cursor.seek(block, target).inspect_err(|_| assert_eq!(cursor, before))?;
-    let row = cursor.next(block, &mut [0; 1_024])?;
+    let row = cursor.next(block, &mut [0; KEY_LIMIT])?;
     assert_eq!(row.is_some(), sought.found);
     Ok((row.map(|row| row.fields.seq), sought.reads))
 }
@@ -323,13 +323,13 @@ fn limits_of_size_and_encoding() {
     assert_eq!(row::size(0, 1, &[0; 65_535], &plain), Ok(1 + 1 + 3 + 1 + 65_535 + 9));
     assert_eq!(row::size(0, 1, &[0; 65_536], &plain), Err(3));
     assert_eq!(row::size(0, 0, &[0; 65_536], &plain), Err(1));
-    assert_eq!(row::size(0, 1_025, &[0; 65_536], &of_kind(Kind::Merge)), Err(2));
+    assert_eq!(row::size(0, KEY_LIMIT + 1, &[0; 65_536], &of_kind(Kind::Merge)), Err(2));
     let encode = |previous_len, shared, suffix: &[u8], value: &[u8]| row::encode(&mut [], previous_len, shared, suffix, value, &plain);
     // 13, 1, 2, 3, 6.
     assert_eq!(encode(0, 1, b"", &[0; 65_536]), Err(13));
     assert_eq!(encode(0, usize::MAX, &[1; 2_000], b""), Err(13));
     assert_eq!(encode(0, 0, b"", &[0; 65_536]), Err(1));
-    assert_eq!(encode(2_000, 1_025, b"", b""), Err(2));
+    assert_eq!(encode(KEY_LIMIT + 1, KEY_LIMIT + 1, b"", b""), Err(2));
     assert_eq!(encode(usize::MAX, usize::MAX, b"aa", b""), Err(2));
     assert_eq!(encode(1, 1, b"", &[0; 65_536]), Err(3));
     assert_eq!(encode(1, 1, b"", b""), Err(6));

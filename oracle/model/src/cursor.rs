@@ -66,7 +66,7 @@ impl Cursor {
         }
     }
 
-    /// 18: "region number not below the count, a previous key over 1,024".
+    /// 18: "region number not below the count, a previous key over 4,096".
     fn test_region_and_key(&self, block: &Block) -> Result<(), Refusal> {
         if self.region >= block.restarts() || self.key.len > KEY_LIMIT {
             return Err(STATE);

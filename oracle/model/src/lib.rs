@@ -38,7 +38,7 @@ pub mod refusal {
 }
 
 // Numbers with an edge
-pub const KEY_LIMIT: usize = 1_024;
+pub const KEY_LIMIT: usize = 4_096;
 pub const VALUE_LIMIT: usize = 65_535;
 pub const BLOCK_SIZE_LIMIT: usize = 131_072;
 pub const INTERVAL_LIMIT: usize = 1_024;

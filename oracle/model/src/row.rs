@@ -70,7 +70,7 @@ pub fn written_value(kind: Kind, value: &[u8]) -> &[u8] {
     }
 }
 
-/// 1: "key empty". 2: "key over 1,024".
+/// 1: "key empty". 2: "key over 4,096".
 fn test_key_len(key_len: usize) -> Result<(), Refusal> {
     if key_len == 0 {
         return Err(KEY_EMPTY);
@@ -159,7 +159,7 @@ pub fn encode(output: &mut [u8], previous_len: usize, shared: usize, suffix: &[u
 // ---- reading
 
 /// The start of every row read: "the three varints (9, 10 as met); shared longer than the previous key, or not 0 at a restart
-/// (13); full key empty (1); over 1,024 (2)".
+/// (13); full key empty (1); over 4,096 (2)".
 fn read_start(place: &Place) -> Result<KeyPart, Refusal> {
     let (shared, at) = varint::read(place.data, place.at)?;
     let (unshared, at) = varint::read(place.data, at)?;
@@ -169,7 +169,7 @@ fn read_start(place: &Place) -> Result<KeyPart, Refusal> {
         return Err(SHARE);
     }
     test_key_len(shared.saturating_add(suffix_len))?;
-    // The suffix is at most 1,024 bytes now.
+    // The suffix is at most the limit now.
     Ok(KeyPart { shared, suffix_at: at, suffix_len, value_len: value_len as usize, end: at.saturating_add(suffix_len) })
 }
 

@@ -140,7 +140,7 @@ fn head_table<'a>() -> [Difference<Place<'a>>; 6] {
             has(p, |p, h| h.shared > p.previous_len)
         }),
         entry("a row with an empty key: the Rust reads it, 01 refuses 1", 1, Rust::Varies, |p| has(p, |_, h| h.shared + h.suffix == 0)),
-        entry("a row with a key over 1,024: the Rust reads it, 01 refuses 2", 2, Rust::Varies, |p| has(p, |_, h| h.shared + h.suffix > KEY_LIMIT)),
+        entry("a row with a key over 4,096: the Rust reads it, 01 refuses 2", 2, Rust::Varies, |p| has(p, |_, h| h.shared + h.suffix > KEY_LIMIT)),
     ]
 }
 
@@ -219,7 +219,7 @@ fn value_over(row: &Row) -> bool {
 pub static ENCODE: [Difference<Encode>; 5] = [
     entry("encoding a share longer than the key before: the Rust knows no key before, 01 refuses 13", 13, Rust::Varies, |e| e.shared > e.previous_len),
     entry("encoding an empty key: the Rust writes it, 01 refuses 1", 1, Rust::Varies, |e| key_len(e) == 0),
-    entry("encoding a key over 1,024: the Rust writes it, 01 refuses 2", 2, Rust::Varies, |e| key_len(e) > KEY_LIMIT),
+    entry("encoding a key over 4,096: the Rust writes it, 01 refuses 2", 2, Rust::Varies, |e| key_len(e) > KEY_LIMIT),
     entry("encoding a value over 65,535: the Rust writes it, 01 refuses 3", 3, Rust::Varies, |e| value_over(&e.row)),
     // the lent length is the input that counts here, and the Rust's own bytes say how many are needed
     entry("a lent buffer too short for a row: the Rust's grows, 01 refuses 6", 6, Rust::Varies, |e| {
@@ -249,7 +249,7 @@ pub struct Offer {
     pub restarts_len: usize,
 }
 
-const OFFER_KEY_OVER: Difference<Offer> = entry("a key over 1,024 offered: the Rust takes it, 01 refuses 2", 2, Rust::Varies, |o| o.row.key.len() > KEY_LIMIT);
+const OFFER_KEY_OVER: Difference<Offer> = entry("a key over 4,096 offered: the Rust takes it, 01 refuses 2", 2, Rust::Varies, |o| o.row.key.len() > KEY_LIMIT);
 const OFFER_VALUE_OVER: Difference<Offer> = entry("a value over 65,535 offered: the Rust takes it, 01 refuses 3", 3, Rust::Varies, |o| value_over(&o.row));
 
 pub static ADD: [Difference<Offer>; 5] = [

@@ -118,7 +118,7 @@ fn every_cursor(run: &mut Run, block: &[u8]) {
     let count = u16::from_be_bytes([block[block.len() - 2], block[block.len() - 1]]) as u64;
     for at in 0..block.len() as u64 + 2 {
         for (order, region) in [0, 1].into_iter().flat_map(|order| (0..=count).map(move |region| (order, region))) {
-            for (key_len, done) in [(0, 0), (1, 0), (2, 0), (1_024, 0), (1_025, 0), (0, 1), (1_025, 1)] {
+            for (key_len, done) in [(0, 0), (1, 0), (2, 0), (KEY_LIMIT as u64, 0), (KEY_LIMIT as u64 + 1, 0), (0, 1), (KEY_LIMIT as u64 + 1, 1)] {
                 let key = vec![b'a'; KEY_LIMIT];
                 let cursor = Arrays { cursor: bytes_of(&[order, region, at, key_len, done]), key };
                 for out_len in [1, 2] {

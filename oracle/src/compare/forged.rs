@@ -4,7 +4,7 @@ use crate::calls::{bytes_of, bytes_of_halves, words_of, Arg, Function};
 use crate::inputs::{any_key, below, good_row, one_in, pick, short_key};
 use crate::reading::{Arrays, Op};
 use crate::{rows, Run};
-use model::{KEY_LIMIT, MOST_RESTARTS};
+use model::{INTERVAL_LIMIT, KEY_LIMIT, MOST_RESTARTS};
 use slate_oracle::direct::Row;
 
 /// A number at an edge of 0..=most, one off, or any.
@@ -57,7 +57,7 @@ fn cursor(run: &mut Run, block: &[u8], starts: &[usize]) -> Arrays {
     let start = if starts.is_empty() { 0 } else { pick(&mut run.rng, starts) as u64 };
     let anywhere = around(run, block.len() as u64);
     let any = run.rng.next();
-    let key_len = pick(&mut run.rng, &[0, 0, 1, 2, 5, 1_023, 1_024, 1_025, any]);
+    let key_len = pick(&mut run.rng, &[0, 0, 1, 2, 5, KEY_LIMIT - 1, KEY_LIMIT, KEY_LIMIT + 1, any]);
     let region = if one_in(&mut run.rng, 4) { around(run, count) } else { below(&mut run.rng, count.max(1) as usize) as u64 };
     let at = if one_in(&mut run.rng, 3) { anywhere } else { start };
     let mut words = [run.rng.next() % 2, region, at, key_len, one_in(&mut run.rng, 12) as u64];
@@ -112,7 +112,7 @@ pub fn builder(run: &mut Run) {
 fn builder_words(run: &mut Run, data_len: usize, restarts_len: usize) -> [u64; 6] {
     let mut words = [131_072, 1, 0, 0, 0, 0];
     words[0] = if one_in(&mut run.rng, 4) { around(run, 131_072) } else { pick(&mut run.rng, &[100, 1_000, 131_072]) };
-    words[1] = if one_in(&mut run.rng, 6) { around(run, 1_024) } else { pick(&mut run.rng, &[1, 2, 3, 16]) };
+    words[1] = if one_in(&mut run.rng, 6) { around(run, INTERVAL_LIMIT as u64) } else { pick(&mut run.rng, &[1, 2, 3, 16]) };
     words[2] = around(run, data_len as u64);
     words[4] = around(run, words[2] / 12);
     let right = if words[1] == 0 { 0 } else { words[4].div_ceil(words[1]) };
@@ -140,7 +140,7 @@ pub fn fit_of_lengths(run: &mut Run) {
     let (data_len, restarts_len) = (around(run, u64::MAX), around(run, MOST_RESTARTS as u64));
     let used = around(run, data_len);
     let rows = around(run, used / 12);
-    let interval = pick(&mut run.rng, &[1, 2, 1_024]);
+    let interval = pick(&mut run.rng, &[1, 2, INTERVAL_LIMIT]);
     let words = [131_072, interval, used, rows.div_ceil(interval), rows, 3];
     let key = key_bytes(run, 3);
     let state = [Arg::Read(bytes_of(&words)), Arg::Read(key), Arg::Number(data_len), Arg::Number(restarts_len)];

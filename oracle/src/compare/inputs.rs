@@ -1,4 +1,5 @@
 //! Inputs by chance, around every limit; blocks as they are built, blocks that no builder writes, and damage to both.
+use model::KEY_LIMIT;
 use slate_oracle::direct::Row;
 use slate_oracle::rng::Rng;
 
@@ -36,7 +37,7 @@ pub fn key_of_length(rng: &mut Rng, length: usize) -> Vec<u8> {
 /// A key within the limits.
 pub fn good_key(rng: &mut Rng) -> Vec<u8> {
     if one_in(rng, 12) {
-        let length = pick(rng, &[1, 126, 127, 128, 129, 255, 256, 1_000, 1_023, 1_024]);
+        let length = pick(rng, &[1, 126, 127, 128, 129, 255, 256, 1_023, 1_024, 1_025, KEY_LIMIT - 1, KEY_LIMIT]);
         key_of_length(rng, length)
     } else {
         short_key(rng)
@@ -45,7 +46,7 @@ pub fn good_key(rng: &mut Rng) -> Vec<u8> {
 
 /// A key of any length around the limits.
 pub fn any_key(rng: &mut Rng) -> Vec<u8> {
-    let length = pick(rng, &[0, 0, 1, 2, 1_022, 1_023, 1_024, 1_025, 1_026, 3_000]);
+    let length = pick(rng, &[0, 0, 1, 2, 1_023, 1_024, 1_025, KEY_LIMIT - 2, KEY_LIMIT - 1, KEY_LIMIT, KEY_LIMIT + 1, KEY_LIMIT + 2, 9_000]);
     if one_in(rng, 3) { key_of_length(rng, length) } else { good_key(rng) }
 }
 

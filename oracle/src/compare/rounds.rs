@@ -2,7 +2,7 @@
 use crate::inputs::{self, any_row, below, good_row, one_in, pick};
 use crate::reading::{self, Op};
 use crate::{building, forged, refused, rows, Run};
-use model::{KEY_LIMIT, MOST_RESTARTS};
+use model::{INTERVAL_LIMIT, KEY_LIMIT, MOST_RESTARTS};
 use slate_oracle::direct::{self, Row};
 
 /// Large enough for what the rounds build.
@@ -36,7 +36,7 @@ fn keys(run: &mut Run) -> Vec<Vec<u8>> {
 
 fn built(run: &mut Run, keys: &[Vec<u8>]) -> Vec<u8> {
     let rows: Vec<Row> = keys.iter().map(|key| good_row(&mut run.rng, key.clone())).collect();
-    let interval = pick(&mut run.rng, &[1, 2, 3, 4, 16, 1_024]);
+    let interval = pick(&mut run.rng, &[1, 2, 3, 4, 16, INTERVAL_LIMIT]);
     let mut builder = direct::Builder::new(131_072, interval);
     for row in &rows {
         builder.add(row).expect("a good row");
@@ -49,8 +49,8 @@ fn built(run: &mut Run, keys: &[Vec<u8>]) -> Vec<u8> {
 fn single_rows(run: &mut Run) {
     for _ in 0..3 {
         let row = any_row(&mut run.rng);
-        let shared: usize = pick(&mut run.rng, &[0, 0, 1, 2, 127, 128, 1_023, 1_024, 1_025, 5_000]);
-        let previous_len = pick(&mut run.rng, &[shared, shared + 1, shared.saturating_sub(1), 0, 1_024, 70_000]);
+        let shared: usize = pick(&mut run.rng, &[0, 0, 1, 2, 127, 128, 1_024, KEY_LIMIT - 1, KEY_LIMIT, KEY_LIMIT + 1, 9_000]);
+        let previous_len = pick(&mut run.rng, &[shared, shared + 1, shared.saturating_sub(1), 0, KEY_LIMIT, 70_000]);
         let size = direct::encode(shared as u32, &row).expect("a size").1;
         let output_len = pick(&mut run.rng, &[size, size + 1, size + 20, size - 1, 0]);
         rows::write_row(run, previous_len, shared, &row, output_len);
@@ -71,7 +71,7 @@ fn single_rows(run: &mut Run) {
 fn buffers(run: &mut Run) {
     let count = 1 + below(&mut run.rng, 7);
     let rows: Vec<Row> = (0..count).map(|_| any_row(&mut run.rng)).collect();
-    let interval = pick(&mut run.rng, &[1, 1, 2, 3, 16, 1_024]);
+    let interval = pick(&mut run.rng, &[1, 1, 2, 3, 16, INTERVAL_LIMIT]);
     let taken: Vec<&Row> = rows.iter().filter(|row| (1..=KEY_LIMIT).contains(&row.key.len()) && row.value.len() <= 65_535).collect();
     // room for all: the Rust reserves as many bytes
     let mut builder = direct::Builder::new(1 << 20, interval);
@@ -122,7 +122,7 @@ fn good_block(run: &mut Run, block: &[u8], keys: &[Vec<u8>]) {
             let some = below(&mut run.rng, keys.len() + 2) as u64;
             reading::walks_accepted(run, block, order, &[some, keys.len() as u64, u64::MAX]);
         }
-        let out_len = pick(&mut run.rng, &[0, 1, 2, 3, 4, 5, 1_023]);
+        let out_len = pick(&mut run.rng, &[0, 1, 2, 3, 4, 5, 1_024, KEY_LIMIT - 1]);
         reading::walk_any(run, block, order, &mixed, out_len);
         many_rows(run, block, order, keys);
     }
@@ -234,7 +234,7 @@ fn case_11(run: &mut Run) {
 
 /// Keys and values at their limits and one past, alone and as rows of a block.
 fn lengths(run: &mut Run) {
-    for key in [0, 1, 1_023, 1_024, 1_025] {
+    for key in [0, 1, 1_023, 1_024, 1_025, KEY_LIMIT - 1, KEY_LIMIT, KEY_LIMIT + 1] {
         for value in [0, 1, 65_535, 65_536] {
             for kind in [0, 1, 2] {
                 let row = Row { kind, ..plain(&vec![b'k'; key], value) };
@@ -251,7 +251,7 @@ fn lengths(run: &mut Run) {
 
 fn settings(run: &mut Run) {
     for block_size in [0, 1, 131_071, 131_072, 131_073, 1 << 32, usize::MAX] {
-        for interval in [0, 1, 2, 16, 1_023, 1_024, 1_025, (1 << 32) + 1, usize::MAX] {
+        for interval in [0, 1, 2, 16, INTERVAL_LIMIT - 1, INTERVAL_LIMIT, INTERVAL_LIMIT + 1, (1 << 32) + 1, usize::MAX] {
             building::open(run, block_size, interval);
         }
     }
@@ -309,7 +309,7 @@ fn long_block(run: &mut Run) {
     let block = builder.build().expect("a block");
     good_block(run, &block, &keys);
     for order in [0, 1] {
-        let ops = [Op::Seek(vec![b'a'; 100_000]), Op::Next, Op::Seek(vec![b'b'; 1_025]), Op::Next, Op::Next];
+        let ops = [Op::Seek(vec![b'a'; 100_000]), Op::Next, Op::Seek(vec![b'b'; KEY_LIMIT + 1]), Op::Next, Op::Next];
         reading::walk_accepted(run, "mixed walk (Rust)", &block, order, &ops);
     }
 }

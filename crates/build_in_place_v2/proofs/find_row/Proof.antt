@@ -12,7 +12,7 @@ use Rattle.row_flags.specs.Says.{fieldsFrom}
 use Rattle.row_size_v2.specs.Says.{saysSized}
 use Rattle.state_v2.specs.Says.{viewFrom}
 use Rattle.build_in_place_v2.proofs.Finds.{found-none, found-some}
-use Rattle.build_in_place_v2.proofs.Tests.{state-refused, state-taken, Measured, share-fits, plan-state, plan-unsized, plan-past, plan-fits, plan-over, size-small, accept-no, accept-far, accept-short, accept-places, accept-good}
+use Rattle.build_in_place_v2.proofs.Tests.{state-refused, state-taken, Measured, share-fits, plan-state, plan-unsized, plan-past, plan-fits, plan-over, size-small, accept-no, accept-far, accept-short, accept-places, accept-good, mostRow}
 use Rattle.build_in_place_v2.proofs.find_row.Statement.{statement}
 use Rattle.build_in_place_v2.proofs.find_row.Tie as tie
 
@@ -41,7 +41,7 @@ module _ (c : tie.After-entry-encoded-size) (v : List ℕ) (long : length v ≡ 
       }
 
 -- no sum with its size wraps: some value has this length
-small : (c : tie.After-entry-encoded-size) {n : ℕ} → saysSized (c .entry-encoded-size .result) ≡ ok n → n ≤ 66599
+small : (c : tie.After-entry-encoded-size) {n : ℕ} → saysSized (c .entry-encoded-size .result) ≡ ok n → n ≤ mostRow
 small c =
     let n = start (c .before .before .before) .args .value-len in
     size-small _ _ _ _ _ (measured c (replicate n 0) (length-replicate {A = ℕ} n 0))

@@ -1,5 +1,5 @@
 -- `plan_row` keeps its promise: 18, 1, 2, 3, 4, or what was found. The state's tests come first, so the last key's length is within its array and the interval is some; a row
--- that passes its length tests has at most 66,599 bytes and the rows before it are within the block size, so no sum wraps. Each exit is one of the fit question's.
+-- that passes its length tests has at most `mostRow` bytes and the rows before it are within the block size, so no sum wraps. Each exit is one of the fit question's.
 use Prim.Native.Nat.{ℕ, _≤_}
 use mathlib.Core.Path.{_≡_, refl, ap, sym}
 use mathlib.Core.List.{List}
@@ -13,7 +13,7 @@ use Rattle.basics.specs.Answers.{no}
 use Rattle.row_flags.specs.Says.{fieldsFrom}
 use Rattle.row_size_v2.specs.Says.{saysSized, sizedRefusal}
 use Rattle.state_v2.specs.Says.{viewFrom}
-use Rattle.build_in_place_v2.proofs.Tests.{state-refused, state-taken, Measured, share-fits, plan-state, plan-unsized, plan-past, plan-fits, plan-over, size-small}
+use Rattle.build_in_place_v2.proofs.Tests.{state-refused, state-taken, Measured, share-fits, plan-state, plan-unsized, plan-past, plan-fits, plan-over, size-small, mostRow}
 use Rattle.build_in_place_v2.proofs.plan_row.Statement.{statement}
 use Rattle.build_in_place_v2.proofs.plan_row.Tie as tie
 
@@ -42,7 +42,7 @@ module _ (c : tie.After-entry-encoded-size) (v : List ℕ) (long : length v ≡ 
       }
 
 -- no sum with its size wraps: some value has this length
-small : (c : tie.After-entry-encoded-size) {n : ℕ} → saysSized (c .entry-encoded-size .result) ≡ ok n → n ≤ 66599
+small : (c : tie.After-entry-encoded-size) {n : ℕ} → saysSized (c .entry-encoded-size .result) ≡ ok n → n ≤ mostRow
 small c =
     let n = start (c .before .before .before) .args .value-len in
     size-small _ _ _ _ _ (measured c (replicate n 0) (length-replicate {A = ℕ} n 0))

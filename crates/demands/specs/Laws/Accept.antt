@@ -1,24 +1,24 @@
 -- The check accepts a block exactly when trailer and offsets are good, rows cover the data with one starting at each restart, and keys never fall; and then it
--- answers how many rows there are. Both directions go along the check's own fold, region by region.
+-- answers how many rows there are. Both directions go along the check's own fold, region by region; of rows that are read it tells no more than their order.
 use Prim.Native.Nat.{ℕ, zero, suc, _+_, _-_, _<_, _≤_}
 use mathlib.Core.Path.{_≡_, refl, ap, sym, _∙_}
-use mathlib.Core.Bool.{true, cond, not}
+use mathlib.Core.Bool.{Bool, true, false, cond, not}
 use mathlib.Core.List.{List, [], _∷_, _++_}
 use mathlib.Core.Logic.{_⊎_, ⊎-elim, inl, inr}
 use native.Mathlib.Omega.{arith}
 use native.Mathlib.Numerals.{add-one}
 use native.Mathlib.Nat.{zero-add}
 use lib.Dec.{ltb}
-use lib.ListN.{length}
+use lib.ListN.{length, length-map}
 use borrow.Author.Tests.{lt-ltb, le-ltb, eq-eqb, not-false}
-use Rattle.layout.specs.Res.{ok, bind}
+use Rattle.layout.specs.Res.{Res, ok, refuse, bind, guard}
 use Rattle.layout.specs.Key.{Key, Rank, rankIs, noRank, mayFollow, Rising}
 use Rattle.layout.specs.RowRead.{RowRead, readRow, rowAt, headAt, keyOf}
 use Rattle.layout.specs.Trailer.{Trailer, trailerOf, dataOf, Region, regionOf, allOffsets, rowIn}
 use Rattle.layout.specs.Check.{Passed, passedIs, readRank, passedRow, checkRow, checkFrom, check}
 use Rattle.layout.specs.Cursor.{Keyed, keyed}
-use Rattle.demands.specs.Reads.{regionRows, regionsRows, allRows, ranksOf, Accepts}
-use Rattle.layout.specs.Laws.Res.{bind-then, guard-then, ok-inj, ltb-cases}
+use Rattle.demands.specs.Reads.{regionRows, regionsRows, Reads, allRows, ranksOf, verdict, Accepts}
+use Rattle.layout.specs.Laws.Res.{bind-then, guard-then, ok-inj, ltb-cases, bool-cases}
 use Rattle.layout.specs.Laws.Trailer.{regionOf-tells, trailerOf-tells, OffsetsTell, allOffsets-tell, region-good}
 use Rattle.layout.specs.Laws.Tells.{readRow-ends, rowIn-ends}
 use Rattle.demands.specs.Laws.Reads.{region-at, region-cons, region-over, region-more, RegionsAre, next as next-region, regions-are, regions-cons, allRows-none, allRows-next}
@@ -85,6 +85,19 @@ past-row b t offs g at region before carried r key s e =
     (λ f. end at-end (omega (arith, tells .last (f .1) .0)) (f .1))
     (ltb-cases (region + 1) (t .count))))
     (ltb-cases (r .next) (g .end))
+
+verdict-none : (before : Rank) (rows : ℕ) → verdict before [] rows ≡ ok rows
+unfolding verdict
+verdict-none before rows = refl
+
+verdict-next : (before r : Rank) (rs : List Rank) (rows : ℕ) → verdict before (r ∷ rs) rows ≡ guard (not (mayFollow before r)) 17 (verdict r rs (rows + 1))
+unfolding verdict
+verdict-next before r rs rows = refl
+
+-- a refusal before what follows, on both sides
+after-guard : {A B : Type 0} (t : Bool) (a : A) (f : A → Res B) (x : Res B) → f a ≡ x → bind (guard t 17 (ok a)) f ≡ guard t 17 x
+after-guard true a f x e = refl
+after-guard false a f x e = e
 
 -- ---- what is left of the block, from where the fold stands
 
@@ -206,66 +219,66 @@ module _ (b : List ℕ) (t : Trailer) (offs : OffsetsTell b t) where
             many = rw allRows-none (sym (ok-inj one));
           }
 
-  -- and back: rows that are read, in order, are accepted
-  passes-row : (g : Region) (at region rows : ℕ) (before : Rank) (carried : Key) (r : RowRead) → Stands b t g at region (before .key) carried
-      → rowIn (dataOf b t) g at (length carried) ≡ ok r → mayFollow before (readRank (dataOf b t) carried r) ≡ true
-      → checkRow b t (passedIs at region before rows) ≡ ok (passedIs (r .next) (cond (ltb (r .next) (g .end)) region (region + 1)) (readRank (dataOf b t) carried r) (rows + 1))
+  -- and back: of rows that are read the check tells no more than whether each may follow the one before
+  judges-row : (g : Region) (at region rows : ℕ) (before : Rank) (carried : Key) (r : RowRead) → Stands b t g at region (before .key) carried
+      → rowIn (dataOf b t) g at (length carried) ≡ ok r
+      → checkRow b t (passedIs at region before rows)
+      ≡ guard (not (mayFollow before (readRank (dataOf b t) carried r))) 17 (ok (passedIs (r .next) (cond (ltb (r .next) (g .end)) region (region + 1)) (readRank (dataOf b t) carried r) (rows + 1)))
   unfolding checkRow
-  passes-row g at region rows before carried r s u m =
-      rw (s .used, same-row b t g at region (before .key) carried s, u, same-key b t g at region (before .key) carried r s u, m)
+  judges-row g at region rows before carried r s u =
+      rw (s .used, same-row b t g at region (before .key) carried s, u, same-key b t g at region (before .key) carried r s u)
 
-  pub covers-accepted : (left : ℕ) (g : Region) (at region rows : ℕ) (before : Rank) (carried : Key) (here : List Keyed) (rest : List (List Keyed)) → Stands b t g at region (before .key) carried
-      → t .size ≤ at + left → regionRows (t .size) (dataOf b t) g at carried ≡ ok here → regionsRows (t .count - suc region) b t (suc region) ≡ ok rest → Rising before (ranksOf (here ++ allRows rest))
-      → checkFrom left b t (passedIs at region before rows) ≡ ok (rows + length (here ++ allRows rest))
-  covers-accepted zero g at region rows before carried here rest s h p q o = absurd (omega (arith, s .high, regionOf-tells b t region g (s .used) .inside))
-  covers-accepted (suc left) g at region rows before carried here rest s h p q o =
+  pub covers-verdict : (left : ℕ) (g : Region) (at region rows : ℕ) (before : Rank) (carried : Key) (here : List Keyed) (rest : List (List Keyed)) → Stands b t g at region (before .key) carried
+      → t .size ≤ at + left → regionRows (t .size) (dataOf b t) g at carried ≡ ok here → regionsRows (t .count - suc region) b t (suc region) ≡ ok rest
+      → checkFrom left b t (passedIs at region before rows) ≡ verdict before (ranksOf (here ++ allRows rest)) rows
+  covers-verdict zero g at region rows before carried here rest s h p q = absurd (omega (arith, s .high, regionOf-tells b t region g (s .used) .inside))
+  covers-verdict (suc left) g at region rows before carried here rest s h p q =
       region-at (t .size) (dataOf b t) g at carried here p (omega (arith, size))
       (λ over none. absurd (omega (arith, s .high)))
       (λ r ks m lt u more enough is.
       let w = rowIn-ends (dataOf b t) g at (length carried) r u in
       let more′ : regionRows (t .size) (dataOf b t) g (r .next) (keyOf (dataOf b t) carried r) ≡ ok ks =
       region-more (t .size) m (dataOf b t) g (r .next) (keyOf (dataOf b t) carried r) (omega (arith, size)) enough ∙ more in
-      let o′ : Rising before (ranksOf (keyed r (keyOf (dataOf b t) carried r) ∷ (ks ++ allRows rest))) = rw is at o in
       step-from left at region rows before (omega (arith, s .high, size))
-      ∙ rw (passes-row g at region rows before carried r s u (o′ .0), is)
-      (go r ks (w .least) more′ (o′ .1) (cond (ltb (r .next) (g .end)) region (region + 1)) (past-row b t offs g at region (before .key) carried r (keyOf (dataOf b t) carried r) s u) (covers-accepted left)))
+      ∙ rw (judges-row g at region rows before carried r s u, is)
+      (after-guard (not (mayFollow before (readRank (dataOf b t) carried r))) _ _ _
+      (go r ks (w .least) more′ (cond (ltb (r .next) (g .end)) region (region + 1)) (past-row b t offs g at region (before .key) carried r (keyOf (dataOf b t) carried r) s u) (covers-verdict left))
+      ∙ sym (verdict-next before (readRank (dataOf b t) carried r) (ranksOf (ks ++ allRows rest)) rows)))
     where
       size : g .end ≤ t .size
       size = regionOf-tells b t region g (s .used) .inside
 
       go : (r : RowRead) (ks : List Keyed) → at + 12 ≤ r .next → regionRows (t .size) (dataOf b t) g (r .next) (keyOf (dataOf b t) carried r) ≡ ok ks
-          → Rising (readRank (dataOf b t) carried r) (ranksOf (ks ++ allRows rest)) → (region′ : ℕ) → Next b t g (r .next) region (keyOf (dataOf b t) carried r) region′
+          → (region′ : ℕ) → Next b t g (r .next) region (keyOf (dataOf b t) carried r) region′
           → ((g : Region) (at region rows : ℕ) (before : Rank) (carried : Key) (here : List Keyed) (rest : List (List Keyed)) → Stands b t g at region (before .key) carried → t .size ≤ at + left
-          → regionRows (t .size) (dataOf b t) g at carried ≡ ok here → regionsRows (t .count - suc region) b t (suc region) ≡ ok rest → Rising before (ranksOf (here ++ allRows rest))
-          → checkFrom left b t (passedIs at region before rows) ≡ ok (rows + length (here ++ allRows rest)))
-          → checkFrom left b t (passedIs (r .next) region′ (readRank (dataOf b t) carried r) (rows + 1)) ≡ ok (rows + suc (length (ks ++ allRows rest)))
-      go r ks on more o region′ (stay s′) ih =
-          ih g (r .next) region (rows + 1) (readRank (dataOf b t) carried r) (keyOf (dataOf b t) carried r) ks rest s′ (omega arith) more q o ∙ ap ok (omega arith)
-      go r ks on more o region′ (enter f at-end start s′) ih =
+          → regionRows (t .size) (dataOf b t) g at carried ≡ ok here → regionsRows (t .count - suc region) b t (suc region) ≡ ok rest
+          → checkFrom left b t (passedIs at region before rows) ≡ verdict before (ranksOf (here ++ allRows rest)) rows)
+          → checkFrom left b t (passedIs (r .next) region′ (readRank (dataOf b t) carried r) (rows + 1)) ≡ verdict (readRank (dataOf b t) carried r) (ranksOf (ks ++ allRows rest)) (rows + 1)
+      go r ks on more region′ (stay s′) ih =
+          ih g (r .next) region (rows + 1) (readRank (dataOf b t) carried r) (keyOf (dataOf b t) carried r) ks rest s′ (omega arith) more q
+      go r ks on more region′ (enter f at-end start s′) ih =
           entered (t .count - suc region) (omega (arith, s′ .inside)) q
         where
           entered : (n : ℕ) → n ≡ t .count - suc region → regionsRows n b t (suc region) ≡ ok rest
-              → checkFrom left b t (passedIs (r .next) (region + 1) (readRank (dataOf b t) carried r) (rows + 1)) ≡ ok (rows + suc (length (ks ++ allRows rest)))
+              → checkFrom left b t (passedIs (r .next) (region + 1) (readRank (dataOf b t) carried r) (rows + 1)) ≡ verdict (readRank (dataOf b t) carried r) (ranksOf (ks ++ allRows rest)) (rows + 1)
           entered zero z q = absurd (omega (arith, s′ .inside))
-          entered (suc n) z q = made rest o (regions-are n b t (suc region) rest q)
+          entered (suc n) z q = made rest (regions-are n b t (suc region) rest q)
             where
               none : ks ≡ []
               none = ok-inj (sym more ∙ region-over (t .size) (dataOf b t) g (r .next) (keyOf (dataOf b t) carried r) (omega arith))
 
-              made : (rest : List (List Keyed)) → Rising (readRank (dataOf b t) carried r) (ranksOf (ks ++ allRows rest)) → RegionsAre n b t (suc region) rest
-                  → checkFrom left b t (passedIs (r .next) (region + 1) (readRank (dataOf b t) carried r) (rows + 1)) ≡ ok (rows + suc (length (ks ++ allRows rest)))
-              made rest o (next-region e here more′ u p w) =
+              made : (rest : List (List Keyed)) → RegionsAre n b t (suc region) rest
+                  → checkFrom left b t (passedIs (r .next) (region + 1) (readRank (dataOf b t) carried r) (rows + 1)) ≡ verdict (readRank (dataOf b t) carried r) (ranksOf (ks ++ allRows rest)) (rows + 1)
+              made rest (next-region e here more′ u p w) =
                   let same : e ≡ f = ok-inj (sym u ∙ ap (regionOf b t) (sym (add-one region)) ∙ s′ .used) in
                   let p′ : regionRows (t .size) (dataOf b t) f (r .next) [] ≡ ok here = rw (start, ← same) p in
-                  let o′ : Rising (readRank (dataOf b t) carried r) (ranksOf (here ++ allRows more′)) = rw (none, allRows-next here more′) at o in
                   let m : n ≡ t .count - suc (region + 1) = omega arith in
                   let w′ : regionsRows (t .count - suc (region + 1)) b t (suc (region + 1)) ≡ ok more′ = rw (← m, add-one region) w in
-                  ih f (r .next) (region + 1) (rows + 1) (readRank (dataOf b t) carried r) [] here more′ s′ (omega arith) p′ w′ o′
-                  ∙ rw (none, allRows-next here more′) (ap ok (omega arith))
-      go r ks on more o region′ (end at-end over last) ih =
+                  rw (none, allRows-next here more′) (ih f (r .next) (region + 1) (rows + 1) (readRank (dataOf b t) carried r) [] here more′ s′ (omega arith) p′ w′)
+      go r ks on more region′ (end at-end over last) ih =
           let none : ks ≡ [] = ok-inj (sym more ∙ region-over (t .size) (dataOf b t) g (r .next) (keyOf (dataOf b t) carried r) (omega arith)) in
           let no-rest : rest ≡ [] = ok-inj (sym q ∙ no-more region last) in
-          over-from left (r .next) (region + 1) (rows + 1) (readRank (dataOf b t) carried r) over ∙ rw (none, no-rest, allRows-none) (ap ok (omega arith))
+          over-from left (r .next) (region + 1) (rows + 1) (readRank (dataOf b t) carried r) over ∙ rw (none, no-rest, allRows-none) (sym (verdict-none _ _))
 
 -- ---- the check, exactly
 
@@ -304,25 +317,41 @@ check-accepts b n e =
           many = rw (allRows-next (c .here) (c .rest)) (c .many ∙ zero-add (length (c .here ++ allRows (c .rest))));
         }
 
-pub accepts-check : (b : List ℕ) (n : ℕ) → Accepts b n → check b ≡ ok n
+-- of a block whose rows are read, the check tells no more than their order
+pub check-verdict : (b : List ℕ) (t : Trailer) (regions : List (List Keyed)) → Reads b t regions → check b ≡ verdict noRank (ranksOf (allRows regions)) 0
 unfolding check
-accepts-check b n a =
-    let t : Trailer = a .t in
-    let offs = allOffsets-tell b (a .t) tt (a .reads .offsets-good) in
-    let some = trailerOf-tells b (a .t) (a .reads .trailer-good) .1 in
-    let s = start-stands b (a .t) offs some in
-    rw (a .reads .trailer-good, a .reads .offsets-good) (go offs (s .0) (s .1) (s .2) (s .3) (a .t .count) refl some (a .reads .rows-read))
+check-verdict b t regions reads =
+    let offs = allOffsets-tell b t tt (reads .offsets-good) in
+    let some = trailerOf-tells b t (reads .trailer-good) .1 in
+    let s = start-stands b t offs some in
+    rw (reads .trailer-good, reads .offsets-good) (go offs (s .0) (s .1) (s .2) (s .3) (t .count) refl some (reads .rows-read))
   where
-    go : OffsetsTell b (a .t) → (g : Region) → regionOf b (a .t) 0 ≡ ok g → g .start ≡ 0 → Stands b (a .t) g 0 0 [] [] → (m : ℕ) → m ≡ a .t .count → 1 ≤ a .t .count
-        → regionsRows m b (a .t) 0 ≡ ok (a .regions) → checkFrom (a .t .size) b (a .t) (passedIs 0 0 noRank 0) ≡ ok n
+    go : OffsetsTell b t → (g : Region) → regionOf b t 0 ≡ ok g → g .start ≡ 0 → Stands b t g 0 0 [] [] → (m : ℕ) → m ≡ t .count → 1 ≤ t .count
+        → regionsRows m b t 0 ≡ ok regions → checkFrom (t .size) b t (passedIs 0 0 noRank 0) ≡ verdict noRank (ranksOf (allRows regions)) 0
     go offs g used z s zero e some p = absurd (omega arith)
-    go offs g used z s (suc m) e some p = made (a .regions) (a .in-order) (a .many) (regions-are m b (a .t) 0 (a .regions) p)
+    go offs g used z s (suc m) e some p = made regions (regions-are m b t 0 regions p)
       where
-        made : (rss : List (List Keyed)) → Rising noRank (ranksOf (allRows rss)) → n ≡ length (allRows rss) → RegionsAre m b (a .t) 0 rss → checkFrom (a .t .size) b (a .t) (passedIs 0 0 noRank 0) ≡ ok n
-        made rss o l (next-region f here rest u p w) =
+        made : (rss : List (List Keyed)) → RegionsAre m b t 0 rss → checkFrom (t .size) b t (passedIs 0 0 noRank 0) ≡ verdict noRank (ranksOf (allRows rss)) 0
+        made rss (next-region f here rest u p w) =
             let same : f ≡ g = ok-inj (sym u ∙ used) in
-            let p′ : regionRows (a .t .size) (dataOf b (a .t)) g 0 [] ≡ ok here =
-            ap (λ (k : ℕ). regionRows (a .t .size) (dataOf b (a .t)) g k []) (sym z) ∙ ap (λ (x : Region). regionRows (a .t .size) (dataOf b (a .t)) x (x .start) []) (sym same) ∙ p in
-            let k : m ≡ a .t .count - 1 = omega arith in
-            covers-accepted b (a .t) offs (a .t .size) g 0 0 0 noRank [] here rest s (omega arith) p′ (rw (← k) w) (rw (allRows-next here rest) at o)
-            ∙ ap ok (zero-add (length (here ++ allRows rest)) ∙ sym (l ∙ ap length (allRows-next here rest)))
+            let p′ : regionRows (t .size) (dataOf b t) g 0 [] ≡ ok here =
+            ap (λ (k : ℕ). regionRows (t .size) (dataOf b t) g k []) (sym z) ∙ ap (λ (x : Region). regionRows (t .size) (dataOf b t) x (x .start) []) (sym same) ∙ p in
+            let k : m ≡ t .count - 1 = omega arith in
+            rw (allRows-next here rest) (covers-verdict b t offs (t .size) g 0 0 0 noRank [] here rest s (omega arith) p′ (rw (← k) w))
+
+-- rows in order are counted
+verdict-rising : (before : Rank) (rs : List Rank) (rows : ℕ) → Rising before rs → verdict before rs rows ≡ ok (rows + length rs)
+verdict-rising before [] rows o = verdict-none before rows ∙ ap ok (omega arith)
+verdict-rising before (r ∷ rs) rows o = rw (verdict-next before r rs rows, o .0) (verdict-rising r rs (rows + 1) (o .1) ∙ ap ok (omega arith))
+
+-- and any others are refused with 17
+pub verdict-falling : (before : Rank) (rs : List Rank) (rows : ℕ) → (Rising before rs → ⊥) → verdict before rs rows ≡ refuse 17
+verdict-falling before [] rows o = absurd (o tt)
+verdict-falling before (r ∷ rs) rows o =
+    verdict-next before r rs rows ∙ ⊎-elim (λ y. rw y (verdict-falling r rs (rows + 1) (λ q. o (y, q)))) (λ n. rw n) (bool-cases (mayFollow before r))
+
+pub accepts-check : (b : List ℕ) (n : ℕ) → Accepts b n → check b ≡ ok n
+accepts-check b n a =
+    check-verdict b (a .t) (a .regions) (a .reads)
+    ∙ verdict-rising noRank (ranksOf (allRows (a .regions))) 0 (a .in-order)
+    ∙ ap ok (zero-add (length (ranksOf (allRows (a .regions)))) ∙ length-map (allRows (a .regions)) (λ (k : Keyed). rankIs (k .key) (k .row .seq)) ∙ sym (a .many))

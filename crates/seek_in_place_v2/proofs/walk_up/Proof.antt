@@ -4,6 +4,7 @@ use native.Mathlib.Omega.{arith}
 use lib.ListN.{length}
 use lib.Seq.{length-take-le}
 use borrow.Author.Needs.{needs}
+use Rattle.layout.specs.Limits.{maxKey}
 use Rattle.layout.specs.Res.{ok}
 use Rattle.layout.specs.Key.{Key}
 use Rattle.layout.specs.Place.{splice}
@@ -34,7 +35,7 @@ module _ (k : tie.After-known-told Inv-loop μ-loop) where
   region-read : let s = k .before .before .before .before .before .before .before .before .before .before .args in regionOf (s .block .now) (trailerFrom (s .t)) (k .before .before .before .before .before .before .loop .number) ≡ ok (regionFrom (k .before .read .given .0 .0))
   region-read = sym (region-used _ _ (k .before .before .before .before .before .before .before .before .before .before .pre .1 .read) _ (k .before .before .before .before .if1 .taken)) ∙ yes saysRegion (k .before .before .before .region-of .ensures) (k .before .read .given .1)
 
-  whole : length (k .before .before .before .before .before .before .loop .key) ≡ 1024
+  whole : length (k .before .before .before .before .before .before .loop .key) ≡ maxKey
   whole = ap length (k .before .before .before .before .before .before .loop .inv .1) ∙ k .before .before .before .before .before .before .before .before .before .before .pre .0
 
 loop-holds : tie.Need-loop-holds Inv-loop μ-loop
