@@ -39,7 +39,7 @@ extern "C" {
 #define SLATEDB_EMPTY_BLOCK 7          /* a block is built with no row */
 #define SLATEDB_BAD_SETTINGS 8         /* the block size or the interval is outside its limits */
 #define SLATEDB_INPUT_ENDS 9           /* the input ends inside a row */
-#define SLATEDB_VARINT_TOO_LARGE 10    /* the fifth byte of a varint is above 15 */
+#define SLATEDB_VARINT_TOO_LARGE 10    /* the fifth byte of a varint is above 15, or it has more bytes than its number needs */
 #define SLATEDB_UNKNOWN_FLAGS 11       /* the flags byte is 16 or more */
 #define SLATEDB_TOMBSTONE_WITH_MERGE 12 /* the flags set tombstone and merge together */
 #define SLATEDB_BAD_SHARE 13           /* the share is longer than the key before, or not 0 at a restart */

@@ -69,7 +69,7 @@ fn rows_and_varints(rng: &mut Rng) {
         println!("varint {number}");
         println!("unvarint {}", command(&format!("varint {number}")).expect("a good command"));
     }
-    for input in ["8000", "808000", "8080808000", "ff808000", "7f80", "ffffffff0f00", "0061"] {
+    for input in ["7f80", "ffffffff0f00", "0061"] {
         println!("unvarint {input}");
     }
     for _ in 0..30 {
@@ -87,11 +87,11 @@ fn rows_and_varints(rng: &mut Rng) {
         println!("row2 0 {}:v:78:1:-:-", "61".repeat(length));
     }
     let seq = "0000000000000001";
-    // padded varints; value bytes of a tombstone; unknown flags; tombstone with merge
-    for (head, flags) in [("8000010061", "00"), ("0081000061", "00"), ("000102617879", "01"), ("00010061", "10"), ("00010061", "09")] {
+    // value bytes of a tombstone; unknown flags; tombstone with merge
+    for (head, flags) in [("000102617879", "01"), ("00010061", "10"), ("00010061", "09")] {
         println!("unrow2 {head}{seq}{flags}");
     }
-    for input in ["0001ffffffff0f61", "0081000061", "05800000"] {
+    for input in ["0001ffffffff0f61"] {
         println!("key2 {input}");
     }
 }

@@ -37,7 +37,7 @@ refusals! {
     7 EmptyBlock "a block is built with no row"
     8 BadSettings "the block size or the interval is outside its limits"
     9 InputEnds "the input ends inside a row"
-    10 VarintTooLarge "the fifth byte of a varint is above 15"
+    10 VarintTooLarge "the fifth byte of a varint is above 15, or it has more bytes than its number needs"
     11 UnknownFlags "the flags byte is 16 or more"
     12 TombstoneWithMerge "the flags set tombstone and merge together"
     13 BadShare "the share is longer than the key before, or not 0 at a restart"

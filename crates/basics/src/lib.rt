@@ -22,7 +22,7 @@ pub enum Refusal {
     BadSettings,
     // 9: the input ends inside a row
     InputEnds,
-    // 10: the fifth byte of a varint is above 15
+    // 10: the fifth byte of a varint is above 15, or it has more bytes than its number needs
     VarintTooLarge,
     // 11: the flags byte is 16 or more
     UnknownFlags,

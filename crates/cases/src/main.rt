@@ -9,6 +9,7 @@ fn main() {
     writing::rows();
     writing::blocks();
     writing::numbers();
+    writing::spellings();
     writing::flags();
     writing::far_restarts();
     writing::slips();

@@ -1,4 +1,4 @@
-// Cases 1 to 7 and 11, and the slips on writing.
+// Cases 1 to 7 and 11, the spellings of a number, and the slips on writing.
 use crate::say;
 use crate::show;
 use basics::Kind;
@@ -7,6 +7,7 @@ use basics::Verdict;
 use block_v2::BlockBuilderV2;
 use buf_mut::Put;
 use build_in_place_v2::BuildAnswer;
+use row_decode_v2::KeyRead;
 use row_decode_v2::RowRead;
 use row_encode_v2::Encoded;
 use row_flags::RowFields;
@@ -113,6 +114,27 @@ pub fn numbers() {
     say::text(b"case 6\n");
     number(b"\xFF\xFF\xFF\xFF\x0F");
     number(b"\xFF\xFF\xFF\xFF\x10");
+}
+
+fn key(s: &[u8]) {
+    match row_decode_v2::decode_key_only(s, 0, s.len(), 0, false) {
+        KeyRead::Read(_) => say::text(b"a key\n"),
+        KeyRead::Refused(r) => say::refusal(r),
+    }
+}
+
+// A number's bytes are those that are written for it: any other spelling is refused, in every length of a row.
+pub fn spellings() {
+    say::text(b"one spelling for a number\n");
+    number(b"\x00");
+    number(b"\x80\x00");
+    number(b"\x80\x80\x80\x80\x00");
+    number(b"\xFF\x80\x00");
+    number(b"\xFF\xFF\xFF\xFF\x00");
+    number(b"\x80");
+    number(b"\x80\x80");
+    key(b"\x00\x01\x80\x00a");
+    read(b"\x85\x00\x01\x00a\x00\x00\x00\x00\x00\x00\x00\x01\x00");
 }
 
 fn read(s: &[u8]) {

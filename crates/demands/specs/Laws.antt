@@ -1,5 +1,6 @@
 pub mod Reads
 pub mod Numbered
+pub mod Written
 pub mod Refusals
 pub mod Local
 pub mod First

@@ -15,10 +15,10 @@ use Rattle.layout.specs.RowRead.{RowRead, rowAt, readRow, decodeRow, keyLength}
 use Rattle.layout.specs.Block.{blockBytes, offsets}
 use Rattle.layout.specs.Trailer.{Trailer, dataOf}
 use Rattle.layout.specs.Builder.{blockAfter}
-use Rattle.layout.specs.Cursor.{ascending, descending, opened, openBlock, Keyed}
+use Rattle.layout.specs.Cursor.{ascending, descending, opened, Keyed}
 use Rattle.demands.specs.Reads.{regionsRows, Reads, allRows, AllOf, contentOf}
 use Rattle.demands.specs.Rows.{BothWays}
-use Rattle.demands.specs.Runs.{Lending, Call, Ran, Finishes, RoomFor, backwards, WalksAll, KeysFit}
+use Rattle.demands.specs.Runs.{Lending, Call, Ran, Finishes, RoomFor, KeysFit}
 use Rattle.demands.specs.RunsProof.{made-ran, finishes-some, made-finishes, walks-before, walks-after}
 use Rattle.layout.specs.Laws.Res.{bind-then, guard-then, ok-inj}
 use Rattle.layout.specs.Laws.Row.{FieldsOk, KeyOk, prefix-free}

@@ -144,6 +144,8 @@ pub data Case : Type 0 where
   reads : List ℕ → Res Num → Case
   -- a single row's bytes are refused
   refuses : List ℕ → ℕ → Case
+  -- its key alone is refused, not at a restart
+  refusesKey : List ℕ → ℕ → Case
   -- a seek in a block of rows with these keys
   seeks : ℕ → List Row → Direction → Key → Landed → Case
   -- a key of so many bytes: the answer of each call
@@ -160,6 +162,7 @@ Holds (builds size interval rows said block) = (answers (started size interval) 
 Holds (spells v bytes) = (varint v ≡ bytes) × (readVarint bytes ≡ ok (num v (length bytes)))
 Holds (reads bytes answer) = readVarint bytes ≡ answer
 Holds (refuses bytes n) = decodeRow bytes 0 ≡ refuse n
+Holds (refusesKey bytes n) = readKey bytes 0 (length bytes) 0 false ≡ refuse n
 Holds (seeks interval rows d target answer) = landed d (blockFor 4096 interval rows) target ≡ ok answer
 Holds (edges n said) = edgeAnswers (rowWith (replicate n 107) [] 1) ≡ said
 Holds (shares before r bytes n) =
@@ -228,6 +231,17 @@ cases =
     ∷ seeks 2 rows8 ascending (100 ∷ []) (none 2)
     ∷ seeks 2 rows8 descending [] (none 2)
     ∷ seeks 2 rows8 ascending [] (row 0 2)
+    -- one spelling for a number
+    ∷ reads (0 ∷ []) (ok (num 0 1))
+    ∷ reads (128 ∷ 0 ∷ []) (refuse 10)
+    ∷ reads (128 ∷ 128 ∷ 128 ∷ 128 ∷ 0 ∷ []) (refuse 10)
+    ∷ reads (255 ∷ 128 ∷ 0 ∷ []) (refuse 10)
+    ∷ reads (255 ∷ 255 ∷ 255 ∷ 255 ∷ 0 ∷ []) (refuse 10)
+    ∷ reads (128 ∷ []) (refuse 9)
+    ∷ reads (128 ∷ 128 ∷ []) (refuse 9)
+    -- a padded value length in a key-only read, and a padded share that is too long
+    ∷ refusesKey (0 ∷ 1 ∷ 128 ∷ 0 ∷ 97 ∷ []) 10
+    ∷ refuses (133 ∷ 0 ∷ 1 ∷ 0 ∷ 97 ∷ 0 ∷ 0 ∷ 0 ∷ 0 ∷ 0 ∷ 0 ∷ 0 ∷ 1 ∷ 0 ∷ []) 10
     -- the longest key
     ∷ edges maxKey (replicate 14 0)
     -- one byte more: nothing was added, so nothing is built
@@ -239,4 +253,4 @@ cases =
 pub cases-hold : AllHold cases
 unfolding leadingZeros answers offered finished blockFor rowStarts numberIn landed varint varintIn varintLength readVarint readVarintIn big unbig bits unbits varintAt fixedAt splice below common timeBytes rowBytes rowSize sizeAlone keyLengthTests lengthTests decodeRow lengthsAt headTests headAt flagsAt bodyTests bodyAt timeAt timesAt rowAt readRow readKey isRestart shareOf laidRow offsetBytes trailer shortAt trailerOf risingFrom allOffsets regionOf stateTests fits wouldFit add build rowEndingAt stepUp stepBackIn stepDown next middle searchIn search restartKey restartBelow searchRestarts walkRegion walkUp seekUp lastEqual startDown lastAtOrBelow walkDown seekDown seek edgeAnswers encodeRow restoreKey check checkFrom checkRow mayFollow blockBytes blockRows offsets rowsFrom offsetsFrom
 cases-hold =
-    ((refl, refl, refl), ((refl, refl), ((refl, refl), ((refl, refl), ((refl, refl, refl), ((refl, refl), ((refl, refl), ((refl, refl), ((refl, refl), ((refl, refl), (refl, (refl, (refl, (refl, (refl, (refl, (refl, (refl, (refl, (refl, (refl, (refl, (refl, ((refl, refl), tt))))))))))))))))))))))))
+    ((refl, refl, refl), ((refl, refl), ((refl, refl), ((refl, refl), ((refl, refl, refl), ((refl, refl), ((refl, refl), ((refl, refl), ((refl, refl), ((refl, refl), (refl, (refl, (refl, (refl, (refl, (refl, (refl, (refl, (refl, (refl, (refl, (refl, (refl, (refl, (refl, (refl, (refl, (refl, (refl, (refl, (refl, (refl, ((refl, refl), tt)))))))))))))))))))))))))))))))))

@@ -5,7 +5,7 @@ use mathlib.Core.List.{[], _∷_}
 use lib.Count.{leadingZeros}
 use lib.Dec.{ltb, eqb}
 use Rattle.layout.specs.Bytes.{Bytes}
-use Rattle.layout.specs.Res.{Res, ok, refuse, bind}
+use Rattle.layout.specs.Res.{Res, ok, refuse, bind, _when_else_}
 
 -- ---- the writer uses the fewest bytes; `room` more may follow the first
 
@@ -23,7 +23,7 @@ significantBits v = 32 - leadingZeros 32 v
 unfoldable pub varintLength : ℕ → ℕ
 varintLength v = cond (eqb v 0) 1 ((significantBits v + 6) / 7)
 
--- ---- the reader takes at most five bytes; a longer spelling of a small number reads as that number
+-- ---- the reader takes at most five bytes, and no spelling but the writer's (`varint-read-is-written`)
 
 -- a number, and how many bytes spelled it
 pub record Num : Type 0 where
@@ -33,9 +33,9 @@ pub record Num : Type 0 where
 abbrev pub num : ℕ → ℕ → Num
 num v n = record { val = v; len = n }
 
--- the number that the bytes after b spell, put above the low seven bits of b
+-- the number that the bytes after b spell, put above the low seven bits of b; where they spell 0 the number needs none of them: 10
 abbrev pub above : ℕ → Num → Res Num
-above b r = ok (num (b - 128 + 128 * r .val) (suc (r .len)))
+above b r = 10 when eqb (r .val) 0 else ok (num (b - 128 + 128 * r .val) (suc (r .len)))
 
 -- 9 where the input ends, 10 for a fifth byte above 15
 unfoldable pub readVarintIn : ℕ → Bytes → Res Num

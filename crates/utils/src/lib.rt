@@ -3,10 +3,11 @@
 // what it wrote, and what the input or the room can break is a refusal.
 ghost use mathlib.Core.Path.{_≡_};
 ghost use mathlib.Core.List.{[], _∷_};
-ghost use Prim.Native.Nat.{_<_};
-ghost use lib.ListN.{length};
+ghost use Prim.Native.Nat.{_<_, _≤_, _+_, _*_, _^_};
+ghost use lib.ListN.{length, getD};
 ghost use Rattle.layout.specs.Varint.{varint};
 ghost use Rattle.buf_mut.specs.Promise.{Puts};
+ghost use Rattle.utils.specs.Parts.{endedBy};
 ghost use Rattle.utils.specs.Promise.{VarintLength, ReadsVarint, VarintRefusal};
 use basics::Refusal;
 use buf_mut::Put;
@@ -71,24 +72,35 @@ fn wide32(x: u8) -> u32
     x as u32
 }
 
-// The varint at `at`, of any length.
-fn get_varint(s: &[u8], at: usize) -> VarintRead
-    requires { ⌜ at < length (now s) ⌝ }
+// A number with its last byte, which follows others: one of 0 adds nothing, so the number needs fewer bytes.
+fn ended(acc: u32, w: u32, b: u32, next: usize) -> VarintRead
+    requires { ⌜ acc + w * b < 2 ^ 32 ⌝ }
+    ensures { λ r. ⌜ r ≡ endedBy acc w b next ⌝ }
+{
+    if b == 0 {
+        return VarintRead::Refused(Refusal::VarintTooLarge);
+    }
+    VarintRead::Number {
+        value: acc + w * b,
+        next,
+    }
+}
+
+// The varint at `at`, whose first byte says that more follow.
+fn get_varint(s: &[u8], at: usize, first: u32) -> VarintRead
+    requires { ⌜ (at < length (now s)) × (first ≡ getD (now s) at 0) × (128 ≤ first) × (first < 256) ⌝ }
     ensures { λ r. ⌜ ReadsVarint (now (s .entry)) at r ⌝ }
 {
-    let mut acc: u32 = 0;
-    let mut w: u32 = 1;
-    let mut i: usize = 0;
+    let mut acc: u32 = first - 128;
+    let mut w: u32 = 128;
+    let mut i: usize = 1;
     while i < 4 {
         if s.len() <= at + i {
             return VarintRead::Refused(Refusal::InputEnds);
         }
         let b = wide32(s[at + i]);
         if b < 128 {
-            return VarintRead::Number {
-                value: acc + w * b,
-                next: at + i + 1,
-            };
+            return ended(acc, w, b, at + i + 1);
         }
         acc = acc + w * (b - 128);
         w = w * 128;
@@ -102,10 +114,7 @@ fn get_varint(s: &[u8], at: usize) -> VarintRead
     if 15 < b {
         return VarintRead::Refused(Refusal::VarintTooLarge);
     }
-    VarintRead::Number {
-        value: acc + w * b,
-        next: at + i + 1,
-    }
+    ended(acc, w, b, at + i + 1)
 }
 
 // Reads the varint at `at`. Most are one byte: these take two tests.
@@ -122,7 +131,7 @@ pub fn decode_varint(s: &[u8], at: usize) -> VarintRead
             next: at + 1,
         };
     }
-    get_varint(s, at)
+    get_varint(s, at, first)
 }
 
 // A read that is refused ends the call with its refusal, which a `let .. else` can't bind: this takes it out of the answer. Its other case is not met there.

@@ -28,7 +28,8 @@ pub fn write(number: u32) -> Vec<u8> {
     written
 }
 
-/// The number that starts at `at`, and where it ends: 9, 10. A longer spelling of a small number reads as that number.
+/// The number that starts at `at`, and where it ends: 9, 10. "Refuse any varint longer than its number needs, with 10": such a
+/// spelling ends in a byte 0 that is not its first.
 pub fn read(input: &[u8], at: usize) -> Result<(u32, usize), Refusal> {
     let mut number = 0;
     let mut end = at;
@@ -36,13 +37,16 @@ pub fn read(input: &[u8], at: usize) -> Result<(u32, usize), Refusal> {
         let byte = byte_at(input, end)?;
         end += 1;
         number |= u32::from(byte & !TOP_BIT) << shift;
+        if byte == 0 && shift > 0 {
+            return Err(VARINT_OVER);
+        }
         if byte & TOP_BIT == 0 {
             return Ok((number, end));
         }
     }
     // "The reader takes at most five bytes": a fifth byte with the top bit set is above 15 too, so there is never a sixth.
     let fifth = byte_at(input, end)?;
-    if fifth > FIFTH_AT_MOST {
+    if fifth > FIFTH_AT_MOST || fifth == 0 {
         return Err(VARINT_OVER);
     }
     Ok((number | u32::from(fifth) << 28, end + 1))

@@ -53,6 +53,7 @@ pub fn first<Input>(table: &[Difference<Input>], input: &Input) -> Option<Known>
 enum Spelled {
     Ends,
     FifthAbove15,
+    Padded,
     Number { number: usize, end: usize },
 }
 
@@ -62,6 +63,7 @@ fn spelled(data: &[u8], at: usize) -> Spelled {
     match rest.get(going_on) {
         None => Spelled::Ends,
         Some(&byte) if going_on == 4 && byte > 15 => Spelled::FifthAbove15,
+        Some(0) if going_on > 0 => Spelled::Padded,
         Some(_) => {
             let number = rest[..=going_on].iter().rev().fold(0, |number, byte| number * 128 + (byte % 128) as usize);
             Spelled::Number { number, end: at + going_on + 1 }
@@ -111,10 +113,13 @@ pub static VARINT_WRITTEN: [Difference<(u32, usize)>; 1] = [
     }),
 ];
 
-pub static VARINT: [Difference<Vec<u8>>; 2] = [
+pub static VARINT: [Difference<Vec<u8>>; 3] = [
     entry("a varint that the input ends in: the Rust panics, 01 refuses 9", 9, Rust::Panics, |input| spelled(input, 0) == Spelled::Ends),
     entry("a varint's fifth byte above 15: the Rust cuts it or reads on, 01 refuses 10", 10, Rust::Varies, |input| {
         spelled(input, 0) == Spelled::FifthAbove15
+    }),
+    entry("a varint longer than its number needs: the Rust reads it, 02 refuses 10", 10, Rust::Varies, |input| {
+        spelled(input, 0) == Spelled::Padded
     }),
 ];
 
@@ -127,11 +132,14 @@ pub fn read_by_the_rust(data: &[u8], at: usize) -> Option<(u32, usize)> {
 }
 
 /// What both reads of a row begin with, as 01 orders the tests.
-fn head_table<'a>() -> [Difference<Place<'a>>; 6] {
+fn head_table<'a>() -> [Difference<Place<'a>>; 7] {
     [
         entry("a row that ends in a varint: the Rust panics, 01 refuses 9", 9, Rust::Panics, |p| head(p).is_err_and(|s| s == Spelled::Ends)),
         entry("a row with a fifth varint byte above 15: the Rust reads on, 01 refuses 10", 10, Rust::Varies, |p| {
             head(p).is_err_and(|s| s == Spelled::FifthAbove15)
+        }),
+        entry("a row with a varint longer than its number needs: the Rust reads it, 02 refuses 10", 10, Rust::Varies, |p| {
+            head(p).is_err_and(|s| s == Spelled::Padded)
         }),
         entry("a share that is not 0 at a restart: the Rust takes it ascending, else panics, 01 refuses 13", 13, Rust::Varies, |p| {
             p.restart && has(p, |_, h| h.shared != 0)

@@ -102,20 +102,20 @@ pub fn target(rng: &mut Rng, keys: &[Vec<u8>]) -> Vec<u8> {
 
 // ---- blocks that no builder writes
 
-/// A varint, seldom with more bytes than it needs.
-fn spelled(rng: &mut Rng, number: usize) -> Vec<u8> {
+/// A varint; where it may be padded, seldom with more bytes than it needs.
+fn spelled(rng: &mut Rng, number: usize, padded: bool) -> Vec<u8> {
     let mut bytes = model::varint::write(number as u32);
-    while bytes.len() < 5 && one_in(rng, 8) {
+    while padded && bytes.len() < 5 && one_in(rng, 8) {
         *bytes.last_mut().expect("a byte") |= 0x80;
         bytes.push(0);
     }
     bytes
 }
 
-fn crafted_row(rng: &mut Rng, row: &Row, shared: usize) -> Vec<u8> {
+fn crafted_row(rng: &mut Rng, row: &Row, shared: usize, padded: bool) -> Vec<u8> {
     let mut bytes = Vec::new();
     for number in [shared, row.key.len() - shared, row.value.len()] {
-        bytes.extend(spelled(rng, number));
+        bytes.extend(spelled(rng, number, padded));
     }
     bytes.extend(&row.key[shared..]);
     // a tombstone's value bytes are written here too: a reader drops them
@@ -128,8 +128,8 @@ fn crafted_row(rng: &mut Rng, row: &Row, shared: usize) -> Vec<u8> {
     bytes
 }
 
-/// Good rows with restarts anywhere, shares shorter than they could be, padded varints and tombstones with value bytes.
-pub fn crafted_block(rng: &mut Rng, keys: &[Vec<u8>]) -> Vec<u8> {
+/// Good rows with restarts anywhere, shares shorter than they could be and tombstones with value bytes; but for varints that may be padded.
+pub fn crafted_block(rng: &mut Rng, keys: &[Vec<u8>], padded: bool) -> Vec<u8> {
     let (mut data, mut offsets) = (Vec::new(), Vec::new());
     let mut previous: &[u8] = &[];
     for key in keys {
@@ -144,7 +144,7 @@ pub fn crafted_block(rng: &mut Rng, keys: &[Vec<u8>]) -> Vec<u8> {
             offsets.push(data.len() as u16);
         }
         let row = good_row(rng, key.clone());
-        data.extend(crafted_row(rng, &row, shared));
+        data.extend(crafted_row(rng, &row, shared, padded));
         previous = key;
     }
     let count = offsets.len() as u16;

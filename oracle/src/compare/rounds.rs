@@ -15,9 +15,11 @@ pub fn round(run: &mut Run) {
         near_the_last_restart(run);
     }
     let keys = keys(run);
-    let block = if one_in(&mut run.rng, 3) { inputs::crafted_block(&mut run.rng, &keys) } else { built(run, &keys) };
+    let block = if one_in(&mut run.rng, 3) { inputs::crafted_block(&mut run.rng, &keys, false) } else { built(run, &keys) };
     good_block(run, &block, &keys);
     damaged_block(run, &block, &keys);
+    let padded = inputs::crafted_block(&mut run.rng, &keys, true);
+    damaged_block(run, &padded, &keys);
     for _ in 0..4 {
         forged::builder(run);
         forged::fit_of_lengths(run);

@@ -2,21 +2,21 @@
 -- as a loop meets it: one record, `Reading`, with a law for each thing that the loop does.
 use Prim.Native.Nat.{ℕ, zero, suc, _+_, _-_, _*_, _/_, _%_, _^_, _<_, _≤_}
 use mathlib.Core.Path.{_≡_, refl, ap, ap₂, sym, _∙_}
-use mathlib.Core.Bool.{Bool, true, false, cond}
+use mathlib.Core.Bool.{Bool, true, false, cond, _&&_}
 use mathlib.Core.List.{List, [], _∷_, _++_}
-use mathlib.Core.Logic.{⊎-elim}
+use mathlib.Core.Logic.{_⊎_, ⊎-elim}
 use native.Mathlib.Omega.{arith}
 use native.Mathlib.Nat.{pow-suc, pow-le-pow-right, mul-le-mul, mul-le-mul-left, le-of-lt, add-zero, sub-eq-zero-of-le}
 use native.Mathlib.Numerals.{add-one}
 use lib.Count.{leadingZeros, leading-length}
-use lib.Dec.{ltb}
-use lib.ListN.{length, getD, drop, drop-of-length-le}
+use lib.Dec.{ltb, eqb}
+use lib.ListN.{length, getD, take, drop, drop-of-length-le}
 use lib.Pow.{pow-add, pow-mono}
 use lib.Seq.{drop-cons}
-use borrow.Author.Tests.{lt-ltb, le-ltb}
-use Rattle.layout.specs.Res.{Res, ok, refuse, bind}
+use borrow.Author.Tests.{lt-ltb, le-ltb, eq-eqb, ne-eqb, ltb-false, eqb-false}
+use Rattle.layout.specs.Res.{Res, ok, refuse, bind, guard}
 use Rattle.layout.specs.Varint.{varintIn, varint, varintLength, Num, num, above, readVarintIn, readVarint}
-use Rattle.layout.specs.Laws.Res.{ltb-cases, eqb-cases, bind-then, cond-ok, ok-inj}
+use Rattle.layout.specs.Laws.Res.{ltb-cases, eqb-cases, bind-then, guard-then, cond-ok, ok-inj}
 
 -- ---- what is written reads back
 
@@ -25,7 +25,7 @@ unfolding readVarintIn varintIn
 readVarintIn-varintIn zero v rest h = rw (le-ltb 15 v (omega arith))
 readVarintIn-varintIn (suc room) v rest h =
     ⊎-elim (λ t. rw (t .0, t .0))
-    (λ t. rw (t .0, le-ltb (128 + v % 128) 128 (omega arith), readVarintIn-varintIn room (v / 128) rest (omega (arith, pow-suc 128 room))) (ap (λ k. ok (num k (suc (length (varintIn room (v / 128)))))) (omega arith)))
+    (λ t. rw (t .0, le-ltb (128 + v % 128) 128 (omega arith), readVarintIn-varintIn room (v / 128) rest (omega (arith, pow-suc 128 room)), ne-eqb (v / 128) 0 (λ z. absurd (omega (arith, t .1)))) (ap (λ k. ok (num k (suc (length (varintIn room (v / 128)))))) (omega arith)))
     (ltb-cases v 128)
 
 pub readVarint-varint : (v : ℕ) (rest : List ℕ) → v < 2 ^ 32 → readVarint (varint v ++ rest) ≡ ok (num v (length (varint v)))
@@ -34,13 +34,21 @@ readVarint-varint v rest h = readVarintIn-varintIn 4 v rest (omega arith)
 
 -- ---- the reader at a place of a slice: what a loop over `data[at + i]` uses. Nothing else about the reader is needed there
 
--- what a loop has read: the low bytes' number, the weight of the next byte, and how many bytes
+-- what a loop has read: the low bytes' number, the weight of the next byte, and how many bytes. After a byte, what follows may not spell 0
 abbrev carry : ℕ → ℕ → ℕ → Num → Res Num
-carry acc w i r = ok (num (acc + w * r .val) (i + r .len))
+carry acc w i r = guard (ltb 0 i && eqb (r .val) 0) 10 (ok (num (acc + w * r .val) (i + r .len)))
 
 carry-none : (x : Res Num) → bind x (carry 0 1 0) ≡ x
 carry-none (ok r) = ap₂ (λ a b. ok (num a b)) (omega arith) (omega arith)
 carry-none (refuse n) = refl
+
+-- a number that may follow: the first, or one that is not 0
+carry-good : (acc w i : ℕ) (r : Num) → (1 ≤ i → r .val ≡ 0 → ⊥) → carry acc w i r ≡ ok (num (acc + w * r .val) (i + r .len))
+carry-good acc w zero r h = refl
+carry-good acc w (suc i) r h = rw (lt-ltb 0 (suc i) (omega arith), ne-eqb (r .val) 0 (h (omega arith)))
+
+carry-zero : (acc w i : ℕ) (r : Num) → 1 ≤ i → r .val ≡ 0 → carry acc w i r ≡ refuse 10
+carry-zero acc w i r h z = rw (lt-ltb 0 i h, eq-eqb (r .val) 0 z)
 
 carry-end : (room acc w i p : ℕ) (d : List ℕ) → length d ≤ p → bind (readVarintIn room (drop p d)) (carry acc w i) ≡ refuse 9
 unfolding readVarintIn
@@ -51,13 +59,12 @@ carry-fifth : (acc w i p : ℕ) (d : List ℕ) → p < length d → 15 < getD d 
 unfolding readVarintIn
 carry-fifth acc w i p d h k = rw (drop-cons d p 0 h, lt-ltb 15 (getD d p 0) k)
 
-carry-last : (acc w i p : ℕ) (d : List ℕ) → p < length d → getD d p 0 ≤ 15
-    → bind (readVarintIn 0 (drop p d)) (carry acc w i) ≡ ok (num (acc + w * getD d p 0) (i + 1))
+carry-last : (acc w i p : ℕ) (d : List ℕ) → p < length d → getD d p 0 ≤ 15 → bind (readVarintIn 0 (drop p d)) (carry acc w i) ≡ carry acc w i (num (getD d p 0) 1)
 unfolding readVarintIn
 carry-last acc w i p d h k = rw (drop-cons d p 0 h, le-ltb 15 (getD d p 0) k)
 
 carry-small : (room acc w i p : ℕ) (d : List ℕ) → p < length d → getD d p 0 < 128
-    → bind (readVarintIn (suc room) (drop p d)) (carry acc w i) ≡ ok (num (acc + w * getD d p 0) (i + 1))
+    → bind (readVarintIn (suc room) (drop p d)) (carry acc w i) ≡ carry acc w i (num (getD d p 0) 1)
 unfolding readVarintIn
 carry-small room acc w i p d h k = rw (drop-cons d p 0 h, lt-ltb (getD d p 0) 128 k)
 
@@ -68,13 +75,23 @@ unfolding readVarintIn
 carry-more room acc w i p d h k = rw (add-one p, drop-cons d p 0 h, le-ltb (getD d p 0) 128 k) (go (readVarintIn room (drop (suc p) d)) (getD d p 0))
   where
     go : (x : Res Num) (b : ℕ) → bind (bind x (above b)) (carry acc w i) ≡ bind x (carry (acc + w * (b - 128)) (w * 128) (i + 1))
-    go (ok r) b = ap₂ (λ a n. ok (num a n)) (sum (b - 128) (r .val)) (omega arith)
+    go (ok r) b = ⊎-elim (λ t. rw (t .0, lt-ltb 0 (i + 1) (omega arith))) (λ t. passed (t .0) ∙ carry-good acc w i (num (b - 128 + 128 * r .val) (suc (r .len))) (λ h z. absurd (omega (arith, t .1))) ∙ joined t) (eqb-cases (r .val) 0)
       where
         sum : (c v : ℕ) → acc + w * (c + 128 * v) ≡ acc + w * c + w * 128 * v
         sum c v = omega arith
+
+        passed : eqb (r .val) 0 ≡ false → bind (above b r) (carry acc w i) ≡ carry acc w i (num (b - 128 + 128 * r .val) (suc (r .len)))
+        passed e = rw e
+
+        joined : (eqb (r .val) 0 ≡ false) × (r .val ≡ 0 → ⊥) → ok (num (acc + w * (b - 128 + 128 * r .val)) (i + suc (r .len))) ≡ carry (acc + w * (b - 128)) (w * 128) (i + 1) r
+        joined t = ap₂ (λ a n. ok (num a n)) (sum (b - 128) (r .val)) (omega arith) ∙ sym (carry-good (acc + w * (b - 128)) (w * 128) (i + 1) r (λ h. t .1))
     go (refuse n) b = refl
 
 -- ---- a loop's invariant, with a law for each thing the loop does
+
+-- a byte that ends the number after i others: below 128, or as the fifth at most 15
+abbrev pub IsLast : ℕ → ℕ → Type 0
+IsLast b i = ((b < 128) × (i < 4)) ⊎ ((b ≤ 15) × (4 ≤ i))
 
 -- i bytes from `at` on are read, each with its top bit set: their number is acc, and the next byte weighs w
 pub record Reading (d : List ℕ) (at acc w i : ℕ) : Type 0 where
@@ -104,11 +121,20 @@ module _ {d : List ℕ} {at acc w i : ℕ} (r : Reading d at acc w i) where
   pub reading-end : length d ≤ at + i → refuse 9 ≡ readVarint (drop at d)
   reading-end h = sym (r .so-far ∙ carry-end (4 - i) acc w i (at + i) d h)
 
-  pub reading-small : {b : ℕ} → i < 4 → at + i < length d → b ≡ getD d (at + i) 0 → b < 128 → ok (num (acc + w * b) (i + 1)) ≡ readVarint (drop at d)
-  reading-small {b} h k e l = sym (r .so-far ∙ rw (room, e) (carry-small (3 - i) acc w i (at + i) d k (omega arith)))
+  reading-byte : {b : ℕ} → at + i < length d → b ≡ getD d (at + i) 0 → IsLast b i → readVarint (drop at d) ≡ carry acc w i (num b 1)
+  reading-byte {b} k e last =
+      r .so-far
+      ∙ ⊎-elim (λ t. rw (e, room (t .1)) (carry-small (3 - i) acc w i (at + i) d k (omega (arith, t .0)))) (λ t. rw (e, sub-eq-zero-of-le (t .1)) (carry-last acc w i (at + i) d k (omega (arith, t .0)))) last
     where
-      room : 4 - i ≡ suc (3 - i)
-      room = omega arith
+      room : i < 4 → 4 - i ≡ suc (3 - i)
+      room h = omega arith
+
+  pub reading-good : {b : ℕ} → at + i < length d → b ≡ getD d (at + i) 0 → IsLast b i → (1 ≤ i → b ≡ 0 → ⊥) → ok (num (acc + w * b) (i + 1)) ≡ readVarint (drop at d)
+  reading-good {b} k e last some = sym (reading-byte k e last ∙ carry-good acc w i (num b 1) some)
+
+  -- a last byte that adds nothing to those before it
+  pub reading-zero : {b : ℕ} → at + i < length d → b ≡ getD d (at + i) 0 → IsLast b i → 1 ≤ i → b ≡ 0 → refuse 10 ≡ readVarint (drop at d)
+  reading-zero {b} k e last some z = sym (reading-byte k e last ∙ carry-zero acc w i (num b 1) some z)
 
   pub reading-more : {b : ℕ} → i < 4 → at + i < length d → b ≡ getD d (at + i) 0 → 128 ≤ b → b < 256 → Reading d at (acc + w * (b - 128)) (w * 128) (i + 1)
   reading-more {b} h k e l u =
@@ -130,9 +156,6 @@ module _ {d : List ℕ} {at acc w i : ℕ} (r : Reading d at acc w i) where
 
   pub reading-fifth : {b : ℕ} → 4 ≤ i → at + i < length d → b ≡ getD d (at + i) 0 → 15 < b → refuse 10 ≡ readVarint (drop at d)
   reading-fifth {b} h k e l = sym (r .so-far ∙ rw (sub-eq-zero-of-le h) (carry-fifth acc w i (at + i) d k (omega arith)))
-
-  pub reading-last : {b : ℕ} → 4 ≤ i → at + i < length d → b ≡ getD d (at + i) 0 → b ≤ 15 → ok (num (acc + w * b) (i + 1)) ≡ readVarint (drop at d)
-  reading-last {b} h k e l = sym (r .so-far ∙ rw (sub-eq-zero-of-le h, e) (carry-last acc w i (at + i) d k (omega arith)))
 
 -- ---- how long a varint is
 
@@ -199,7 +222,8 @@ readVarintIn-len (suc room) (b ∷ bs) r e =
     (λ t. let p = ap (λ (x : Num). x .len) (ok-inj (t .1)) in omega arith)
     (λ t.
     bind-then (readVarintIn room bs) _ r (t .1) λ u e₁ e₂.
-    let p = ap (λ (x : Num). x .len) (ok-inj e₂) in
+    guard-then (eqb (u .val) 0) 10 _ r e₂ λ z e₃.
+    let p = ap (λ (x : Num). x .len) (ok-inj e₃) in
     omega (arith, readVarintIn-len room bs u e₁))
     (cond-ok (ltb b 128) (ok (num b 1)) (bind (readVarintIn room bs) _) r e)
 
@@ -228,7 +252,8 @@ readVarintIn-local (suc room) (b ∷ q) s s′ r e h =
     (λ t. rw (t .0) (t .1))
     (λ t.
     bind-then (readVarintIn room (q ++ s)) _ r (t .1) λ u e₁ e₂.
-    let n = ap (λ (x : Num). x .len) (ok-inj e₂) in
+    guard-then (eqb (u .val) 0) 10 _ r e₂ λ z e₃.
+    let n = ap (λ (x : Num). x .len) (ok-inj e₃) in
     rw (t .0, readVarintIn-local room q s s′ u e₁ (omega arith)) e₂)
     (cond-ok (ltb b 128) (ok (num b 1)) (bind (readVarintIn room (q ++ s)) _) r e)
 
@@ -253,7 +278,11 @@ readVarintIn-answers zero (b ∷ bs) = fifth (ltb 15 b)
 readVarintIn-answers (suc room) (b ∷ bs) = first (ltb b 128) (more (readVarintIn room bs) (readVarintIn-answers room bs))
   where
     more : (x : Res Num) → VarintAnswer x → VarintAnswer (bind x (above b))
-    more x (reads r) = reads (num (b - 128 + 128 * r .val) (suc (r .len)))
+    more x (reads r) = needed (eqb (r .val) 0)
+      where
+        needed : (t : Bool) → VarintAnswer (guard t 10 (ok (num (b - 128 + 128 * r .val) (suc (r .len)))))
+        needed true = spells-wrong
+        needed false = reads (num (b - 128 + 128 * r .val) (suc (r .len)))
     more x ends = ends
     more x spells-wrong = spells-wrong
 
@@ -264,3 +293,31 @@ readVarintIn-answers (suc room) (b ∷ bs) = first (ltb b 128) (more (readVarint
 pub readVarint-answers : (s : List ℕ) → VarintAnswer (readVarint s)
 unfolding readVarint
 readVarint-answers s = readVarintIn-answers 4 s
+
+-- ---- a varint that is read is the one that is written
+
+readVarintIn-written : (room : ℕ) (s : List ℕ) (r : Num) → ((i : ℕ) → getD s i 0 < 256) → readVarintIn room s ≡ ok r → take (r .len) s ≡ varintIn room (r .val)
+unfolding readVarintIn varintIn
+readVarintIn-written room [] r bytes e = absurd (let z : _≡_ {A = ℕ} 0 1 = cc in omega arith)
+readVarintIn-written zero (b ∷ bs) r bytes e =
+    ⊎-elim (λ t. absurd (let p = t .1 in let z : _≡_ {A = ℕ} 0 1 = cc in omega arith)) (λ t. let is : num b 1 ≡ r = ok-inj (t .1) in rw (← is))
+    (cond-ok (ltb 15 b) (refuse 10) (ok (num b 1)) r e)
+readVarintIn-written (suc room) (b ∷ bs) r bytes e =
+    ⊎-elim
+    (λ t. let is : num b 1 ≡ r = ok-inj (t .1) in rw (← is, t .0))
+    (λ t.
+    bind-then (readVarintIn room bs) _ r (t .1) λ u e₁ e₂.
+    guard-then (eqb (u .val) 0) 10 _ r e₂ λ z e₃.
+    let is : num (b - 128 + 128 * u .val) (suc (u .len)) ≡ r = ok-inj e₃ in
+    let low : b < 256 = bytes 0 in
+    let high : 128 ≤ b = ltb-false b 128 (t .0) in
+    let some = eqb-false (u .val) 0 z in
+    let large : 128 ≤ b - 128 + 128 * u .val = omega arith in
+    let rest : (b - 128 + 128 * u .val) / 128 ≡ u .val = omega arith in
+    let first : 128 + (b - 128 + 128 * u .val) % 128 ≡ b = omega arith in
+    rw (← is, le-ltb (b - 128 + 128 * u .val) 128 large, rest, first) (ap (λ (x : List ℕ). b ∷ x) (readVarintIn-written room bs u (λ i. bytes (suc i)) e₁)))
+    (cond-ok (ltb b 128) (ok (num b 1)) (bind (readVarintIn room bs) _) r e)
+
+pub varint-read-is-written : (s : List ℕ) (r : Num) → ((i : ℕ) → getD s i 0 < 256) → readVarint s ≡ ok r → take (r .len) s ≡ varint (r .val)
+unfolding readVarint varint
+varint-read-is-written s r bytes e = readVarintIn-written 4 s r bytes e

@@ -3,6 +3,7 @@
 use Prim.Native.Nat.{ℕ, _+_, _<_}
 use mathlib.Core.Path.{_≡_, refl, ap, _∙_}
 use mathlib.Core.List.{List}
+use mathlib.Core.Logic.{inl}
 use native.Mathlib.Omega.{arith}
 use lib.ListN.{length, getD}
 use borrow.Author.Needs.{needs}
@@ -10,14 +11,14 @@ use Rattle.layout.specs.Res.{ok}
 use Rattle.layout.specs.Place.{numAt, varintAt}
 use Rattle.layout.specs.Varint.{num}
 use Rattle.layout.specs.Laws.Place.{varintAt-is, varintAt-none}
-use Rattle.layout.specs.Laws.Varint.{reading-start, reading-small}
+use Rattle.layout.specs.Laws.Varint.{reading-start, reading-good}
 use Rattle.utils.proofs.decode_varint.Statement.{statement}
 use Rattle.utils.proofs.decode_varint.Tie as tie
 
 one-byte : (d : List ℕ) (at b : ℕ) → at < length d → b ≡ getD d at 0 → b < 128 → ok (numAt b (at + 1)) ≡ varintAt d at
 one-byte d at b h e l =
     let here : getD d at 0 ≡ getD d (at + 0) 0 = ap (λ (k : ℕ). getD d k 0) (omega arith) in
-    let read = reading-small (reading-start d at) (omega arith) (omega arith) (e ∙ here) l in
+    let read = reading-good (reading-start d at) (omega arith) (e ∙ here) (inl (l, omega arith)) (λ h. absurd (omega arith)) in
     varintAt-is d at b 1 (at + 1) (ap (λ (k : ℕ). ok (num k 1)) (omega arith) ∙ read) refl
 
 returns : tie.Need-returns
