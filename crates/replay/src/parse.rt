@@ -2,10 +2,6 @@
 ghost use Prim.Native.Nat.{_≤_};
 ghost use Rattle.io.specs.Counts.{Counts};
 use crate::words;
-use basics::Kind;
-use basics::Time;
-use buf::SignedRead;
-use row_flags::RowFields;
 
 // The digit that `b` spells, else 16.
 fn digit(b: u8) -> u8 {
@@ -35,27 +31,6 @@ pub fn number(word: &[u8]) -> u64 {
     n
 }
 
-// The signed number with these bits, read from its eight bytes.
-fn signed(bits: u64) -> Time {
-    let mut bytes = [0u8; 8];
-    buf_mut::put_u64(&mut bytes, 0, bits);
-    match buf::get_i64(&bytes, 0) {
-        SignedRead::Number { value, next: _ } => Time::At(value),
-        SignedRead::Refused(_) => Time::Absent,
-    }
-}
-
-// Two's complement makes the bits of a negative number.
-fn time(word: &[u8]) -> Time {
-    if words::byte(word, 0) != b'-' {
-        return signed(number(word));
-    }
-    if word.len() == 1 {
-        return Time::Absent;
-    }
-    signed(std::num::wrapping_sub_u64(0, number(word)))
-}
-
 // The byte that the digits at `2 * i` and after it spell.
 fn byte(word: &[u8], i: usize) -> u8 {
     let high = std::num::wrapping_add_usize(i, i);
@@ -78,34 +53,4 @@ pub fn bytes(word: &[u8], out: &mut [u8]) -> usize
         out[i] = byte(word, i);
     }
     n
-}
-
-fn kind(word: &[u8]) -> Kind {
-    match words::byte(word, 0) {
-        b't' => Kind::Tombstone,
-        b'm' => Kind::Merge,
-        _ => Kind::Value,
-    }
-}
-
-pub fn key(row: &[u8], out: &mut [u8]) -> usize
-    ensures { λ r. ⌜ Counts r (now (out .exit)) ⌝ }
-{
-    bytes(words::word(row, b':', 0), out)
-}
-
-pub fn value(row: &[u8], out: &mut [u8]) -> usize
-    ensures { λ r. ⌜ Counts r (now (out .exit)) ⌝ }
-{
-    bytes(words::word(row, b':', 2), out)
-}
-
-// What a row holds beside its key and its value.
-pub fn fields(row: &[u8]) -> RowFields {
-    RowFields {
-        kind: kind(words::word(row, b':', 1)),
-        seq: number(words::word(row, b':', 3)),
-        expire: time(words::word(row, b':', 4)),
-        create: time(words::word(row, b':', 5)),
-    }
 }

@@ -1,4 +1,5 @@
 // The commands on one row or one number.
+use crate::offered;
 use crate::parse;
 use crate::show;
 use crate::words;
@@ -11,11 +12,11 @@ use row_size_v2::Sized;
 use utils::VarintRead;
 
 // The numbers of the commands that read.
-pub const UNROW: usize = 8;
+pub const UNROW: usize = 4;
 
-pub const KEY: usize = 9;
+pub const KEY: usize = 5;
 
-pub const UNVARINT: usize = 10;
+pub const UNVARINT: usize = 6;
 
 // The row's size, from its lengths alone.
 fn size(shared: usize, suffix_len: usize, value_len: usize, row: RowFields) {
@@ -43,9 +44,9 @@ pub fn row(line: &[u8]) {
     let row = words::word(line, b' ', 2);
     let mut suffix = [0u8; 8192];
     let mut value = [0u8; 8192];
-    let k = parse::key(row, &mut suffix);
-    let v = parse::value(row, &mut value);
-    let fields = parse::fields(row);
+    let k = offered::key(row, &mut suffix);
+    let v = offered::value(row, &mut value);
+    let fields = offered::fields(row);
     encoded(shared, &suffix[..k], &value[..v], fields);
     show::mark(b' ');
     size(shared, k, v, fields);

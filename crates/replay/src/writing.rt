@@ -1,4 +1,5 @@
 // The commands on a builder.
+use crate::offered;
 use crate::parse;
 use crate::show;
 use crate::words;
@@ -41,9 +42,9 @@ fn add(
 ) -> BlockBuilderV2 {
     let mut key = [0u8; 8192];
     let mut value = [0u8; 8192];
-    let k = parse::key(row, &mut key);
-    let v = parse::value(row, &mut value);
-    let r = builder.add(data, restarts, &key[..k], &value[..v], parse::fields(row));
+    let k = offered::key(row, &mut key);
+    let v = offered::value(row, &mut value);
+    let r = builder.add(data, restarts, &key[..k], &value[..v], offered::fields(row));
     let answer = r.answer;
     added(answer);
     r.builder
@@ -75,14 +76,14 @@ pub fn build(line: &[u8]) {
 fn fits(row: &[u8], builder: BlockBuilderV2, data_len: usize, places_len: usize) {
     let mut key = [0u8; 8192];
     let mut value = [0u8; 8192];
-    let k = parse::key(row, &mut key);
-    let v = parse::value(row, &mut value);
+    let k = offered::key(row, &mut key);
+    let v = offered::value(row, &mut value);
     match builder.would_fit(
         data_len,
         places_len,
         &key[..k],
         &value[..v],
-        parse::fields(row),
+        offered::fields(row),
     ) {
         Verdict::Good => show::mark(b'1'),
         Verdict::Refused(r) => show::refusal(r),

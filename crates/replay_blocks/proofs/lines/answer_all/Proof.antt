@@ -3,8 +3,8 @@
 use Prim.Native.Nat.{_-_}
 use borrow.Author.Needs.{needs}
 use lib.ListN.{length}
-use Rattle.replay.proofs.answer_all.Statement.{statement}
-use Rattle.replay.proofs.answer_all.Tie as tie
+use Rattle.replay_blocks.proofs.lines.answer_all.Statement.{statement}
+use Rattle.replay_blocks.proofs.lines.answer_all.Tie as tie
 
 abbrev Inv-loop : tie.InvT-loop
 Inv-loop text at₀ at = Unit {0}

@@ -2,8 +2,8 @@
 -- Any word is some operation and any cursor may be given to it, so the loop has nothing to keep; of the words that were counted fewer are left each time.
 use Prim.Native.Nat.{_-_}
 use borrow.Author.Needs.{needs}
-use Rattle.replay.proofs.reading.walk.Statement.{statement}
-use Rattle.replay.proofs.reading.walk.Tie as tie
+use Rattle.replay_blocks.proofs.reading.walk.Statement.{statement}
+use Rattle.replay_blocks.proofs.reading.walk.Tie as tie
 
 abbrev Inv-loop : tie.InvT-loop
 Inv-loop line block at₀ number₀ number-end at number = Unit {0}

@@ -2,8 +2,8 @@
 -- It has as many turns as the block has bytes, and fewer are left each time, whether or not it stops before. No step requires anything, so the loop has nothing to keep.
 use Prim.Native.Nat.{_-_}
 use borrow.Author.Needs.{needs}
-use Rattle.replay.proofs.reading.rest.Statement.{statement}
-use Rattle.replay.proofs.reading.rest.Tie as tie
+use Rattle.replay_blocks.proofs.reading.rest.Statement.{statement}
+use Rattle.replay_blocks.proofs.reading.rest.Tie as tie
 
 abbrev Inv-loop : tie.InvT-loop
 Inv-loop block at₀ counter₀ end at counter = Unit {0}

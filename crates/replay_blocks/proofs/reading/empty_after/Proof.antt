@@ -2,8 +2,8 @@
 -- A step can be made with any cursor on any block, so the loop has nothing to keep; of the steps asked for fewer are left each time.
 use Prim.Native.Nat.{_-_}
 use borrow.Author.Needs.{needs}
-use Rattle.replay.proofs.reading.empty_after.Statement.{statement}
-use Rattle.replay.proofs.reading.empty_after.Tie as tie
+use Rattle.replay_blocks.proofs.reading.empty_after.Statement.{statement}
+use Rattle.replay_blocks.proofs.reading.empty_after.Tie as tie
 
 abbrev Inv-loop : tie.InvT-loop
 Inv-loop steps block at₀ counter₀ at counter = Unit {0}

@@ -9,13 +9,13 @@ use block_iterator_v2::NextAnswer;
 use place_v2::EmptyRead;
 
 // The numbers of the commands.
-pub const SCAN: usize = 2;
+pub const SCAN: usize = 0;
 
-pub const SEEK: usize = 3;
+pub const SEEK: usize = 1;
 
-pub const WALK: usize = 4;
+pub const WALK: usize = 2;
 
-pub const EMPTY: usize = 5;
+pub const EMPTY: usize = 3;
 
 // What a step gave, in a word.
 fn say(answer: NextAnswer, key: &[u8], block: &[u8]) {
