@@ -6,7 +6,7 @@ use crate::check::check;
 use crate::cursor::{Cursor, Order, Order::*};
 use crate::row::{self, Fields, Kind, Place};
 use crate::seek::Sought;
-use crate::{varint, Key, Refusal, KEY_LIMIT};
+use crate::{varint, Key, Refusal, INTERVAL_LIMIT, KEY_LIMIT};
 
 /// Case 1's row.
 const R: [u8; 13] = [0, 1, 0, 0x61, 0, 0, 0, 0, 0, 0, 0, 1, 0];
@@ -62,7 +62,7 @@ fn cursor(order: Order, region: usize, at: usize, key: &[u8]) -> Cursor {
 
 /// One step with a big key buffer: the key given, or "done". A refused step must change nothing.
 fn step(cursor: &mut Cursor, block: &[u8]) -> Result<Option<Vec<u8>>, Refusal> {
-    let (mut out, before) = ([0xEE; 2_000], cursor.clone());
+    let (mut out, before) = ([0xEE; 2 * KEY_LIMIT], cursor.clone());
     let answer = cursor.next(block, &mut out);
     if !matches!(answer, Ok(Some(_))) {
         assert!(out.iter().all(|byte| *byte == 0xEE));
@@ -236,9 +236,12 @@ fn varint_edges() {
     }
     assert_eq!((varint::len(0), varint::write(0)), (1, vec![0]));
     assert_eq!(varint::len(u32::MAX), 5);
-    assert_eq!(varint::read(&[0x80, 0], 0), Ok((0, 2)));
-    assert_eq!(varint::read(&[0x80, 0x80, 0x80, 0x80, 0], 0), Ok((0, 5)));
-    assert_eq!(varint::read(&[0x81, 0x80, 0x80, 0x80, 0, 99], 0), Ok((1, 5)));
+    assert_eq!(varint::read(&[0], 0), Ok((0, 1)));
+    assert_eq!(varint::read(&[0x80, 0], 0), Err(10));
+    assert_eq!(varint::read(&[0x80, 0x80, 0x80, 0x80, 0], 0), Err(10));
+    assert_eq!(varint::read(&[0xFF, 0x80, 0], 0), Err(10));
+    assert_eq!(varint::read(&[0xFF, 0xFF, 0xFF, 0xFF, 0], 0), Err(10));
+    assert_eq!(varint::read(&[0x81, 0x80, 0x80, 0x80, 0, 99], 0), Err(10));
     for fifth in 16..=255 {
         assert_eq!(varint::read(&[0x80, 0x80, 0x80, 0x80, fifth, 0], 0), Err(10));
     }
@@ -315,8 +318,8 @@ fn limits_of_size_and_encoding() {
     let plain = plain(1);
     assert_eq!(row::size(0, 0, b"", &plain), Err(1));
     assert_eq!(row::size(1, 0, b"", &plain), Ok(12));
-    assert_eq!(row::size(1_000, 24, b"", &plain), Ok(2 + 1 + 1 + 24 + 9));
-    assert_eq!(row::size(1_000, 25, b"", &plain), Err(2));
+    assert_eq!(row::size(KEY_LIMIT - 24, 24, b"", &plain), Ok(2 + 1 + 1 + 24 + 9));
+    assert_eq!(row::size(KEY_LIMIT - 24, 25, b"", &plain), Err(2));
     assert_eq!(row::size(usize::MAX, usize::MAX, b"", &plain), Err(2));
     assert_eq!(row::size(usize::MAX, 1, b"", &plain), Err(2));
     assert_eq!(row::size(1 << 32, 0, b"", &plain), Err(2));
@@ -327,7 +330,7 @@ fn limits_of_size_and_encoding() {
     let encode = |previous_len, shared, suffix: &[u8], value: &[u8]| row::encode(&mut [], previous_len, shared, suffix, value, &plain);
     // 13, 1, 2, 3, 6.
     assert_eq!(encode(0, 1, b"", &[0; 65_536]), Err(13));
-    assert_eq!(encode(0, usize::MAX, &[1; 2_000], b""), Err(13));
+    assert_eq!(encode(0, usize::MAX, &[1; KEY_LIMIT + 1], b""), Err(13));
     assert_eq!(encode(0, 0, b"", &[0; 65_536]), Err(1));
     assert_eq!(encode(KEY_LIMIT + 1, KEY_LIMIT + 1, b"", b""), Err(2));
     assert_eq!(encode(usize::MAX, usize::MAX, b"aa", b""), Err(2));
@@ -357,9 +360,9 @@ fn order_of_a_row_read() {
     assert_eq!(row::decode(&[1, 0, 0], 0), Err(13));
     assert_eq!(row::decode(&[1, 0x80, 0x10, 0], 0), Err(13));
     assert_eq!(row::decode(&[0, 0, 0x80, 0x80, 4], 0), Err(1));
-    assert_eq!(row::decode(&[0, 0x81, 8, 0x80, 0x80, 4], 0), Err(2));
-    assert_eq!(row::decode(&[1, 0x80, 8, 0x80, 0x80, 4], 1), Err(2));
-    assert_eq!(row::decode(&[0, 0x80, 8, 0x80, 0x80, 4], 0), Err(3));
+    assert_eq!(row::decode(&[0, 0x81, 0x20, 0x80, 0x80, 4], 0), Err(2));
+    assert_eq!(row::decode(&[1, 0x80, 0x20, 0x80, 0x80, 4], 1), Err(2));
+    assert_eq!(row::decode(&[0, 0x80, 0x20, 0x80, 0x80, 4], 0), Err(3));
     assert_eq!(row::decode(&[0, 0x80, 8, 0xFF, 0xFF, 3], 0), Err(9));
     // Two lengths of 4,294,967,295 do not wrap round.
     assert_eq!(row::decode(&[&five[..], &[15], &five[..], &[15, 0]].concat(), usize::MAX), Err(2));
@@ -405,7 +408,7 @@ fn key_only_read() {
     assert_eq!(row::decode_key(&[0, 2, 0, 0x61], 0), Err(9));
     assert_eq!(row::decode_key(&[1, 0, 0], 0), Err(13));
     assert_eq!(row::decode_key(&[0, 0, 0], 0), Err(1));
-    assert_eq!(row::decode_key(&[0, 0x81, 8, 0], 0), Err(2));
+    assert_eq!(row::decode_key(&[0, 0x81, 0x20, 0], 0), Err(2));
     assert_eq!(row::decode_key(&[1, 0, 0], 1).unwrap().end, 3);
     // 16 is the suffix's end, and comes after what is missing.
     let read_key = |data: &[u8], region_end| row::read_key(&Place { data, at: 0, previous_len: 0, restart: true, region_end });
@@ -427,11 +430,11 @@ fn full_keys() {
 fn settings() {
     for (block_size, interval, good) in [
         (0, 1, true),
-        (131_072, 1_024, true),
+        (131_072, INTERVAL_LIMIT, true),
         (131_073, 16, false),
         (usize::MAX, 16, false),
         (0, 0, false),
-        (0, 1_025, false),
+        (0, INTERVAL_LIMIT + 1, false),
         (0, usize::MAX, false),
     ] {
         let answer = Builder::with_interval(block_size, interval);
@@ -445,11 +448,11 @@ fn settings() {
 fn a_first_row_of_any_allowed_size() {
     let mut builder = Builder::new(0).unwrap();
     let (mut data, mut restarts) = (vec![0; 70_000], [0; 1]);
-    assert_eq!(builder.would_fit(0, 0, &[1; 1_024], &[1; 65_535], &plain(1)), Ok(1 + 2 + 3 + 1_024 + 65_535 + 9));
+    assert_eq!(builder.would_fit(0, 0, &[1; KEY_LIMIT], &[1; 65_535], &plain(1)), Ok(1 + 2 + 3 + KEY_LIMIT + 65_535 + 9));
     assert_eq!(builder.would_fit(0, 0, b"", &[1; 65_536], &plain(1)), Err(1));
-    assert_eq!(builder.would_fit(0, 0, &[1; 1_025], &[1; 65_536], &plain(1)), Err(2));
-    assert_eq!(builder.would_fit(0, 0, &[1; 1_024], &[1; 65_536], &plain(1)), Err(3));
-    assert_eq!(builder.add(&mut data, &mut restarts, &[1; 1_024], &[1; 65_535], &plain(1)), Ok(()));
+    assert_eq!(builder.would_fit(0, 0, &[1; KEY_LIMIT + 1], &[1; 65_536], &plain(1)), Err(2));
+    assert_eq!(builder.would_fit(0, 0, &[1; KEY_LIMIT], &[1; 65_536], &plain(1)), Err(3));
+    assert_eq!(builder.add(&mut data, &mut restarts, &[1; KEY_LIMIT], &[1; 65_535], &plain(1)), Ok(()));
     assert_eq!(builder.add(&mut data, &mut restarts, b"a", b"", &plain(1)), Err(4));
     assert_eq!(builder.add(&mut data, &mut restarts, b"", b"", &plain(1)), Err(1));
 }
@@ -505,7 +508,7 @@ fn states_of_a_builder() {
     assert_eq!(fit(one.clone()), Ok(13));
     assert_eq!(fit(Builder { block_size: 131_073, ..one.clone() }), Err(18));
     assert_eq!(fit(Builder { interval: 0, ..one.clone() }), Err(18));
-    assert_eq!(fit(Builder { interval: 1_025, ..one.clone() }), Err(18));
+    assert_eq!(fit(Builder { interval: INTERVAL_LIMIT + 1, ..one.clone() }), Err(18));
     assert_eq!(fit(Builder { restarts: 0, ..one.clone() }), Err(18));
     assert_eq!(fit(Builder { restarts: 2, ..one.clone() }), Err(18));
     assert_eq!(fit(Builder { rows: 17, used: 1_000, ..one.clone() }), Err(18));
@@ -513,7 +516,7 @@ fn states_of_a_builder() {
     assert_eq!(fit(Builder { rows: 2, used: 23, ..one.clone() }), Err(18));
     assert_eq!(fit(Builder { rows: 2, used: 24, ..one.clone() }), Ok(13));
     assert_eq!(fit(Builder { rows: 0, restarts: 0, ..one.clone() }), Err(18));
-    assert_eq!(fit(Builder { last_key: Key { len: 1_025, ..one.last_key.clone() }, ..one.clone() }), Err(18));
+    assert_eq!(fit(Builder { last_key: Key { len: KEY_LIMIT + 1, ..one.last_key.clone() }, ..one.clone() }), Err(18));
     assert_eq!(fit(Builder { last_key: Key { len: usize::MAX, ..one.last_key.clone() }, ..one.clone() }), Err(18));
     // Rows with an empty last key, and data beyond the block size, pass; the sum does not overflow.
     assert_eq!(fit(Builder { last_key: Key::none(), ..one.clone() }), Ok(13));
@@ -589,7 +592,7 @@ fn trailers() {
         assert_eq!(Block::new(block).err(), Some(14));
         for order in [Ascending, Descending] {
             assert_eq!(Cursor::open(block, order), Err(14));
-            let mut wrong = Cursor { done: true, ..cursor(order, 9, 9, &[1; 2_000]) };
+            let mut wrong = Cursor { done: true, ..cursor(order, 9, 9, &[1; KEY_LIMIT + 1]) };
             assert_eq!(step(&mut wrong, block), Err(14));
             assert_eq!(wrong.is_empty(block), Err(14));
             assert_eq!(wrong.seek(block, b""), Err(14));
@@ -637,10 +640,11 @@ fn the_check_answers_the_first_refusal() {
     assert_eq!(check(&block_of(&[&R, &AB], &[0, 13])), Err(13));
     // Bytes left over are the start of a row that is missing.
     assert_eq!(check(&block_of(&[&R, &[0]], &[0])), Err(9));
-    // It knows no interval, and takes short shares, long spellings and tombstones with value bytes.
+    // It knows no interval, and takes short shares and tombstones with value bytes, but no long spellings.
     let tombstone = [0, 1, 1, b'a', 9, 0, 0, 0, 0, 0, 0, 0, 1, 1];
     let long = [0x80, 0, 0x81, 0, 0, b'a', 0, 0, 0, 0, 0, 0, 0, 1, 0];
-    assert_eq!(check(&block_of(&[&R, &R, &tombstone, &long, &R, &R], &[0, 13, 55])), Ok(6));
+    assert_eq!(check(&block_of(&[&R, &R, &tombstone, &long, &R, &R], &[0, 13, 55])), Err(10));
+    assert_eq!(check(&block_of(&[&R, &R, &tombstone, &R, &R, &R], &[0, 13, 53])), Ok(6));
 }
 
 // ---- the cursor
@@ -702,11 +706,11 @@ fn the_two_places_of_18() {
     let wrong_first = off(1, 13, 26);
     assert_eq!(step_from(&wrong_first, Ascending, 0, 99, b""), Err(15));
     assert_eq!(step_from(&wrong_first, Ascending, 3, 0, b""), Err(18));
-    assert_eq!(step_from(&wrong_first, Descending, 0, 99, &[1; 1_025]), Err(18));
-    assert_eq!(step_from(&wrong_first, Descending, 0, 99, &[1; 1_024]), Err(15));
+    assert_eq!(step_from(&wrong_first, Descending, 0, 99, &[1; KEY_LIMIT + 1]), Err(18));
+    assert_eq!(step_from(&wrong_first, Descending, 0, 99, &[1; KEY_LIMIT]), Err(15));
     assert_eq!(step_from(&wrong_first, Ascending, usize::MAX, usize::MAX, b""), Err(18));
     // A marked cursor: after 14 and the first 18, before any 15.
-    for (region, key, answer) in [(0, &b""[..], Ok(None)), (3, b"", Err(18)), (0, &[1; 1_025], Err(18))] {
+    for (region, key, answer) in [(0, &b""[..], Ok(None)), (3, b"", Err(18)), (0, &[1; KEY_LIMIT + 1], Err(18))] {
         for order in [Ascending, Descending] {
             let mut marked = Cursor { done: true, ..cursor(order, region, 99, key) };
             let before = marked.clone();
@@ -758,7 +762,7 @@ fn right_positions() {
     assert_eq!(step_from(&b2(), Ascending, 0, 0, b"z"), gives(b"a"));
     assert_eq!(step_from(&block_of(&[&AB], &[0]), Ascending, 0, 0, b"z"), Err(13));
     // Bytes past the length of a carried key change no answer.
-    let mut bytes = [b'!'; 1_024];
+    let mut bytes = [b'!'; KEY_LIMIT];
     bytes[0] = b'z';
     let mut stale = Cursor { key: Key { len: 1, bytes }, ..cursor(Ascending, 0, 13, b"") };
     assert_eq!(step(&mut stale, &b2()), gives(b"zb"));
@@ -913,7 +917,7 @@ impl Chance {
 
     /// Small numbers, lengths near the limits, and the greatest.
     fn number(&mut self) -> usize {
-        let edges = [0, 1, 12, 13, 16, 1_024, 1_025, 5_042, 5_043, 65_535, 65_536, 131_072, usize::MAX / 12, usize::MAX - 1, usize::MAX];
+        let edges = [0, 1, 12, 13, 16, INTERVAL_LIMIT, INTERVAL_LIMIT + 1, KEY_LIMIT, KEY_LIMIT + 1, 5_042, 5_043, 65_535, 65_536, 131_072, usize::MAX / 12, usize::MAX - 1, usize::MAX];
         match self.below(3) {
             0 => edges[self.below(edges.len())],
             _ => self.below(80),

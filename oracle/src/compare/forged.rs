@@ -57,7 +57,8 @@ fn cursor(run: &mut Run, block: &[u8], starts: &[usize]) -> Arrays {
     let start = if starts.is_empty() { 0 } else { pick(&mut run.rng, starts) as u64 };
     let anywhere = around(run, block.len() as u64);
     let any = run.rng.next();
-    let key_len = pick(&mut run.rng, &[0, 0, 1, 2, 5, KEY_LIMIT - 1, KEY_LIMIT, KEY_LIMIT + 1, any]);
+    const LIMIT: u64 = KEY_LIMIT as u64;
+    let key_len = pick(&mut run.rng, &[0, 0, 1, 2, 5, LIMIT - 1, LIMIT, LIMIT + 1, any]);
     let region = if one_in(&mut run.rng, 4) { around(run, count) } else { below(&mut run.rng, count.max(1) as usize) as u64 };
     let at = if one_in(&mut run.rng, 3) { anywhere } else { start };
     let mut words = [run.rng.next() % 2, region, at, key_len, one_in(&mut run.rng, 12) as u64];
@@ -140,7 +141,7 @@ pub fn fit_of_lengths(run: &mut Run) {
     let (data_len, restarts_len) = (around(run, u64::MAX), around(run, MOST_RESTARTS as u64));
     let used = around(run, data_len);
     let rows = around(run, used / 12);
-    let interval = pick(&mut run.rng, &[1, 2, INTERVAL_LIMIT]);
+    let interval = pick(&mut run.rng, &[1, 2, INTERVAL_LIMIT as u64]);
     let words = [131_072, interval, used, rows.div_ceil(interval), rows, 3];
     let key = key_bytes(run, 3);
     let state = [Arg::Read(bytes_of(&words)), Arg::Read(key), Arg::Number(data_len), Arg::Number(restarts_len)];
