@@ -97,7 +97,7 @@ fn rows_that_cannot_be_read() {
         (changed(12, 16), Refusal::UnknownFlags),
         (changed(12, 2), Refusal::InputEnds),
         (
-            [&[0, 0x81, 8, 0][..], &[0; 1034], &[0, 0, 0, 1]].concat(),
+            [&[0, 0x81, 0x20, 0][..], &[0; 4106], &[0, 0, 0, 1]].concat(),
             Refusal::KeyTooLong,
         ),
         (
@@ -106,6 +106,10 @@ fn rows_that_cannot_be_read() {
         ),
         (
             [&[255, 255, 255, 255, 16][..], &[0; 12], &[0, 0, 0, 1]].concat(),
+            Refusal::VarintTooLarge,
+        ),
+        (
+            [&[0, 0x81, 0, 0, b'a'][..], &[0; 9], &[0, 0, 0, 1]].concat(),
             Refusal::VarintTooLarge,
         ),
     ];
