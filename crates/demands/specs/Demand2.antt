@@ -8,7 +8,7 @@ use mathlib.Core.Path.{_≡_, ap, sym, _∙_}
 use mathlib.Core.Bool.{true, false}
 use mathlib.Core.List.{List, []}
 use lib.ListN.{length, getD}
-use Rattle.layout.specs.Res.{ok}
+use Rattle.layout.specs.Res.{ok, refuse}
 use Rattle.layout.specs.Limits.{maxKey, maxRestarts}
 use Rattle.layout.specs.Key.{Key, below, noRank, Rising, firstAtOrAbove, firstAbove}
 use Rattle.layout.specs.Row.{Fields, Row, encodeRow, Typed}
@@ -21,9 +21,9 @@ use Rattle.demands.specs.Runs.{Lending, Call, Ran, Finishes, RoomFor, ba
 use Rattle.demands.specs.Rows.{DecodesBack, Rows, BothWays, SoughtUp, SoughtDown, FoundFirst, offeredRanks}
 use Rattle.demands.specs.RunsProof.{walks-first}
 use Rattle.demands.specs.Proof3.{encode-tells, ran-laid}
-use Rattle.demands.specs.Proof2.{decodes-back, rows-walked, accepted-rows, rows-room, sought-up, sought-down, first-splits, last-splits, retry-present, retry-absent, restarts-few, laid-accepted, accepted-laid}
+use Rattle.demands.specs.Proof2.{decodes-back, rows-walked, accepted-rows, rows-room, sought-up, sought-down, first-splits, last-splits, retry-present, retry-absent, restarts-few, laid-accepted, laid-verdict, accepted-laid}
 use Rattle.layout.specs.Laws.Res.{ok-inj}
-use Rattle.demands.specs.Laws.Accept.{check-accepts, accepts-check}
+use Rattle.demands.specs.Laws.Accept.{check-accepts, accepts-check, verdict-falling}
 
 -- A row that was encoded decodes, whatever bytes follow, to what was encoded, and ends where it ended; its full key is the shared bytes of the previous key, then the suffix.
 pub decode-encode : (prevLen shared : ℕ) (suffix : List ℕ) (f : Fields) (room : ℕ) (w post : List ℕ) → Typed f → encodeRow prevLen shared suffix f room ≡ ok w
@@ -92,3 +92,9 @@ pub finished-accepted : (size interval : ℕ) (calls : List Call) (rows : List R
 finished-accepted size interval calls rows end block ran f =
     let l = ran-laid size interval calls rows end ran block f in
     (laid-accepted block interval rows l, λ n e. accepted-laid block interval rows n l e)
+
+-- And of one that is not, the check refuses it with 17.
+pub finished-refused : (size interval : ℕ) (calls : List Call) (rows : List Row) (end : Lending) (block : List ℕ) → Ran size interval calls rows end → Finishes end block
+    → (Rising noRank (offeredRanks rows) → ⊥) → check block ≡ refuse 17
+finished-refused size interval calls rows end block ran f falls =
+    laid-verdict block interval rows (ran-laid size interval calls rows end ran block f) ∙ verdict-falling noRank (offeredRanks rows) 0 falls

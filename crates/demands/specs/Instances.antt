@@ -13,7 +13,7 @@ use lib.ListN.{length, take, drop, replicate, getD}
 use Rattle.layout.specs.Res.{Res, ok, refuse}
 use Rattle.layout.specs.Limits.{maxKey, maxRestarts, maxBlock, maxInterval}
 use Rattle.layout.specs.Varint.{varint, varintIn, readVarint, readVarintIn}
-use Rattle.layout.specs.Fixed.{big, unbig, bits, unbits}
+use Rattle.layout.specs.Fixed.{big, unbig, bits}
 use Rattle.layout.specs.Place.{varintAt, fixedAt, splice}
 use Rattle.layout.specs.Key.{Key, below, mayFollow, common, leading, firstAtOrAbove, firstAbove}
 use Rattle.layout.specs.Row.{tombstone, Time, Absent, At, Row, timeBytes, rowBytes, keyLengthTests, lengthTests, encodeRow, written, restoreKey, Typed, plainRow}
@@ -29,11 +29,10 @@ use Rattle.layout.specs.Cases.{rowWith}
 use Rattle.demands.specs.Runs.{Lending, lending, Call, offer, would-fit, is-empty, finish, lend-on, run, rowsOf, BeginAlike, Ran, Finishes, RoomFor, backwards, WalksAll, stepsGive, GivesFirst, KeysFit}
 use Rattle.demands.specs.Rows.{DecodesBack, Rows, BothWays, SoughtUp, SoughtDown, FoundFirst}
 use Rattle.demands.specs.Demand1.{refused-step, refused-seek, refused-add, refused-build, refused-encode, refused-restore, given-bytes, stale-bytes-tell-nothing, stale-bytes-empty, stale-bytes-seek, stale-bytes-fit, stale-bytes-add, stale-bytes-build}
-use Rattle.demands.specs.Demand2.{decode-encode, check-exact, has-rows, room-enough, walk-any-buffers, first-at-or-above, last-at-or-below, walk-steps, seek-ascending-lands, seek-descending-lands, retry-found, restarts-at-most, finished-accepted}
+use Rattle.demands.specs.Demand2.{decode-encode, check-exact, has-rows, room-enough, walk-any-buffers, first-at-or-above, last-at-or-below, walk-steps, seek-ascending-lands, seek-descending-lands, retry-found, restarts-at-most, finished-accepted, finished-refused}
 use Rattle.demands.specs.Demand3.{run-finishes, blocks-differ, keys-fit, reads-forwards, reads-backwards, reads-any-buffers, row-begins-no-other, read-begins-no-other}
 use Rattle.demands.specs.OldBlocks.{Stand, old-blocks-stand}
-use Rattle.demands.specs.RunsProof.{made-ran}
-use Rattle.layout.specs.Laws.Res.{ltb-cases, clash}
+use Rattle.layout.specs.Laws.Res.{ltb-cases, clash, clash}
 use Rattle.demands.specs.Laws.Refusals.{seek-never-18}
 
 -- ---- case 2, by a run
@@ -107,10 +106,8 @@ pub case-2-any-buffers : (rooms : List ℕ) → (t : Trailer) × (given : List K
 case-2-any-buffers rooms = reads-any-buffers 4096 16 calls2 (rowA ∷ rowAB ∷ []) (run start2 calls2) block2 case-2-ran case-2-finishes rooms
 
 -- its keys are short, so it was built before the key limit rose, and reads the same
-pub case-2-stands : Stand block2 (rowA ∷ rowAB ∷ [])
-case-2-stands =
-    let m = made-ran 4096 16 calls2 (rowA ∷ rowAB ∷ []) (run start2 calls2) case-2-ran in
-    old-blocks-stand 16 (rowA ∷ rowAB ∷ []) (omega arith) (m .rows-ok) (m .offsets-fit) (omega arith, (omega arith, tt))
+pub case-2-stands : Stand 16 (rowA ∷ rowAB ∷ []) block2
+case-2-stands = old-blocks-stand 4096 16 calls2 (rowA ∷ rowAB ∷ []) (run start2 calls2) block2 case-2-ran case-2-finishes (omega arith, (omega arith, tt))
 
 -- the run of case 2's first row alone accepts other rows, so it makes another block
 abbrev calls1 : List Call
@@ -398,8 +395,8 @@ one-time-differs =
 
 -- keys that fall: the block is refused with 17, and still reads back
 pub falling-refused : check blockY ≡ refuse 17
-unfolding leadingZeros blockBytes blockRows offsets rowsFrom offsetsFrom trailer offsetBytes isRestart shareOf laidRow rowBytes timeBytes big bits varint varintIn common check checkFrom checkRow trailerOf shortAt unbig allOffsets risingFrom regionOf readRow rowAt headTests headAt lengthsAt varintAt readVarint readVarintIn keyLengthTests bodyTests bodyAt fixedAt flagsAt timesAt timeAt mayFollow below unbits
-falling-refused = refl
+unfolding mayFollow below
+falling-refused = finished-refused maxBlock maxInterval callsY (rowY ∷ rowA ∷ []) (run startY callsY) blockY ran-y finishes-y (λ o. clash (o .1 .0) refl)
 
 pub falling-backwards : (t : Trailer) × (given : List Keyed) × (openBlock blockY descending ≡ ok (opened descending t)) × WalksAll blockY 1 (opened descending t) (backwards given)
     × (map (contentOf (dataOf blockY t)) given ≡ map plainRow (rowY ∷ rowA ∷ []))

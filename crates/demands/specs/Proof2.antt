@@ -13,7 +13,7 @@ use lib.Seq.{getD-drop}
 use borrow.Author.Tests.{eq-eqb}
 use Rattle.layout.specs.Res.{Res, ok}
 use Rattle.layout.specs.Limits.{maxKey, maxRestarts}
-use Rattle.layout.specs.Key.{Key, below, leading, isBelow, notAbove, firstAtOrAbove, firstAbove, rankIs, noRank, Rising}
+use Rattle.layout.specs.Key.{Key, below, leading, isBelow, notAbove, firstAtOrAbove, firstAbove, Rank, rankIs, noRank, Rising}
 use Rattle.layout.specs.Row.{Fields, Row, rowBytes, Typed, plainRow}
 use Rattle.layout.specs.RowRead.{RowRead, readRow, decodeRow, keyLength}
 use Rattle.layout.specs.Fixed.{unbig}
@@ -21,7 +21,7 @@ use Rattle.layout.specs.Trailer.{shortAt, Trailer, dataOf, offsetAt}
 use Rattle.layout.specs.Check.{check}
 use Rattle.layout.specs.Cursor.{ascending, descending, Cursor, opened, Keyed, found, done, Step, stepIs, next}
 use Rattle.layout.specs.Seek.{doneUp, doneDown}
-use Rattle.demands.specs.Reads.{regionsRows, Reads, allRows, ranksOf, keysOf, contentOf}
+use Rattle.demands.specs.Reads.{regionsRows, Reads, allRows, ranksOf, verdict, keysOf, contentOf}
 use Rattle.demands.specs.Runs.{RoomFor, backwards, Walks, stands, gives, WalksAll}
 use Rattle.demands.specs.Rows.{DecodesBack, Rows, BothWays, offeredRanks, SoughtUp, SoughtDown, FoundFirst}
 use Rattle.demands.specs.RunsProof.{walks-before, walks-after}
@@ -35,7 +35,7 @@ use Rattle.layout.specs.Laws.Cursor.{open-good, next-marked}
 use Rattle.demands.specs.Laws.Reads.{region-at, rows-all}
 use Rattle.demands.specs.Laws.Ascend.{opened-before}
 use Rattle.demands.specs.Laws.Descend.{opened-after}
-use Rattle.demands.specs.Laws.Accept.{check-accepts, accepts-check}
+use Rattle.demands.specs.Laws.Accept.{check-accepts, accepts-check, check-verdict}
 use Rattle.demands.specs.Laws.Sorted.{NeverFall, rising-never-falls}
 use Rattle.demands.specs.Laws.First.{first-before, first-here, above-before, above-here}
 use Rattle.demands.specs.Laws.Split.{split-at}
@@ -341,6 +341,11 @@ laid-accepted b n rows l o =
       many =
           sym (length-map rows plainRow) ∙ ap length (sym (l .contents)) ∙ length-map (allRows (l .regions)) (contentOf (dataOf b (l .t)));
     })
+
+pub laid-verdict : (b : List ℕ) (n : ℕ) (rows : List Row) (l : LaidBlock b n rows) → check b ≡ verdict noRank (offeredRanks rows) 0
+laid-verdict b n rows l =
+    check-verdict b (l .t) (l .regions) (l .reads)
+    ∙ ap (λ (x : List Rank). verdict noRank x 0) (same-ranks (dataOf b (l .t)) (allRows (l .regions)) rows (l .contents))
 
 pub accepted-laid : (b : List ℕ) (n : ℕ) (rows : List Row) (k : ℕ) → LaidBlock b n rows → check b ≡ ok k → Rising noRank (offeredRanks rows)
 accepted-laid b n rows k l e =

@@ -42,7 +42,7 @@ finishes-one h x y f g =
     sym (f .block-is) ∙ ap (λ (k : ℕ). take k (blockAfter (ok k) (h .builder) (h .bytes) (h .places))) n ∙ g .block-is
 
 -- rows that are laid make a block
-pub laid-rows : (n : ℕ) (rows : List Row) → 1 ≤ length rows → AllOk rows → AllFit (offsets n rows) → LaidBlock (blockBytes n rows) n rows
+laid-rows : (n : ℕ) (rows : List Row) → 1 ≤ length rows → AllOk rows → AllFit (offsets n rows) → LaidBlock (blockBytes n rows) n rows
 laid-rows n [] s a o = absurd (omega arith)
 laid-rows n (r ∷ rs) s a o = laid-block n r rs a o
 

@@ -1,4 +1,4 @@
--- "Rows from the desk", cases 1 to 10, in a single list; `cases-hold` is the one fact over it, by computation against the definitions.
+-- "Rows from the desk", cases 1 to 10, and those that came with requests, in a single list; `cases-hold` is the one fact over it, by computation against the definitions.
 use Prim.Native.Nat.{ℕ, zero, suc, _-_}
 use mathlib.Core.Path.{_≡_, refl}
 use mathlib.Core.Bool.{Bool, true, false, cond}
@@ -102,10 +102,10 @@ landed d b target =
     bind (next (s .cursor) b maxKey) λ a.
     landedBy (rowStarts 9 (opened ascending t) b) (s .reads) (s .cursor .done) (a .answer)
 
--- ---- a key at the edge
-
 abbrev pub rowWith : Key → List ℕ → ℕ → Row
 rowWith key val seq = record { key = key; fields = record { kind = value; val = val; seq = seq; expire = Absent; create = Absent } }
+
+-- ---- a key at the edge
 
 -- a block of one row, as it is laid: no limit is asked
 abbrev pub laidAlone : Row → List ℕ

@@ -16,11 +16,11 @@ use Rattle.layout.specs.Row.{Kind, value, tombstone, merge, Time, Absent
 pub record Lengths : Type 0 where
   pub shared : ℕ
   pub unshared : ℕ
-  pub vlen : ℕ
+  pub valueLen : ℕ
   pub body : ℕ
 
 abbrev pub lengthsIs : ℕ → ℕ → ℕ → ℕ → Lengths
-lengthsIs s u v b = record { shared = s; unshared = u; vlen = v; body = b }
+lengthsIs s u v b = record { shared = s; unshared = u; valueLen = v; body = b }
 
 unfoldable pub lengthsAt : Bytes → ℕ → Res Lengths
 lengthsAt d at =
@@ -34,7 +34,7 @@ abbrev pub valueAt : Lengths → ℕ
 valueAt l = l .body + l .unshared
 
 abbrev pub seqAt : Lengths → ℕ
-seqAt l = l .body + l .unshared + l .vlen
+seqAt l = l .body + l .unshared + l .valueLen
 
 -- ---- shared longer than the previous key, or not 0 at a restart (13); full key empty (1); over the limit (2)
 
@@ -97,17 +97,17 @@ bodyIs h q f n = record { held = h; seq = q; flags = f; next = n }
 
 -- of the lengths alone: the flags end at `end`, in data of `dataLen` bytes
 unfoldable pub bodyTests : ℕ → ℕ → ℕ → Res (Unit {0})
-bodyTests dataLen vlen end =
-    3 when ltb maxValue vlen else
+bodyTests dataLen valueLen end =
+    3 when ltb maxValue valueLen else
     9 when ltb dataLen end else
     ok tt
 
 unfoldable pub bodyAt : Bytes → Lengths → Res Body
 bodyAt d l =
-    bind (bodyTests (length d) (l .vlen) (seqAt l + 9)) λ _.
+    bind (bodyTests (length d) (l .valueLen) (seqAt l + 9)) λ _.
     bind (fixedAt 8 d (seqAt l)) λ q.
     bind (flagsAt (getD d (q .next) 0)) λ f.
-    ok (bodyIs (heldAs (f .kind) (valueAt l) (l .vlen)) (q .val) f (seqAt l + 9))
+    ok (bodyIs (heldAs (f .kind) (valueAt l) (l .valueLen)) (q .val) f (seqAt l + 9))
 
 -- ---- times missing (9)
 

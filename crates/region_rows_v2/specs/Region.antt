@@ -71,7 +71,7 @@ module _ (b : List ℕ) (size : ℕ) (g : Region) (p : Place) (key : List ℕ) (
       let n : x .next ≡ r .next = ap (λ (y : Plain). y .next) q in
       let s : x .shared ≡ r .shared = ap (λ (y : Plain). y .shared) q in
       let u : x .unshared ≡ r .unshared = ap (λ (y : Plain). y .unshared) q in
-      let v : x .«value_len» ≡ r .vlen = ap (λ (y : Plain). y .vlen) q in
+      let v : x .«value_len» ≡ r .valueLen = ap (λ (y : Plain). y .valueLen) q in
       record {
         ends = omega (arith, t .next-is);
         inside = omega (arith, t .within, t .inside);

@@ -4,7 +4,7 @@ use mathlib.Core.List.{List}
 use Prim.Native.Nat.{ℕ}
 use Rattle.layout.specs.Res.{Res, ok, refuse}
 use Rattle.layout.specs.Row.{Fields}
-use Rattle.layout.specs.RowRead.{Flags, flagsIs, Times as TimesL, timesIs}
+use Rattle.layout.specs.RowRead.{Flags, Times as TimesL}
 use Rattle.layout.specs.Laws.Res.{ok-inj}
 use Rattle.basics.specs.Answers.{apart, refused-one}
 use Rattle.basics.specs.Number.{number}
@@ -24,14 +24,14 @@ abbrev pub fieldsFrom : RowFields → List ℕ → Fields
 fieldsFrom row v = record { kind = saysKind (row .kind); val = v; seq = row .seq; expire = saysTime (row .expire); create = saysTime (row .create) }
 
 abbrev pub flagsFrom : RowFlags → Flags
-flagsFrom f = flagsIs (saysKind (f .kind)) (f .expire) (f .create)
+flagsFrom f = record { kind = saysKind (f .kind); expire = f .expire; create = f .create }
 
 abbrev pub saysFlags : FlagsRead → Res Flags
 saysFlags (ReadFlags f) = ok (flagsFrom f)
 saysFlags (FlagsRefused r) = refuse (number r)
 
 abbrev pub timesFrom : Times → TimesL
-timesFrom t = timesIs (saysTime (t .expire)) (saysTime (t .create)) (t .next)
+timesFrom t = record { expire = saysTime (t .expire); create = saysTime (t .create); next = t .next }
 
 abbrev pub saysTimes : TimesRead → Res TimesL
 saysTimes (ReadTimes t) = ok (timesFrom t)

@@ -90,10 +90,10 @@ cut b n m at end most p h k l w =
       inside = rw (length-take-le m b l) k;
       shared-is = w .shared-is ∙ same at (omega arith);
       unshared-is = w .unshared-is ∙ same (at + 1) (omega arith);
-      vlen-is = w .vlen-is ∙ same (at + 2) (omega arith);
+      valueLen-is = w .valueLen-is ∙ same (at + 2) (omega arith);
       shared-small = w .shared-small;
       unshared-small = w .unshared-small;
-      vlen-small = w .vlen-small;
+      valueLen-small = w .valueLen-small;
       shares = w .shares;
       some = w .some;
       next-is = w .next-is;
@@ -285,7 +285,7 @@ module _ (b : List ℕ) (region at keyLen : ℕ) (key out : List ℕ) {a : Ahead
           next = s .p .next;
           shared = s .p .shared;
           unshared = s .p .unshared;
-          «value_len» = s .p .vlen;
+          «value_len» = s .p .valueLen;
           seq = fourAt b (s .p .next - 9) * 4294967296 + fourAt b (s .p .next - 9 + 4);
         })
         key′ out′
@@ -369,7 +369,7 @@ module _ (region at keyLen : ℕ) (key b out : List ℕ) (x : Stepped) {key′ o
     either t v e i =
         let place : v .at ≡ s₀ .p .next = ap (λ (u : Cursor). u .at) e ∙ one t in
         let to : x ≡ steppedTo v (found r₀ k₀) = g .answer ∙ ap steppedOf i in
-        let row : r₀ ≡ rowMade at x = ap (λ (m : ℕ). rowMade at (record { region = 0; «key_len» = 0; next = m; shared = s₀ .p .shared; unshared = s₀ .p .unshared; «value_len» = s₀ .p .vlen; seq = r₀ .seq })) (sym place) ∙ ap (rowMade at) (sym to) in
+        let row : r₀ ≡ rowMade at x = ap (λ (m : ℕ). rowMade at (record { region = 0; «key_len» = 0; next = m; shared = s₀ .p .shared; unshared = s₀ .p .unshared; «value_len» = s₀ .p .valueLen; seq = r₀ .seq })) (sym place) ∙ ap (rowMade at) (sym to) in
         record {
           cursor = v;
           key = k₀;

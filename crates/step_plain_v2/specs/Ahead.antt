@@ -22,7 +22,7 @@ abbrev pub noAhead : Ahead
 noAhead = record { next = 0; reach = 0; shared = 0; unshared = 0; «value_len» = 0 }
 
 abbrev pub aheadWith : ℕ → Plain → Ahead
-aheadWith reach p = record { next = p .next; reach = reach; shared = p .shared; unshared = p .unshared; «value_len» = p .vlen }
+aheadWith reach p = record { next = p .next; reach = reach; shared = p .shared; unshared = p .unshared; «value_len» = p .valueLen }
 
 -- a row that is plain, unless there is no room for its key
 abbrev pub aheadOf : ℕ → ℕ → Plain → Ahead

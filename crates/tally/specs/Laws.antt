@@ -66,15 +66,15 @@ unfolding weight
 weight-append [] ys = omega arith
 weight-append (x ∷ xs) ys = omega (arith, weight-append xs ys)
 
-body-carries : (d : List ℕ) (l : Lengths) (b : Body) → bodyAt d l ≡ ok b → carries (b .held) ≤ l .vlen
+body-carries : (d : List ℕ) (l : Lengths) (b : Body) → bodyAt d l ≡ ok b → carries (b .held) ≤ l .valueLen
 unfolding bodyAt
 body-carries d l b e =
-    bind-then (bodyTests (length d) (l .vlen) (seqAt l + 9)) _ b e λ _ _ e₂.
+    bind-then (bodyTests (length d) (l .valueLen) (seqAt l + 9)) _ b e λ _ _ e₂.
     bind-then (fixedAt 8 d (seqAt l)) _ b e₂ λ q _ e₃.
     bind-then (flagsAt (getD d (q .next) 0)) _ b e₃ λ f _ e₄.
     rw (← ap (λ (x : Body). x .held) (ok-inj e₄)) (go (f .kind))
   where
-    go : (k : Kind) → carries (heldAs k (valueAt l) (l .vlen)) ≤ l .vlen
+    go : (k : Kind) → carries (heldAs k (valueAt l) (l .valueLen)) ≤ l .valueLen
     go value = omega arith
     go tombstone = zero-le
     go merge = omega arith

@@ -1,6 +1,6 @@
 // Varints at a place of a lent slice: their length, written, read.
 // Follows slatedb 0.16.0, src/utils.rs (Apache License 2.0), and is changed: a buffer is a lent slice with a place in it, the writer answers the place after
-// what it wrote, and what the input or the room can break is a refusal.
+// what it wrote, what the input or the room can break is a refusal, and so is a spelling longer than its number needs.
 ghost use mathlib.Core.Path.{_≡_};
 ghost use mathlib.Core.List.{[], _∷_};
 ghost use Prim.Native.Nat.{_<_, _≤_, _+_, _*_, _^_};

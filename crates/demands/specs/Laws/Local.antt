@@ -71,13 +71,13 @@ module _ (p s s′ : List ℕ) where
   bodyAt-local l b e h =
       let k = bodyAt-tells (p ++ s) l b e in
       let k₂ = k .2 in
-      bind-then (bodyTests (length (p ++ s)) (l .vlen) (seqAt l + 9)) _ b e λ u t e₂.
+      bind-then (bodyTests (length (p ++ s)) (l .valueLen) (seqAt l + 9)) _ b e λ u t e₂.
       bind-then (fixedAt 8 (p ++ s) (seqAt l)) _ b e₂ λ q pq e₃.
       let w = fixedAt-ends 8 (p ++ s) (seqAt l) q pq in
       let w₀ = w .0 in
       let e₄ = rw (List·getD-append p s 0 (q .next) (omega arith)) at e₃ in
       rw (
-        le-ltb maxValue (l .vlen) (k .0),
+        le-ltb maxValue (l .valueLen) (k .0),
         le-ltb (length (p ++ s′)) (seqAt l + 9) (rw (length-append p s′) (omega arith)),
         fixedAt-local 8 (seqAt l) q pq (omega arith),
         List·getD-append p s′ 0 (q .next) (omega arith),

@@ -22,7 +22,7 @@ module _ (d : List ℕ) (bytes : (i : ℕ) → getD d i 0 < 256) where
       let n = ap (λ (x : NumAt). x .next) (ok-inj q) in
       sym (take-append-drop (a .len) (drop at d)) ∙ rw (written, drop-drop (a .len) at d, v, n)
 
-  pub lengths-are-written : (at : ℕ) (l : Lengths) → lengthsAt d at ≡ ok l → drop at d ≡ varint (l .shared) ++ (varint (l .unshared) ++ (varint (l .vlen) ++ drop (l .body) d))
+  pub lengths-are-written : (at : ℕ) (l : Lengths) → lengthsAt d at ≡ ok l → drop at d ≡ varint (l .shared) ++ (varint (l .unshared) ++ (varint (l .valueLen) ++ drop (l .body) d))
   unfolding lengthsAt
   lengths-are-written at l e =
       bind-then (varintAt d at) _ l e λ a p e₁.

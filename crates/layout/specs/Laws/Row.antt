@@ -135,9 +135,9 @@ timesAt-law d at k e c post he hc p =
     let q : drop (at + ifSo (present e) 8) d ≡ timeBytes c ++ post = rw (length-timeBytes e) at (past d at (timeBytes e) (timeBytes c ++ post) p) in
     rw (timeAt-law e d at (timeBytes c ++ post) he p, timeAt-law c d (at + ifSo (present e) 8) post hc q)
 
-bodyAt-parts : (d : List ℕ) (l : Lengths) (suffix v : List ℕ) (q fl : ℕ) (more : List ℕ) (f : Flags) → length suffix ≡ l .unshared → length v ≡ l .vlen → l .vlen ≤ maxValue
+bodyAt-parts : (d : List ℕ) (l : Lengths) (suffix v : List ℕ) (q fl : ℕ) (more : List ℕ) (f : Flags) → length suffix ≡ l .unshared → length v ≡ l .valueLen → l .valueLen ≤ maxValue
     → q < 2 ^ 64 → flagsAt fl ≡ ok f → drop (l .body) d ≡ suffix ++ (v ++ (big 8 q ++ (fl ∷ more)))
-    → (bodyAt d l ≡ ok (bodyIs (heldAs (f .kind) (valueAt l) (l .vlen)) q f (seqAt l + 9))) × (drop (seqAt l + 9) d ≡ more)
+    → (bodyAt d l ≡ ok (bodyIs (heldAs (f .kind) (valueAt l) (l .valueLen)) q f (seqAt l + 9))) × (drop (seqAt l + 9) d ≡ more)
 unfolding bodyAt bodyTests
 bodyAt-parts d l suffix v q fl more f hs hv k kq hf e =
     let e₁ : drop (valueAt l) d ≡ v ++ (big 8 q ++ (fl ∷ more)) = rw hs at (past d (l .body) suffix (v ++ (big 8 q ++ (fl ∷ more))) e) in
@@ -146,7 +146,7 @@ bodyAt-parts d l suffix v q fl more f hs hv k kq hf e =
     let e₄ : drop (seqAt l + 8 + 1) d ≡ more = past d (seqAt l + 8) (fl ∷ []) more e₃ in
     let nine : seqAt l + 9 ≡ seqAt l + 8 + 1 = omega arith in (
       rw (
-        le-ltb maxValue (l .vlen) k,
+        le-ltb maxValue (l .valueLen) k,
         le-ltb (length d) (seqAt l + 9) (omega (arith, within d (seqAt l + 8) (fl ∷ []) more e₃ (omega arith))),
         fixedAt-law 8 d (seqAt l) q (fl ∷ more) (omega arith) (omega arith) e₂,
         byte-at d (seqAt l + 8) fl more e₃,

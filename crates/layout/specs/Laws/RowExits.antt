@@ -62,26 +62,26 @@ unfolding flagsAt
 flagsAt-unknown f h = rw (lt-ltb 15 f h)
 
 module _ (d : List ℕ) (l : Lengths) where
-  pub body-long : maxValue < l .vlen → refuse 3 ≡ bodyAt d l
+  pub body-long : maxValue < l .valueLen → refuse 3 ≡ bodyAt d l
   unfolding bodyAt bodyTests
-  body-long h = rw (lt-ltb maxValue (l .vlen) h)
+  body-long h = rw (lt-ltb maxValue (l .valueLen) h)
 
-  pub body-short : l .vlen ≤ maxValue → length d < seqAt l + 9 → refuse 9 ≡ bodyAt d l
+  pub body-short : l .valueLen ≤ maxValue → length d < seqAt l + 9 → refuse 9 ≡ bodyAt d l
   unfolding bodyAt bodyTests
-  body-short h k = rw (le-ltb maxValue (l .vlen) h, lt-ltb (length d) (seqAt l + 9) k)
+  body-short h k = rw (le-ltb maxValue (l .valueLen) h, lt-ltb (length d) (seqAt l + 9) k)
 
-  pub body-word : {n : ℕ} → l .vlen ≤ maxValue → seqAt l + 9 ≤ length d → fixedAt 8 d (seqAt l) ≡ refuse n → refuse n ≡ bodyAt d l
+  pub body-word : {n : ℕ} → l .valueLen ≤ maxValue → seqAt l + 9 ≤ length d → fixedAt 8 d (seqAt l) ≡ refuse n → refuse n ≡ bodyAt d l
   unfolding bodyAt bodyTests
-  body-word h k e = rw (le-ltb maxValue (l .vlen) h, le-ltb (length d) (seqAt l + 9) k, e)
+  body-word h k e = rw (le-ltb maxValue (l .valueLen) h, le-ltb (length d) (seqAt l + 9) k, e)
 
-  pub body-flags : {q : NumAt} {n : ℕ} → l .vlen ≤ maxValue → seqAt l + 9 ≤ length d → fixedAt 8 d (seqAt l) ≡ ok q → flagsAt (getD d (q .next) 0) ≡ refuse n → refuse n ≡ bodyAt d l
+  pub body-flags : {q : NumAt} {n : ℕ} → l .valueLen ≤ maxValue → seqAt l + 9 ≤ length d → fixedAt 8 d (seqAt l) ≡ ok q → flagsAt (getD d (q .next) 0) ≡ refuse n → refuse n ≡ bodyAt d l
   unfolding bodyAt bodyTests
-  body-flags h k e₁ e₂ = rw (le-ltb maxValue (l .vlen) h, le-ltb (length d) (seqAt l + 9) k, e₁, e₂)
+  body-flags h k e₁ e₂ = rw (le-ltb maxValue (l .valueLen) h, le-ltb (length d) (seqAt l + 9) k, e₁, e₂)
 
-  pub body-good : {q : NumAt} {f : Flags} → l .vlen ≤ maxValue → seqAt l + 9 ≤ length d → fixedAt 8 d (seqAt l) ≡ ok q → flagsAt (getD d (q .next) 0) ≡ ok f
-      → ok (bodyIs (heldAs (f .kind) (valueAt l) (l .vlen)) (q .val) f (seqAt l + 9)) ≡ bodyAt d l
+  pub body-good : {q : NumAt} {f : Flags} → l .valueLen ≤ maxValue → seqAt l + 9 ≤ length d → fixedAt 8 d (seqAt l) ≡ ok q → flagsAt (getD d (q .next) 0) ≡ ok f
+      → ok (bodyIs (heldAs (f .kind) (valueAt l) (l .valueLen)) (q .val) f (seqAt l + 9)) ≡ bodyAt d l
   unfolding bodyAt bodyTests
-  body-good h k e₁ e₂ = rw (le-ltb maxValue (l .vlen) h, le-ltb (length d) (seqAt l + 9) k, e₁, e₂)
+  body-good h k e₁ e₂ = rw (le-ltb maxValue (l .valueLen) h, le-ltb (length d) (seqAt l + 9) k, e₁, e₂)
 
 module _ (d : List ℕ) (at : ℕ) where
   pub time-short : {n : ℕ} → signedAt d at ≡ refuse n → refuse n ≡ timeAt true d at

@@ -53,12 +53,12 @@ headTests-tell most shared unshared u e =
     let w = keyLengthTests-tells (shared + unshared) u k in
     (ltb-false most shared t, w .0, w .1)
 
-pub bodyTests-tell : (dataLen vlen end : ℕ) (u : Unit {0}) → bodyTests dataLen vlen end ≡ ok u → (vlen ≤ maxValue) × (end ≤ dataLen)
+pub bodyTests-tell : (dataLen valueLen end : ℕ) (u : Unit {0}) → bodyTests dataLen valueLen end ≡ ok u → (valueLen ≤ maxValue) × (end ≤ dataLen)
 unfolding bodyTests
-bodyTests-tell dataLen vlen end u e =
-    guard-then (ltb maxValue vlen) 3 _ u e λ t₁ e₁.
+bodyTests-tell dataLen valueLen end u e =
+    guard-then (ltb maxValue valueLen) 3 _ u e λ t₁ e₁.
     guard-then (ltb dataLen end) 9 _ u e₁ λ t₂ e₂.
-    (ltb-false maxValue vlen t₁, ltb-false dataLen end t₂)
+    (ltb-false maxValue valueLen t₁, ltb-false dataLen end t₂)
 
 pub headAt-tells : (d : List ℕ) (at prevLen : ℕ) (restart : Bool) (l : Lengths) → headAt d at prevLen restart ≡ ok l → Headed d at prevLen restart l
 unfolding headAt
@@ -72,13 +72,13 @@ headAt-tells d at prevLen restart l e =
     made m a b = record { moved = a .0; inside = a .1; shares = b .0; some = b .1; fits = b .2 }
 
 -- the value's length passed its test, and the fixed part lies inside the data
-pub bodyAt-tells : (d : List ℕ) (l : Lengths) (b : Body) → bodyAt d l ≡ ok b → (l .vlen ≤ maxValue) × (seqAt l + 9 ≤ length d) × (seqAt l + 9 ≡ b .next)
+pub bodyAt-tells : (d : List ℕ) (l : Lengths) (b : Body) → bodyAt d l ≡ ok b → (l .valueLen ≤ maxValue) × (seqAt l + 9 ≤ length d) × (seqAt l + 9 ≡ b .next)
 unfolding bodyAt
 bodyAt-tells d l b e =
-    bind-then (bodyTests (length d) (l .vlen) (seqAt l + 9)) _ b e λ u t e₁.
+    bind-then (bodyTests (length d) (l .valueLen) (seqAt l + 9)) _ b e λ u t e₁.
     bind-then (fixedAt 8 d (seqAt l)) _ b e₁ λ q p e₂.
     bind-then (flagsAt (getD d (q .next) 0)) _ b e₂ λ f v e₃.
-    let w = bodyTests-tell (length d) (l .vlen) (seqAt l + 9) u t in
+    let w = bodyTests-tell (length d) (l .valueLen) (seqAt l + 9) u t in
     (w .0, w .1, ap (λ (x : Body). x .next) (ok-inj e₃))
 
 pub timeAt-ends : (f : Bool) (d : List ℕ) (at : ℕ) (t : TimeAt) → timeAt f d at ≡ ok t → at ≤ length d → (at ≤ t .next) × (t .next ≤ length d)
