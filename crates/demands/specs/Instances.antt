@@ -31,6 +31,7 @@ use Rattle.demands.specs.Rows.{DecodesBack, Rows, BothWays, SoughtUp, So
 use Rattle.demands.specs.Demand1.{refused-step, refused-seek, refused-add, refused-build, refused-encode, refused-restore, given-bytes, stale-bytes-tell-nothing, stale-bytes-empty, stale-bytes-seek, stale-bytes-fit, stale-bytes-add, stale-bytes-build}
 use Rattle.demands.specs.Demand2.{decode-encode, check-exact, has-rows, room-enough, walk-any-buffers, first-at-or-above, last-at-or-below, walk-steps, seek-ascending-lands, seek-descending-lands, retry-found, restarts-at-most, finished-accepted, finished-refused}
 use Rattle.demands.specs.Demand3.{run-finishes, blocks-differ, keys-fit, reads-forwards, reads-backwards, reads-any-buffers, row-begins-no-other, read-begins-no-other}
+use Rattle.demands.specs.AnyOrder.{cutFrom, regionsFrom, through}
 use Rattle.demands.specs.OldBlocks.{Stand, old-blocks-stand}
 use Rattle.layout.specs.Laws.Res.{ltb-cases, clash, clash}
 use Rattle.demands.specs.Laws.Refusals.{seek-never-18}
@@ -404,3 +405,15 @@ falling-backwards = reads-backwards maxBlock maxInterval callsY (rowY ∷ rowA �
 
 pub falling-keys-fit : KeysFit maxKey (rowY ∷ rowA ∷ [])
 falling-keys-fit = keys-fit maxBlock maxInterval callsY (rowY ∷ rowA ∷ []) (run startY callsY) ran-y
+
+-- and it stands under the higher key limit: its rows are one region, "b" then "a", and every seek is told by them. Down to "a" it lands after the last row at or below it, the second
+pub falling-stands : Stand maxInterval (rowY ∷ rowA ∷ []) blockY
+falling-stands = old-blocks-stand maxBlock maxInterval callsY (rowY ∷ rowA ∷ []) (run startY callsY) blockY ran-y finishes-y (omega arith, (omega arith, tt))
+
+pub falling-region : regionsFrom maxInterval 0 (rowY ∷ rowA ∷ []) ≡ (rowY ∷ rowA ∷ []) ∷ []
+unfolding regionsFrom cutFrom isRestart
+falling-region = refl
+
+pub falling-last : through (97 ∷ []) (rowY .key ∷ rowA .key ∷ []) ≡ 2
+unfolding through below
+falling-last = refl

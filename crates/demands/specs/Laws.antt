@@ -11,4 +11,5 @@ pub mod Sorted
 pub mod Split
 pub mod LandsUp
 pub mod LandsDown
+pub mod AnyOrder
 pub mod Laid

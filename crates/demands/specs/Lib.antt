@@ -1,8 +1,10 @@
 pub mod Reads
+pub mod AnyOrder
 pub mod Laws
 pub mod Runs
 pub mod Rows
 pub mod RunsProof
+pub mod SoughtProof
 pub mod Proof3
 pub mod Proof2
 pub mod Demand1

@@ -4,27 +4,28 @@ use Prim.Native.Nat.{ℕ, zero, suc, _+_, _-_, _*_, _<_, _≤_, zero-le}
 use mathlib.Core.Path.{_≡_, refl, ap, ap₂, sym, _∙_}
 use mathlib.Core.Bool.{true, false}
 use mathlib.Core.List.{List, [], _∷_, _++_, map}
-use mathlib.Core.Logic.{_⊎_, ⊎-elim, inl, inr}
+use mathlib.Core.Logic.{_⊎_, ⊎-elim}
 use native.Mathlib.Omega.{arith}
 use native.Mathlib.Nat.{not-suc-le-zero}
 use native.Mathlib.Numerals.{add-one}
-use lib.ListN.{length, take, drop, getD, length-append, length-drop, length-map, drop-of-length-le}
+use lib.ListN.{length, take, drop, getD, length-append, length-drop, length-map}
 use lib.Seq.{getD-drop}
 use borrow.Author.Tests.{eq-eqb}
-use Rattle.layout.specs.Res.{Res, ok}
+use Rattle.layout.specs.Res.{ok}
 use Rattle.layout.specs.Limits.{maxKey, maxRestarts}
-use Rattle.layout.specs.Key.{Key, below, leading, isBelow, notAbove, firstAtOrAbove, firstAbove, Rank, rankIs, noRank, Rising}
+use Rattle.layout.specs.Key.{Key, below, firstAtOrAbove, firstAbove, Rank, rankIs, noRank, Rising}
 use Rattle.layout.specs.Row.{Fields, Row, rowBytes, Typed, plainRow}
 use Rattle.layout.specs.RowRead.{RowRead, readRow, decodeRow, keyLength}
 use Rattle.layout.specs.Fixed.{unbig}
 use Rattle.layout.specs.Trailer.{shortAt, Trailer, dataOf, offsetAt}
 use Rattle.layout.specs.Check.{check}
 use Rattle.layout.specs.Cursor.{ascending, descending, Cursor, opened, Keyed, found, done, Step, stepIs, next}
-use Rattle.layout.specs.Seek.{doneUp, doneDown}
+use Rattle.layout.specs.Seek.{doneUp}
 use Rattle.demands.specs.Reads.{regionsRows, Reads, allRows, ranksOf, verdict, keysOf, contentOf}
-use Rattle.demands.specs.Runs.{RoomFor, backwards, Walks, stands, gives, WalksAll}
+use Rattle.demands.specs.Runs.{RoomFor, Walks, stands, gives, WalksAll}
 use Rattle.demands.specs.Rows.{DecodesBack, Rows, BothWays, offeredRanks, SoughtUp, SoughtDown, FoundFirst}
 use Rattle.demands.specs.RunsProof.{walks-before, walks-after}
+use Rattle.demands.specs.SoughtProof.{landed-up, landed-down}
 use Rattle.demands.specs.Proof3.{Encoded, encoded-fields}
 use Rattle.layout.specs.Laws.Res.{ok-inj, ltb-cases, bool-cases, clash}
 use Rattle.layout.specs.Laws.Key.{AtMost, at-most-refl, at-most-trans, at-most-antisym, below-false, le-below}
@@ -39,8 +40,8 @@ use Rattle.demands.specs.Laws.Accept.{check-accepts, accepts-check, chec
 use Rattle.demands.specs.Laws.Sorted.{NeverFall, rising-never-falls}
 use Rattle.demands.specs.Laws.First.{first-before, first-here, above-before, above-here}
 use Rattle.demands.specs.Laws.Split.{split-at}
-use Rattle.demands.specs.Laws.LandsUp.{LandsUp, lands, passes, SeeksUp, seeks-up}
-use Rattle.demands.specs.Laws.LandsDown.{LandsDown, lands as lands-down, passes as passes-down, SeeksDown, seeks-down}
+use Rattle.demands.specs.Laws.LandsUp.{SeeksUp, seeks-up}
+use Rattle.demands.specs.Laws.LandsDown.{SeeksDown, seeks-down}
 use Rattle.demands.specs.Laws.Laid.{LaidBlock}
 
 -- ---- one row
@@ -59,16 +60,6 @@ decodes-back prevLen shared suffix f w post e t =
     }
 
 -- ---- the rows of an accepted block, walked both ways
-
-room-drop : (room n : ℕ) (ks : List Keyed) → RoomFor room ks → RoomFor room (drop n ks)
-room-drop room zero ks f = f
-room-drop room (suc n) [] f = tt
-room-drop room (suc n) (k ∷ ks) f = room-drop room n ks (f .1)
-
-room-take : (room n : ℕ) (ks : List Keyed) → RoomFor room ks → RoomFor room (take n ks)
-room-take room zero ks f = tt
-room-take room (suc n) [] f = tt
-room-take room (suc n) (k ∷ ks) f = (f .0, room-take room n ks (f .1))
 
 module _ (b : List ℕ) (n : ℕ) (t : Trailer) (rows : List Keyed) (q : Rows b n t rows) (room : ℕ) (f : RoomFor room rows) where
   pub rows-walked : BothWays b t room rows
@@ -100,46 +91,13 @@ module _ (b : List ℕ) (n : ℕ) (t : Trailer) (rows : List Keyed) (q : Rows b 
   s-down : SeeksDown b t target rows
   s-down = rw (q .are) (seeks-down b t (q .regions) target (q .reads) (rw (q .are) at (rising-never-falls noRank rows (q .in-order))))
 
-  -- a marked cursor says "done", unchanged
-  over-up : WalksAll b room (doneUp t) []
-  over-up =
-      let says : next (doneUp t) b room ≡ ok (stepIs (doneUp t) done) = next-marked (doneUp t) b room t (q .reads .trailer-good) (omega (arith, trailerOf-tells b t (q .reads .trailer-good) .1)) zero-le refl in
-      record { last = doneUp t; walks = stands (doneUp t); ends = record { says-done = says; ever-after = says } }
-
-  over-down : WalksAll b room doneDown []
-  over-down =
-      let says : next doneDown b room ≡ ok (stepIs doneDown done) = next-marked doneDown b room t (q .reads .trailer-good) (omega (arith, trailerOf-tells b t (q .reads .trailer-good) .1)) zero-le refl in
-      record { last = doneDown; walks = stands doneDown; ends = record { says-done = says; ever-after = says } }
-
   pub sought-up : SoughtUp b t target rows room
   unfolding firstAtOrAbove
-  sought-up = let w = go (s-up .c) (ok (s-up .c)) refl (s-up .landing) in record { c = s-up .c; reads = s-up .reads; is = s-up .is; walked = w .0; over = w .1 }
-    where
-      go : (c : Cursor) (x : Res Cursor) → x ≡ ok c → LandsUp b t target rows x
-          → WalksAll b room c (drop (leading (isBelow target) (keysOf rows)) rows)
-          × (((leading (isBelow target) (keysOf rows) < length rows) × (c .done ≡ false)) ⊎ ((leading (isBelow target) (keysOf rows) ≡ length rows) × (c ≡ doneUp t)))
-      go c x e (lands d h l) =
-          let same : d ≡ c = ok-inj e in
-          rw (← same) (walks-before b t room d (drop (leading (isBelow target) (keysOf rows)) rows) l (room-drop room (leading (isBelow target) (keysOf rows)) rows f), inl (h, l .stands .unmarked))
-      go c x e (passes h) =
-          let same : doneUp t ≡ c = ok-inj e in
-          let none : drop (leading (isBelow target) (keysOf rows)) rows ≡ [] = drop-of-length-le rows {i = leading (isBelow target) (keysOf rows)} (omega (arith, h)) in
-          (rw (none, ← same) over-up, inr (h, sym same))
+  sought-up = let w = landed-up b t room (q .reads .trailer-good) target rows (s-up .c) f (s-up .landing) in record { c = s-up .c; reads = s-up .reads; is = s-up .is; walked = w .0; over = w .1 }
 
   pub sought-down : SoughtDown b t target rows room
   unfolding firstAbove
-  sought-down = let w = go (s-down .c) (ok (s-down .c)) refl (s-down .landing) in record { c = s-down .c; reads = s-down .reads; is = s-down .is; walked = w .0; over = w .1 }
-    where
-      go : (c : Cursor) (x : Res Cursor) → x ≡ ok c → LandsDown b t target rows x
-          → WalksAll b room c (backwards (take (leading (notAbove target) (keysOf rows)) rows))
-          × (((0 < leading (notAbove target) (keysOf rows)) × (c .done ≡ false)) ⊎ ((leading (notAbove target) (keysOf rows) ≡ 0) × (c ≡ doneDown)))
-      go c x e (lands-down d h l) =
-          let same : d ≡ c = ok-inj e in
-          rw (← same)
-          (walks-after (length (take (leading (notAbove target) (keysOf rows)) rows)) b t room d (take (leading (notAbove target) (keysOf rows)) rows) (omega arith) l (room-take room (leading (notAbove target) (keysOf rows)) rows f), inl (h, l .unmarked))
-      go c x e (passes-down h) =
-          let same : doneDown ≡ c = ok-inj e in
-          (rw (h, ← same) (unfold backwards in over-down), inr (h, sym same))
+  sought-down = let w = landed-down b t room (q .reads .trailer-good) target rows (s-down .c) f (s-down .landing) in record { c = s-down .c; reads = s-down .reads; is = s-down .is; walked = w .0; over = w .1 }
 
 -- ---- the retry's row
 

@@ -20,6 +20,7 @@ use Rattle.layout.specs.Block.{isRestart, shareOf, laidRow, rowsFrom, offsetsFr
 use Rattle.layout.specs.Trailer.{Trailer, trailerIs, dataOf, offsetAt, Region, regionOf, rowIn}
 use Rattle.layout.specs.Cursor.{Keyed, keyed}
 use Rattle.demands.specs.Reads.{regionRows, regionsRows, Reads, allRows, contentOf}
+use Rattle.demands.specs.AnyOrder.{putFirst, cutFrom, regionsFrom}
 use Rattle.layout.specs.Laws.Res.{ltb-cases, clash}
 use Rattle.layout.specs.Laws.Place.{past, within}
 use Rattle.layout.specs.Laws.Row.{placesOf, readRow-law, placesOf-fields, placesOf-key}
@@ -97,13 +98,14 @@ endOf-ge n i at before rs high h = go (offsetsFrom n i at before rs) (laid-betwe
 
 -- ---- one row after another
 
--- what stands from a place of the block on, as it is read: the rows of this region, and of those after it
-pub record Read (b : List ℕ) (t : Trailer) (g : Region) (at region : ℕ) (carried : Key) (rows : List Row) : Type 0 where
+-- what stands from a place of the block on, as it is read: the rows of this region, and of those after it, of which row i is the first
+pub record Read (b : List ℕ) (t : Trailer) (g : Region) (n i at region : ℕ) (carried : Key) (rows : List Row) : Type 0 where
   pub here : List Keyed
   pub rest : List (List Keyed)
   pub rows-here : regionRows (t .size) (dataOf b t) g at carried ≡ ok here
   pub rows-then : regionsRows (t .count - suc region) b t (suc region) ≡ ok rest
   pub contents : map (contentOf (dataOf b t)) (here ++ allRows rest) ≡ map plainRow rows
+  pub parts : map (map (contentOf (dataOf b t))) (here ∷ rest) ≡ regionsFrom n i (map plainRow rows)
 
 -- row i after the key before: its bytes, what it shares, its suffix, and its places
 abbrev bytesOf : ℕ → ℕ → Key → Row → List ℕ
@@ -140,6 +142,15 @@ offsets-plain : (n i at : ℕ) (before : Key) (r : Row) (rs : List Row) → isRe
     → offsetsFrom n i at before (r ∷ rs) ≡ offsetsFrom n (suc i) (at + length (bytesOf n i before r)) (r .key) rs
 unfolding offsetsFrom
 offsets-plain n i at before r rs e = rw e
+
+-- a row before others, in their first region or in one of its own
+part-on : (n i : ℕ) (r y : Row) (ys : List Row) → isRestart n (suc i) ≡ false → putFirst r (regionsFrom n (suc i) (y ∷ ys)) ≡ regionsFrom n i (r ∷ (y ∷ ys))
+unfolding regionsFrom cutFrom
+part-on n i r y ys m = rw m
+
+part-new : (n i : ℕ) (r y : Row) (ys : List Row) → isRestart n (suc i) ≡ true → (r ∷ []) ∷ regionsFrom n (suc i) (y ∷ ys) ≡ regionsFrom n i (r ∷ (y ∷ ys))
+unfolding regionsFrom cutFrom
+part-new n i r y ys m = rw m
 
 module _ (b : List ℕ) (t : Trailer) (n : ℕ) (offs : List ℕ) (tell : OffsetsTell b t) (count : length offs ≡ t .count) (size : length (dataOf b t) ≡ t .size)
     (each : (i : ℕ) → i < length offs → offsetAt b t i ≡ getD offs i 0) where
@@ -214,14 +225,14 @@ module _ (b : List ℕ) (t : Trailer) (n : ℕ) (offs : List ℕ) (tell : Offset
     ends-at = ap (λ (x : List ℕ). at + length x) (sym (as-row n i before r))
 
   laid-reads : (rs : List Row) (i at region : ℕ) (before : Key) (r : Row) (g : Region) (carried : Key) → LaidAt i at region before r rs g carried → RowOk r → AllOk rs
-      → Read b t g at region carried (r ∷ rs)
+      → Read b t g n i at region carried (r ∷ rs)
   laid-reads [] i at region before r g carried l h a =
       go (cond (ltb (placesIn n i at before r .next) (g .end)) region (region + 1)) (past-row b t tell g at region before carried (placesIn n i at before r) (r .key) (l .stands) (is-read i at region before r [] g carried l h))
     where
       at-size : placesIn n i at before r .next ≡ t .size
       at-size = omega (arith, ends-at i at region before r [] g carried l h, total i at region before r [] g carried l h, rows-none n (suc i) (r .key))
 
-      go : (region′ : ℕ) → Next b t g (placesIn n i at before r .next) region (r .key) region′ → Read b t g at region carried (r ∷ [])
+      go : (region′ : ℕ) → Next b t g (placesIn n i at before r .next) region (r .key) region′ → Read b t g n i at region carried (r ∷ [])
       go region′ (stay s) = absurd (omega (arith, s .high, at-size, regionOf-tells b t region g (l .stands .used) .inside))
       go region′ (enter f e₁ e₂ s) = absurd (omega (arith, s .high, at-size, regionOf-tells b t (region + 1) f (s .used) .inside))
       go region′ (end e₁ over last) =
@@ -233,6 +244,7 @@ module _ (b : List ℕ) (t : Trailer) (n : ℕ) (offs : List ℕ) (tell : Offset
                 (region-over (t .size) (dataOf b t) g (placesIn n i at before r .next) (r .key) (omega arith));
             rows-then = no-more b t tell region last;
             contents = rw (allRows-none, content-is i at region before r [] g carried l h);
+            parts = rw (content-is i at region before r [] g carried l h) (unfold regionsFrom cutFrom in refl);
           }
   laid-reads (y ∷ ys) i at region before r g carried l h a =
       go (cond (ltb (placesIn n i at before r .next) (g .end)) region (region + 1))
@@ -267,8 +279,8 @@ module _ (b : List ℕ) (t : Trailer) (n : ℕ) (offs : List ℕ) (tell : Offset
 
       -- the next row is no restart: the region goes on
       goes-on : Stands b t g (placesIn n i at before r .next) region (r .key) (r .key) → isRestart n (suc i) ≡ false
-          → ((i at region : ℕ) (before : Key) (r : Row) (g : Region) (carried : Key) → LaidAt i at region before r ys g carried → RowOk r → AllOk ys → Read b t g at region carried (r ∷ ys))
-          → Read b t g at region carried (r ∷ (y ∷ ys))
+          → ((i at region : ℕ) (before : Key) (r : Row) (g : Region) (carried : Key) → LaidAt i at region before r ys g carried → RowOk r → AllOk ys → Read b t g n i at region carried (r ∷ ys))
+          → Read b t g n i at region carried (r ∷ (y ∷ ys))
       goes-on s m ih =
           let q =
           ih (suc i) (placesIn n i at before r .next) region (r .key) y g (r .key)
@@ -287,13 +299,14 @@ module _ (b : List ℕ) (t : Trailer) (n : ℕ) (offs : List ℕ) (tell : Offset
             rows-here = with-row (q .here) (q .rows-here);
             rows-then = q .rows-then;
             contents = rw (this, q .contents);
+            parts = rw this (ap (putFirst (plainRow r)) (q .parts) ∙ part-on n i (plainRow r) (plainRow y) (map plainRow ys) m);
           }
 
       -- it is: the next region starts there
       enters : (f : Region) → placesIn n i at before r .next ≡ g .end → placesIn n i at before r .next ≡ f .start → Stands b t f (placesIn n i at before r .next) (region + 1) (r .key) []
           → isRestart n (suc i) ≡ true
-          → ((i at region : ℕ) (before : Key) (r : Row) (g : Region) (carried : Key) → LaidAt i at region before r ys g carried → RowOk r → AllOk ys → Read b t g at region carried (r ∷ ys))
-          → Read b t g at region carried (r ∷ (y ∷ ys))
+          → ((i at region : ℕ) (before : Key) (r : Row) (g : Region) (carried : Key) → LaidAt i at region before r ys g carried → RowOk r → AllOk ys → Read b t g n i at region carried (r ∷ ys))
+          → Read b t g n i at region carried (r ∷ (y ∷ ys))
       enters f e₁ e₂ s m ih =
           let place : suc (region + 1) ≡ suc region + 1 = omega arith in
           let tail : drop (suc (region + 1)) offs ≡ offsetsFrom n (suc (suc i)) (placesIn n i at before r .next + length (bytesOf n (suc i) (r .key) y)) (y .key) ys =
@@ -308,11 +321,12 @@ module _ (b : List ℕ) (t : Trailer) (n : ℕ) (offs : List ℕ) (tell : Offset
             rows-here = with-row [] (region-over (t .size) (dataOf b t) g (placesIn n i at before r .next) (r .key) (omega arith));
             rows-then = one-more b t tell region f (q .here) (q .rest) (s .inside) (s .used) rows-next (q .rows-then);
             contents = rw (this, allRows-next (q .here) (q .rest), q .contents);
+            parts = rw this (ap (λ (x : List (List Row)). (plainRow r ∷ []) ∷ x) (q .parts) ∙ part-new n i (plainRow r) (plainRow y) (map plainRow ys) m);
           }
 
       go : (region′ : ℕ) → Next b t g (placesIn n i at before r .next) region (r .key) region′ → (x : Bool) → isRestart n (suc i) ≡ x
-          → ((i at region : ℕ) (before : Key) (r : Row) (g : Region) (carried : Key) → LaidAt i at region before r ys g carried → RowOk r → AllOk ys → Read b t g at region carried (r ∷ ys))
-          → Read b t g at region carried (r ∷ (y ∷ ys))
+          → ((i at region : ℕ) (before : Key) (r : Row) (g : Region) (carried : Key) → LaidAt i at region before r ys g carried → RowOk r → AllOk ys → Read b t g n i at region carried (r ∷ ys))
+          → Read b t g n i at region carried (r ∷ (y ∷ ys))
       go region′ (stay s) true m ih = absurd (omega (arith, s .high, ending ∙ ap (endOf (t .size)) (offsets-restart n (suc i) (placesIn n i at before r .next) (r .key) y ys m)))
       go region′ (stay s) false m ih = goes-on s m ih
       go region′ (enter f e₁ e₂ s) true m ih = enters f e₁ e₂ s m ih
@@ -335,6 +349,7 @@ pub record LaidBlock (b : List ℕ) (n : ℕ) (rows : List Row) : Type 0 where
   pub bytes : dataOf b t ≡ blockRows n rows
   pub count : t .count ≡ length (offsets n rows)
   pub contents : map (contentOf (dataOf b t)) (allRows regions) ≡ map plainRow rows
+  pub parts : map (map (contentOf (dataOf b t))) regions ≡ regionsFrom n 0 (map plainRow rows)
 
 pub laid-block : (n : ℕ) (r : Row) (rs : List Row) → AllOk (r ∷ rs) → AllFit (offsets n (r ∷ rs)) → LaidBlock (blockBytes n (r ∷ rs)) n (r ∷ rs)
 unfolding blockBytes
@@ -381,6 +396,7 @@ laid-block n r rs a f = made (trailer-laid (blockRows n (r ∷ rs)) (offsets n (
           bytes = tl .rows;
           count = refl;
           contents = ap (map (contentOf (dataOf b t))) (allRows-next (w .here) (w .rest)) ∙ w .contents;
+          parts = w .parts;
         }
       where
         whole : blockRows n (r ∷ rs) ≡ rowsFrom n 0 [] (r ∷ rs)

@@ -17,6 +17,7 @@ use Rattle.layout.specs.Trailer.{Trailer, trailerOf, dataOf, Region, regionOf, 
 use Rattle.layout.specs.Cursor.{descending, Cursor, cursorIs, Keyed, keyed}
 use Rattle.layout.specs.Seek.{Found, restartKey, restartBelow, lastEqual, startDown, lastAtOrBelow, doneDown, walkDown, soughtIs, seek}
 use Rattle.demands.specs.Reads.{regionRows, regionsRows, Reads, allRows, keysOf}
+use Rattle.demands.specs.AnyOrder.{withSome, through}
 use Rattle.layout.specs.Laws.Res.{bool-cases, ltb-cases, ok-inj, clash}
 use Rattle.layout.specs.Laws.Key.{AtMost, at-most-refl, below-false, le-below, below-le, same-is}
 use Rattle.layout.specs.Laws.Trailer.{RegionTells, regionOf-tells, trailerOf-tells}
@@ -40,42 +41,98 @@ last-on : (fuel : ℕ) (d : List ℕ) (g : Region) (target : Key) (at : ℕ) (be
 unfolding lastAtOrBelow
 last-on fuel d g target at before best r h p = rw (lt-ltb at (g .end) h, p)
 
--- where the last row at or below the target ends: of keys that never fall these rows come first
-pub last-ends : (fuel : ℕ) (d : List ℕ) (g : Region) (target : Key) (at : ℕ) (before : Key) (best : ℕ) (a : Key) (ks : List Keyed) (left : ℕ) → g .end ≤ at + fuel → g .end ≤ at + left
-    → regionRows left d g at before ≡ ok ks → NeverFall a ks → lastAtOrBelow fuel d g target at before best ≡ ok (endsAt best (take (leading (notAbove target) (keysOf ks)) ks))
-last-ends zero d g target at before best a ks left h n p o =
-    let none : ks ≡ [] = ok-inj (sym p ∙ region-over left d g at before (omega arith)) in
-    last-over zero d g target at before best (omega arith) ∙ rw none (ap ok (nothing best (leading (notAbove target) [])))
+-- how many rows there are up to the last at or below the target
+through-above : (target k : Key) (ks : List Key) → below target k ≡ true → through target (k ∷ ks) ≡ withSome (through target ks)
+unfolding through
+through-above target k ks e = rw e
+
+pub through-step : (target k : Key) (ks : List Key) → below target k ≡ false → through target (k ∷ ks) ≡ suc (through target ks)
+unfolding through
+through-step target k ks e = rw e
+
+pub through-most : (target : Key) (ks : List Keyed) → through target (keysOf ks) ≤ length ks
+through-most target [] = unfold through in zero-le
+through-most target (k ∷ ks) =
+    ⊎-elim
+    (λ e. rw (through-above target (k .key) (keysOf ks) e) (go (through target (keysOf ks)) (through-most target ks)))
+    (λ e. rw (through-step target (k .key) (keysOf ks) e) (omega (arith, through-most target ks)))
+    (bool-cases (below target (k .key)))
   where
-    nothing : (best n : ℕ) → best ≡ endsAt best (take n [])
-    nothing best n = rw (take-nil {A = Keyed} n) (unfold endsAt in refl)
-last-ends (suc fuel) d g target at before best a ks left h n p o =
+    go : (n : ℕ) → n ≤ length ks → withSome n ≤ suc (length ks)
+    go zero h = zero-le
+    go (suc n) h = omega arith
+
+-- of keys that never fall these rows come first
+through-leading : (target a : Key) (ks : List Keyed) → NeverFall a ks → through target (keysOf ks) ≡ leading (notAbove target) (keysOf ks)
+through-leading target a [] o = unfold through leading in refl
+through-leading target a (k ∷ ks) o =
+    ⊎-elim
+    (λ e.
+    let z : through target (keysOf ks) ≡ 0 = through-leading target (k .key) ks (o .1) ∙ above-on target (k .key) ks (o .1) e in
+    through-above target (k .key) (keysOf ks) e ∙ rw z (sym (leading-stop (notAbove target) k ks (ap not e))))
+    (λ e. through-step target (k .key) (keysOf ks) e ∙ ap suc (through-leading target (k .key) ks (o .1)) ∙ sym (leading-step (notAbove target) k ks (ap not e)))
+    (bool-cases (below target (k .key)))
+
+ends-nothing : (best n : ℕ) → best ≡ endsAt best (take n [])
+ends-nothing best n = rw (take-nil {A = Keyed} n) (unfold endsAt in refl)
+
+-- where they end: one above the target counts only where such a row follows
+ends-skip : (best : ℕ) (k : Keyed) (ks : List Keyed) (n : ℕ) → n ≤ length ks → endsAt best (take n ks) ≡ endsAt best (take (withSome n) (k ∷ ks))
+unfolding endsAt
+ends-skip best k ks zero h = refl
+ends-skip best k [] (suc n) h = absurd (omega arith)
+ends-skip best k (x ∷ xs) (suc n) h = refl
+
+-- where the last row at or below the target ends
+pub last-ends : (fuel : ℕ) (d : List ℕ) (g : Region) (target : Key) (at : ℕ) (before : Key) (best : ℕ) (ks : List Keyed) (left : ℕ) → g .end ≤ at + fuel → g .end ≤ at + left
+    → regionRows left d g at before ≡ ok ks → lastAtOrBelow fuel d g target at before best ≡ ok (endsAt best (take (through target (keysOf ks)) ks))
+last-ends zero d g target at before best ks left h n p =
+    let none : ks ≡ [] = ok-inj (sym p ∙ region-over left d g at before (omega arith)) in
+    last-over zero d g target at before best (omega arith) ∙ rw none (ap ok (ends-nothing best (through target [])))
+last-ends (suc fuel) d g target at before best ks left h n p =
     region-at left d g at before ks p n
-    (λ over is. last-over (suc fuel) d g target at before best over ∙ rw is (ap ok (nothing best (leading (notAbove target) []))))
+    (λ over is. last-over (suc fuel) d g target at before best over ∙ rw is (ap ok (ends-nothing best (through target []))))
     (λ r qs m lt u more enough is.
     let w = rowIn-ends d g at (length before) r u in
-    let o′ : NeverFall a (keyed r (keyOf d before r) ∷ qs) = rw is at o in
     last-on fuel d g target at before best r lt u
-    ∙ rw is (go r qs (below target (keyOf d before r)) refl (o′ .1) (λ best. last-ends fuel d g target (r .next) (keyOf d before r) best (keyOf d before r) qs m (omega (arith, w .least)) enough more (o′ .1))))
+    ∙ rw is (go r qs (below target (keyOf d before r)) refl (λ best. last-ends fuel d g target (r .next) (keyOf d before r) best qs m (omega (arith, w .least)) enough more)))
   where
-    nothing : (best n : ℕ) → best ≡ endsAt best (take n [])
-    nothing best n = rw (take-nil {A = Keyed} n) (unfold endsAt in refl)
-
-    go : (r : RowRead) (qs : List Keyed) (t : Bool) → below target (keyOf d before r) ≡ t → NeverFall (keyOf d before r) qs
-        → ((best : ℕ) → lastAtOrBelow fuel d g target (r .next) (keyOf d before r) best ≡ ok (endsAt best (take (leading (notAbove target) (keysOf qs)) qs)))
+    go : (r : RowRead) (qs : List Keyed) (t : Bool) → below target (keyOf d before r) ≡ t
+        → ((best : ℕ) → lastAtOrBelow fuel d g target (r .next) (keyOf d before r) best ≡ ok (endsAt best (take (through target (keysOf qs)) qs)))
         → lastAtOrBelow fuel d g target (r .next) (keyOf d before r) (cond (below target (keyOf d before r)) best (r .next))
-        ≡ ok (endsAt best (take (leading (notAbove target) (keysOf (keyed r (keyOf d before r) ∷ qs))) (keyed r (keyOf d before r) ∷ qs)))
-    go r qs true e o ih =
-        let z : leading (notAbove target) (keysOf qs) ≡ 0 = above-on target (keyOf d before r) qs o e in
-        rw (e, leading-stop (notAbove target) (keyed r (keyOf d before r)) qs (ap not e)) (ih best ∙ rw z)
-    go r qs false e o ih =
-        rw (e, leading-step (notAbove target) (keyed r (keyOf d before r)) qs (ap not e)) (ih (r .next) ∙ (unfold endsAt in refl))
+        ≡ ok (endsAt best (take (through target (keysOf (keyed r (keyOf d before r) ∷ qs))) (keyed r (keyOf d before r) ∷ qs)))
+    go r qs true e ih =
+        rw (e, through-above target (keyOf d before r) (keysOf qs) e)
+        (ih best ∙ ap ok (ends-skip best (keyed r (keyOf d before r)) qs (through target (keysOf qs)) (through-most target qs)))
+    go r qs false e ih =
+        rw (e, through-step target (keyOf d before r) (keysOf qs) e) (ih (r .next) ∙ (unfold endsAt in refl))
 
 -- ---- the landing
 
 pub data LandsDown (b : List ℕ) (t : Trailer) (target : Key) (rows : List Keyed) : Res Cursor → Type 0 where
   lands : (c : Cursor) → 0 < leading (notAbove target) (keysOf rows) → After b t c (take (leading (notAbove target) (keysOf rows)) rows) → LandsDown b t target rows (ok c)
   passes : leading (notAbove target) (keysOf rows) ≡ 0 → LandsDown b t target rows (ok doneDown)
+
+-- a cursor that stands after some rows of a region, and all of the regions before
+pub stands-after : (b : List ℕ) (t : Trailer) (region : ℕ) (g : Region) (fs : List (List Keyed)) (ks : List Keyed) (j : ℕ) → trailerOf b ≡ ok t → region < t .count → regionOf b t region ≡ ok g
+    → Front b t region fs → regionRows (t .size) (dataOf b t) g (g .start) [] ≡ ok ks → After b t (cursorIs descending region (endsAt (g .start) (take j ks)) [] false) (allRows fs ++ take j ks)
+stands-after b t region g fs ks j e h u front p =
+    record {
+      g = g;
+      fs = fs;
+      ps = take j ks;
+      qs = drop j ks;
+      goes-down = refl;
+      unmarked = refl;
+      trailer-good = e;
+      inside = h;
+      fits = zero-le;
+      used = u;
+      front = front;
+      rows-here = p ∙ ap ok (sym (take-append-drop j ks));
+      stands = refl;
+      are = refl;
+    }
 
 -- what the region that the seek starts in must be: its restart at or below the target and what follows the region above it, or the first of all above it
 pub record Starts (b : List ℕ) (t : Trailer) (target : Key) (rows : List Keyed) (region : ℕ) : Type 0 where
@@ -84,7 +141,7 @@ pub record Starts (b : List ℕ) (t : Trailer) (target : Key) (rows : List Keyed
   pub fit : (AtMost (split .k .key) target × (leading (notAbove target) (keysOf (allRows (split .rest))) ≡ 0)) ⊎ ((region ≡ 0) × (below target (split .k .key) ≡ true))
 
 -- rows end later than the place that they are read from
-ends-later : (left : ℕ) (d : List ℕ) (g : Region) (at : ℕ) (before : Key) (ks : List Keyed) (n : ℕ) → regionRows left d g at before ≡ ok ks → g .end ≤ at + left → 0 < length ks
+pub ends-later : (left : ℕ) (d : List ℕ) (g : Region) (at : ℕ) (before : Key) (ks : List Keyed) (n : ℕ) → regionRows left d g at before ≡ ok ks → g .end ≤ at + left → 0 < length ks
     → at < endsAt at (take (suc n) ks)
 ends-later left d g at before [] n p h s = absurd (omega arith)
 ends-later left d g at before (k ∷ ks) n p h s =
@@ -153,8 +210,8 @@ starts-lands b t target rows region e o st = ⊎-elim (λ f. here (f .0) (f .1))
     best : lastAtOrBelow (t .size) (dataOf b t) (s .g) target (s .g .start) [] (s .g .start) ≡ ok (endsAt (s .g .start) (take j K))
     best =
         let q = falls-on [] (allRows (s .fs)) (K ++ allRows (s .rest)) o₁ in
-        last-ends (t .size) (dataOf b t) (s .g) target (s .g .start) [] (s .g .start) (q .0) K (t .size) (omega (arith, tells .inside)) (omega (arith, tells .inside)) (s .rows-here)
-        (falls-first (q .0) K (allRows (s .rest)) (q .1))
+        last-ends (t .size) (dataOf b t) (s .g) target (s .g .start) [] (s .g .start) K (t .size) (omega (arith, tells .inside)) (omega (arith, tells .inside)) (s .rows-here)
+        ∙ rw (through-leading target (q .0) K (falls-first (q .0) K (allRows (s .rest)) (q .1)))
 
     -- the restart is at or below: the region holds the row
     here : AtMost (s .k .key) target → leading (notAbove target) (keysOf (allRows (s .rest))) ≡ 0 → LandsDown b t target rows (walkDown (suc region) b t target region)
@@ -168,24 +225,10 @@ starts-lands b t target rows region e o st = ⊎-elim (λ f. here (f .0) (f .1))
         rw j-is (ends-later (t .size) (dataOf b t) (s .g) (s .g .start) [] K (leading (notAbove target) (keysOf (s .ks))) (s .rows-here) (omega (arith, tells .inside)) (omega arith)) in
         let most : j ≤ length K = leading-most (notAbove target) K in
         let c : Cursor = cursorIs descending region (endsAt (s .g .start) (take j K)) [] false in
+        let left : take (leading (notAbove target) (keysOf rows)) rows ≡ allRows (s .fs) ++ take j K =
+        ap (λ (m : ℕ). take m rows) n ∙ ap (take (length (allRows (s .fs)) + j)) (s .are) ∙ take-part (allRows (s .fs)) K (allRows (s .rest)) j most in
         rw (← falling-found b t target region region (falling-start b t target region) (s .g) (s .used) (endsAt (s .g .start) (take j K)) best later)
-        (lands c (omega arith)
-        (record {
-          g = s .g;
-          fs = s .fs;
-          ps = take j K;
-          qs = drop j K;
-          goes-down = refl;
-          unmarked = refl;
-          trailer-good = e;
-          inside = st .inside;
-          fits = zero-le;
-          used = s .used;
-          front = s .front;
-          rows-here = s .rows-here ∙ ap ok (sym (take-append-drop j K));
-          stands = refl;
-          are = ap (λ (m : ℕ). take m rows) n ∙ ap (take (length (allRows (s .fs)) + j)) (s .are) ∙ take-part (allRows (s .fs)) K (allRows (s .rest)) j most;
-        }))
+        (lands c (omega arith) (rw left (stands-after b t region (s .g) (s .fs) K j e (st .inside) (s .used) (s .front) (s .rows-here))))
 
     -- the first row of all is above: none is left
     above : (region ≡ 0) × (below target (s .k .key) ≡ true) → LandsDown b t target rows (walkDown (suc region) b t target region)
@@ -199,16 +242,16 @@ starts-lands b t target rows region e o st = ⊎-elim (λ f. here (f .0) (f .1))
 
 -- ---- where the seek starts
 
-equal-on : (left : ℕ) (b : List ℕ) (t : Trailer) (target : Key) (i : ℕ) (k : Key) → i + 1 < t .count → restartKey b t (i + 1) ≡ ok k → same k target ≡ true
+pub equal-on : (left : ℕ) (b : List ℕ) (t : Trailer) (target : Key) (i : ℕ) (k : Key) → i + 1 < t .count → restartKey b t (i + 1) ≡ ok k → same k target ≡ true
     → lastEqual (suc left) b t target i ≡ lastEqual left b t target (i + 1)
 unfolding lastEqual
 equal-on left b t target i k h e q = rw (lt-ltb (i + 1) (t .count) h, e, q)
 
-equal-ends : (left : ℕ) (b : List ℕ) (t : Trailer) (target : Key) (i : ℕ) (k : Key) → i + 1 < t .count → restartKey b t (i + 1) ≡ ok k → same k target ≡ false → lastEqual (suc left) b t target i ≡ ok i
+pub equal-ends : (left : ℕ) (b : List ℕ) (t : Trailer) (target : Key) (i : ℕ) (k : Key) → i + 1 < t .count → restartKey b t (i + 1) ≡ ok k → same k target ≡ false → lastEqual (suc left) b t target i ≡ ok i
 unfolding lastEqual
 equal-ends left b t target i k h e q = rw (lt-ltb (i + 1) (t .count) h, e, q)
 
-equal-over : (left : ℕ) (b : List ℕ) (t : Trailer) (target : Key) (i : ℕ) → t .count ≤ i + 1 → lastEqual left b t target i ≡ ok i
+pub equal-over : (left : ℕ) (b : List ℕ) (t : Trailer) (target : Key) (i : ℕ) → t .count ≤ i + 1 → lastEqual left b t target i ≡ ok i
 unfolding lastEqual
 equal-over zero b t target i h = refl
 equal-over (suc left) b t target i h = rw (le-ltb (i + 1) (t .count) h)

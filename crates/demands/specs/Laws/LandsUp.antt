@@ -232,7 +232,7 @@ pub record SeeksUp (b : List ℕ) (t : Trailer) (target : Key) (rows : List Keye
   pub landing : LandsUp b t target rows (ok c)
 
 -- a landing is a cursor
-landed : (b : List ℕ) (t : Trailer) (target : Key) (rows : List Keyed) (x : Res Cursor) → LandsUp b t target rows x → (c : Cursor) × (x ≡ ok c)
+pub landed : (b : List ℕ) (t : Trailer) (target : Key) (rows : List Keyed) (x : Res Cursor) → LandsUp b t target rows x → (c : Cursor) × (x ≡ ok c)
 landed b t target rows x (lands c h q) = (c, refl)
 landed b t target rows x (passes q) = (doneUp t, refl)
 
