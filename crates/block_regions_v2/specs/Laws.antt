@@ -35,7 +35,7 @@ use Rattle.basics.specs.declared.Refusal.{Refusal}
 use Rattle.basics.specs.declared.Refusal.the-variants.{BadState, KeyBufferTooShort}
 use Rattle.row_decode_v2.specs.Says.{rowFrom}
 use Rattle.row_decode_v2.specs.declared.Row.{Row}
-use Rattle.row_span_v2.specs.Promise.{refusedWith, RefusesAt}
+use Rattle.row_span_v2.specs.Promise.{refusedWith, RefusesIn}
 use Rattle.trailer.specs.Says.{regionFrom}
 use Rattle.trailer.specs.declared.Region.{Region as RegionC}
 use Rattle.block_regions_v2.specs.declared.Ended.{Ended as EndedC}
@@ -168,7 +168,7 @@ module _ (d : List ℕ) (g : RegionC) (target key : List ℕ) where
           }
 
   module _ (inside : g .end ≤ length d) (h : Halted) (w : Halts d (regionFrom g) target h) where
-    pub into-no : not (h .good) ≡ true → {x : Refusal} → RefusesAt d (h .at) (g .end) (h .len) (eqb (h .at) (g .start)) x
+    pub into-no : not (h .good) ≡ true → {x : Refusal} → RefusesIn d (h .at) (g .start) (g .end) (h .len) x
         → WalksInto d g target key (PlaceRefused x) key
     into-no bad {x} f = go (rowIn d (regionFrom g) (h .at) (h .len)) refl
       where

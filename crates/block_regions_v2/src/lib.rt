@@ -98,8 +98,7 @@ fn rebuild_key(
     let mut at = from;
     let mut len = from_len;
     while at < stop {
-        let fresh = at == region.start;
-        let row = row_span_v2::span_at(data, at, region.end, len, fresh);
+        let row = row_span_v2::span_in(data, at, region.start, region.end, len);
         // Never taken: the rows were read before.
         if row.next == 0 {
             return;
@@ -144,8 +143,7 @@ fn walk_place(data: &[u8], region: Region, target: &[u8]) -> Halted
     let mut from = region.start;
     let mut from_len: usize = 0;
     while at < region.end {
-        let fresh = at == region.start;
-        let row = row_span_v2::span_at(data, at, region.end, len, fresh);
+        let row = row_span_v2::span_in(data, at, region.start, region.end, len);
         if row.next == 0 {
             return halt(at, len, from, from_len, false);
         }
@@ -184,8 +182,7 @@ pub fn walk_into(data: &[u8], region: Region, target: &[u8], key: &mut [u8]) -> 
     let at = there.at;
     let key_len = there.len;
     if !there.good {
-        let fresh = at == region.start;
-        let refusal = row_span_v2::refusal_at(data, at, region.end, key_len, fresh);
+        let refusal = row_span_v2::refusal_in(data, at, region.start, region.end, key_len);
         return PlaceRead::Refused(refusal);
     }
     if region.end <= at {
@@ -221,10 +218,9 @@ pub fn last_at_or_below(data: &[u8], region: Region, target: &[u8]) -> LastRead
     let mut above = false;
     let mut best = region.start;
     while at < region.end {
-        let fresh = at == region.start;
-        let row = row_span_v2::span_at(data, at, region.end, len, fresh);
+        let row = row_span_v2::span_in(data, at, region.start, region.end, len);
         if row.next == 0 {
-            let refusal = row_span_v2::refusal_at(data, at, region.end, len, fresh);
+            let refusal = row_span_v2::refusal_in(data, at, region.start, region.end, len);
             return LastRead::Refused(refusal);
         }
         let from = row.suffix_at;
@@ -285,8 +281,7 @@ fn reach(data: &[u8], region: Region, stop: usize) -> Reached
         len: 0,
     };
     loop {
-        let fresh = at == region.start;
-        let row = row_span_v2::span_at(data, at, region.end, len, fresh);
+        let row = row_span_v2::span_in(data, at, region.start, region.end, len);
         if row.next == 0 {
             return Reached { at, len, known };
         }
@@ -329,8 +324,7 @@ pub fn row_ending_at(data: &[u8], region: Region, stop: usize, out: &mut [u8]) -
     }
     let there = reach(data, region, stop);
     let at = there.at;
-    let fresh = at == region.start;
-    let read = row_span_v2::row_at(data, at, region.end, there.len, fresh);
+    let read = row_span_v2::row_in(data, at, region.start, region.end, there.len);
     let RowRead::Read(row) = read else {
         return Ended::Refused(row_decode_v2::row_refusal(read));
     };

@@ -21,10 +21,10 @@ abbrev μ-loop : tie.MeasureT-loop
 
 -- what the row that a turn read tells
 module _ (k : tie.Else3 Inv-loop μ-loop) where
-  tells : let l = k .before .before .before .before .before .before in
+  tells : let l = k .before .before .before .before .before in
       let a = l .before .before .before .before .before .args in
-      SpanTells (a .«data» .now) (l .loop .at) (a .region .end) (l .loop .len) (spanFrom (k .before .before .span-at .result))
-  tells = span-tells _ _ _ _ _ _ (k .before .before .span-at .ensures) (k .if3 .left)
+      SpanTells (a .«data» .now) (l .loop .at) (a .region .end) (l .loop .len) (spanFrom (k .before .before .span-in .result))
+  tells = span-tells _ _ _ _ _ _ (k .before .before .span-in .ensures) (k .if3 .left)
 
 returns : tie.Need-returns Inv-loop μ-loop
 returns c = last-strange _ _ _ (c .if1 .taken)
@@ -35,8 +35,8 @@ loop-holds c = down-start _ _ _ _ (c .if1 .left)
 returns-2 : tie.Need-returns-2 Inv-loop μ-loop
 returns-2 c =
     let k = c .before .before in
-    let l = k .before .before .before .before .before in
-    down-no _ _ _ _ _ _ _ _ _ (l .loop .inv) (k .before .before .before .if2 .taken) (span-refusal _ _ _ _ _ (spanFrom (k .before .span-at .result)) (k .before .span-at .ensures) (c .before .if3 .taken) (c .refusal-at .ensures))
+    let l = k .before .before .before .before in
+    down-no _ _ _ _ _ _ _ _ _ (l .loop .inv) (k .before .before .if2 .taken) (span-refusal _ _ _ _ _ (spanFrom (k .before .span-in .result)) (k .before .span-in .ensures) (c .before .if3 .taken) (c .refusal-in .ensures))
     ∙ last-there _ _ _ (l .before .if1 .left)
 
 add-to : tie.Need-add-to Inv-loop μ-loop
@@ -61,8 +61,8 @@ loop-again : tie.Need-loop-again Inv-loop μ-loop
 loop-again c =
     let q = c .before .before in
     let k = c .before .before .before .before .before in
-    let l = k .before .before .before .before .before .before in
-    turn-down _ _ _ _ _ _ _ _ _ (l .loop .inv) (k .before .before .before .before .if2 .taken) (spanFrom (k .before .before .span-at .result)) (k .before .before .span-at .ensures) (k .if3 .left) (q .match-down .ensures .len-is) (q .match-down .ensures .below-is) (c .later .ensures)
+    let l = k .before .before .before .before .before in
+    turn-down _ _ _ _ _ _ _ _ _ (l .loop .inv) (k .before .before .before .if2 .taken) (spanFrom (k .before .before .span-in .result)) (k .before .before .span-in .ensures) (k .if3 .left) (q .match-down .ensures .len-is) (q .match-down .ensures .below-is) (c .later .ensures)
 
 returns-3 : tie.Need-returns-3 Inv-loop μ-loop
 returns-3 c = let l = c .before .before in down-over _ _ _ _ _ _ _ _ _ (l .loop .inv) (c .if2 .left) ∙ last-there _ _ _ (l .before .if1 .left)

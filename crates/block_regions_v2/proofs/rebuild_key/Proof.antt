@@ -22,10 +22,10 @@ abbrev μ-loop : tie.MeasureT-loop
 
 -- what the row that a turn read tells
 module _ (k : tie.Else2 Inv-loop μ-loop) where
-  tells : let l = k .before .before .before .before .before in
+  tells : let l = k .before .before .before .before in
       let a = l .before .before .before .before .args in
-      SpanTells (a .«data» .now) (l .loop .at) (a .region .end) (l .loop .len) (spanFrom (k .before .before .span-at .result))
-  tells = span-tells _ _ _ _ _ _ (k .before .before .span-at .ensures) (k .if2 .left)
+      SpanTells (a .«data» .now) (l .loop .at) (a .region .end) (l .loop .len) (spanFrom (k .before .before .span-in .result))
+  tells = span-tells _ _ _ _ _ _ (k .before .before .span-in .ensures) (k .if2 .left)
 
 returns : tie.Need-returns Inv-loop μ-loop
 returns c = λ wanted f. filling-none wanted _ (c .if1 .taken)
@@ -34,7 +34,7 @@ loop-holds : tie.Need-loop-holds Inv-loop μ-loop
 loop-holds c = (λ wanted f. f, refl)
 
 returns-2 : tie.Need-returns-2 Inv-loop μ-loop
-returns-2 c = λ wanted f. filling-read _ _ _ wanted _ _ _ (c .before .before .before .before .before .loop .inv .0 wanted f) (c .before .before .before .before .loop-test .taken) (spanFrom (c .before .before .span-at .result)) (c .before .before .span-at .ensures) (c .if2 .taken)
+returns-2 c = λ wanted f. filling-read _ _ _ wanted _ _ _ (c .before .before .before .before .loop .inv .0 wanted f) (c .before .before .before .loop-test .taken) (spanFrom (c .before .before .span-in .result)) (c .before .before .span-in .ensures) (c .if2 .taken)
 
 add-end : tie.Need-add-end Inv-loop μ-loop
 add-end c = omega (arith, tells (c .before) .suffix)
@@ -55,7 +55,7 @@ loop-less : tie.Need-loop-less Inv-loop μ-loop
 loop-less c = let w = tells (c .before .before .before .before .before .before .before) in omega (arith, w .least, w .within)
 
 loop-again : tie.Need-loop-again Inv-loop μ-loop
-loop-again c = (λ wanted f. filling-more _ _ _ wanted _ _ _ (c .before .before .before .before .before .before .before .before .before .before .before .before .loop .inv .0 wanted f) (c .before .before .before .before .before .before .before .before .before .before .before .loop-test .taken) (spanFrom (c .before .before .before .before .before .before .before .before .before .span-at .result)) (c .before .before .before .before .before .before .before .before .before .span-at .ensures) (c .before .before .before .put-clipped .ensures), search needs)
+loop-again c = (λ wanted f. filling-more _ _ _ wanted _ _ _ (c .before .before .before .before .before .before .before .before .before .before .before .loop .inv .0 wanted f) (c .before .before .before .before .before .before .before .before .before .before .loop-test .taken) (spanFrom (c .before .before .before .before .before .before .before .before .before .span-in .result)) (c .before .before .before .before .before .before .before .before .before .span-in .ensures) (c .before .before .before .put-clipped .ensures), search needs)
 
 returns-3 : tie.Need-returns-3 Inv-loop μ-loop
 returns-3 c = λ wanted f. let l = c .before in filling-over _ _ _ wanted _ _ _ (l .loop .inv .0 wanted f) (c .loop-test .left) ∙ ap (λ (n : ℕ). take n wanted) (l .loop .inv .1)

@@ -16,28 +16,28 @@ use Rattle.block_regions_v2.proofs.row_ending_at.Tie as tie
 
 -- the row that was read
 module _ (k : tie.After-known-told) where
-  read : let a = k .before .before .before .before .before .before .before .before .before .before .args in
-      let q = k .before .before .before .before .before .reach .result in
+  read : let a = k .before .before .before .before .before .before .before .before .before .args in
+      let q = k .before .before .before .before .reach .result in
       rowIn (a .«data» .now) (regionFrom (a .region)) (q .at) (q .len) ≡ ok (rowFrom (k .before .read .given .0 .0))
-  read = yes saysRow (k .before .before .before .row-at .ensures) (k .before .read .given .1)
+  read = yes saysRow (k .before .before .before .row-in .ensures) (k .before .read .given .1)
 
 returns : tie.Need-returns
 returns c = gives-not refl (ending-none _ _ _ _ (c .if1 .taken))
 
 returns-2 : tie.Need-returns-2
-returns-2 c = ended-no _ _ _ _ (c .before .before .before .before .before .before .if1 .left) (c .before .before .before .before .before .reach .result) (c .before .before .before .before .before .reach .ensures) (no saysRow refusalOfRow (c .before .before .before .row-at .ensures) (c .before .enum-told .given .1) refl (c .row-refusal .ensures))
+returns-2 c = ended-no _ _ _ _ (c .before .before .before .before .before .if1 .left) (c .before .before .before .before .reach .result) (c .before .before .before .before .reach .ensures) (no saysRow refusalOfRow (c .before .before .before .row-in .ensures) (c .before .enum-told .given .1) refl (c .row-refusal .ensures))
 
 returns-3 : tie.Need-returns-3
-returns-3 c = let k = c .before .before in ended-past _ _ _ _ (k .before .before .before .before .before .before .if1 .left) (k .before .before .before .before .before .reach .result) (k .before .before .before .before .before .reach .ensures) (k .before .read .given .0 .0) (read k) (c .if2 .taken)
+returns-3 c = let k = c .before .before in ended-past _ _ _ _ (k .before .before .before .before .before .if1 .left) (k .before .before .before .before .reach .result) (k .before .before .before .before .reach .ensures) (k .before .read .given .0 .0) (read k) (c .if2 .taken)
 
 add-if3 : tie.Need-add-if3
 add-if3 c = omega (arith, readRow-ends _ _ _ _ _ _ (read (c .before .before .before)) .fits)
 
 returns-4 : tie.Need-returns-4
-returns-4 c = let k = c .before .before .before .before in ended-short _ _ _ _ (k .before .before .before .before .before .before .if1 .left) (k .before .before .before .before .before .reach .result) (k .before .before .before .before .before .reach .ensures) (k .before .read .given .0 .0) (read k) (c .before .before .if2 .left) (c .if3 .taken)
+returns-4 c = let k = c .before .before .before .before in ended-short _ _ _ _ (k .before .before .before .before .before .if1 .left) (k .before .before .before .before .reach .result) (k .before .before .before .before .reach .ensures) (k .before .read .given .0 .0) (read k) (c .before .before .if2 .left) (c .if3 .taken)
 
 add-end : tie.Need-add-end
-add-end c = let s = c .before .before .before .before .before .before .before .before .before .before .before .before .before .before .before .before .before .before .before in omega (arith, readRow-ends _ _ _ _ _ _ (read (c .before .before .before .before .before .before .before .before .before)) .suffix, s .fits)
+add-end c = let s = c .before .before .before .before .before .before .before .before .before .before .before .before .before .before .before .before .before .before in omega (arith, readRow-ends _ _ _ _ _ _ (read (c .before .before .before .before .before .before .before .before .before)) .suffix, s .fits)
 
 part-copy-in-end : tie.Need-part-copy-in-end
 part-copy-in-end c =
@@ -46,12 +46,12 @@ part-copy-in-end c =
 returns-5 : tie.Need-returns-5
 returns-5 c =
     let k = c .before .before .before .before .before .before .before .before .before .before .before .before .before .before in
-    let a = k .before .before .before .before .before .before .before .before .before .before .args in
+    let a = k .before .before .before .before .before .before .before .before .before .args in
     let r = k .before .read .given .0 .0 in
-    let there = k .before .before .before .before .before .reach .ensures in
-    let shares = ended-shares _ _ _ (a .out .now) (k .before .before .before .before .before .before .if1 .left) (k .before .before .before .before .before .reach .result) there r (read k) in
-    ended-put _ _ _ (a .out .now) (k .before .before .before .before .before .before .if1 .left) (k .before .before .before .before .before .reach .result) there r (read k) (c .before .before .before .before .before .before .before .before .before .before .before .before .if2 .left) (c .before .before .before .before .before .before .before .before .before .before .if3 .left)
-    (c .before .before .before .before .before .before .before .before .put-shared .ensures _ (stands _ _ _ (a .out .now) (k .before .before .before .before .before .before .if1 .left) (k .before .before .before .before .before .reach .result) there) shares) (copied (omega (arith, part-most (a .«data» .now) (r .«suffix_at») (r .«suffix_len»), c .before .before .before .before .before .before .before .before .before .before .if3 .left)) (c .before .before .copy-in .ensures))
+    let there = k .before .before .before .before .reach .ensures in
+    let shares = ended-shares _ _ _ (a .out .now) (k .before .before .before .before .before .if1 .left) (k .before .before .before .before .reach .result) there r (read k) in
+    ended-put _ _ _ (a .out .now) (k .before .before .before .before .before .if1 .left) (k .before .before .before .before .reach .result) there r (read k) (c .before .before .before .before .before .before .before .before .before .before .before .before .if2 .left) (c .before .before .before .before .before .before .before .before .before .before .if3 .left)
+    (c .before .before .before .before .before .before .before .before .put-shared .ensures _ (stands _ _ _ (a .out .now) (k .before .before .before .before .before .if1 .left) (k .before .before .before .before .reach .result) there) shares) (copied (omega (arith, part-most (a .«data» .now) (r .«suffix_at») (r .«suffix_len»), c .before .before .before .before .before .before .before .before .before .before .if3 .left)) (c .before .before .copy-in .ensures))
 
 pub row-ending-at-spec : {M : Type 1} → statement M
 row-ending-at-spec =

@@ -12,7 +12,7 @@ returns : tie.Need-returns
 returns c = into-strange _ _ _ _ (c .if1 .taken)
 
 returns-2 : tie.Need-returns-2
-returns-2 c = into-no _ _ _ _ (c .before .before .before .before .before .if1 .left) (c .before .before .before .before .walk-place .result) (c .before .before .before .before .walk-place .ensures) (c .before .before .if2 .taken) (c .refusal-at .ensures)
+returns-2 c = into-no _ _ _ _ (c .before .before .before .before .if1 .left) (c .before .before .before .walk-place .result) (c .before .before .before .walk-place .ensures) (c .before .if2 .taken) (c .refusal-in .ensures)
 
 returns-3 : tie.Need-returns-3
 returns-3 c = into-end _ _ _ _ (c .before .before .before .before .before .if1 .left) (c .before .before .before .before .walk-place .result) (c .before .before .before .before .walk-place .ensures) (c .before .before .if2 .left) (c .if3 .taken)

@@ -21,16 +21,16 @@ abbrev μ-loop : tie.MeasureT-loop
 
 -- what the row that a turn read tells
 module _ (k : tie.Else2 Inv-loop μ-loop) where
-  tells : let l = k .before .before .before .before .before .before in
+  tells : let l = k .before .before .before .before .before in
       let a = l .before .before .before .args in
-      SpanTells (a .«data» .now) (l .loop .at) (a .region .end) (l .loop .len) (spanFrom (k .before .before .span-at .result))
-  tells = span-tells _ _ _ _ _ _ (k .before .before .span-at .ensures) (k .if2 .left)
+      SpanTells (a .«data» .now) (l .loop .at) (a .region .end) (l .loop .len) (spanFrom (k .before .before .span-in .result))
+  tells = span-tells _ _ _ _ _ _ (k .before .before .span-in .ensures) (k .if2 .left)
 
 loop-holds : tie.Need-loop-holds Inv-loop μ-loop
 loop-holds c = climbing-start _ _ _ _ (c .before .before .pre)
 
 returns : tie.Need-returns Inv-loop μ-loop
-returns c = halts-no _ _ _ _ _ _ _ _ (c .before .before .before .before .before .before .before .loop .inv) (c .before .before .before .before .before .if1 .taken) (spanFrom (c .before .before .before .span-at .result)) (c .before .before .before .span-at .ensures) (c .before .if2 .taken) (c .halt .ensures)
+returns c = halts-no _ _ _ _ _ _ _ _ (c .before .before .before .before .before .before .loop .inv) (c .before .before .before .before .if1 .taken) (spanFrom (c .before .before .before .span-in .result)) (c .before .before .before .span-in .ensures) (c .before .if2 .taken) (c .halt .ensures)
 
 add-end : tie.Need-add-end Inv-loop μ-loop
 add-end c = omega (arith, tells (c .before) .suffix)
@@ -45,7 +45,7 @@ part-match-up-end : tie.Need-part-match-up-end Inv-loop μ-loop
 part-match-up-end c = tells (c .before) .suffix
 
 returns-2 : tie.Need-returns-2 Inv-loop μ-loop
-returns-2 c = let k = c .before .before .before .before .before .before in halts-there _ _ _ _ _ _ _ _ (k .before .before .before .before .before .before .loop .inv) (climbing-stop _ _ _ _ _ _ _ _ _ (k .before .before .before .before .before .before .loop .inv) (k .before .before .before .before .if1 .taken) (spanFrom (k .before .before .span-at .result)) (k .before .before .span-at .ensures) (k .if2 .left) (c .before .before .before .match-up .ensures .below-is) (c .before .if3 .taken)) (c .halt2 .ensures)
+returns-2 c = let k = c .before .before .before .before .before .before in halts-there _ _ _ _ _ _ _ _ (k .before .before .before .before .before .loop .inv) (climbing-stop _ _ _ _ _ _ _ _ _ (k .before .before .before .before .before .loop .inv) (k .before .before .before .if1 .taken) (spanFrom (k .before .before .span-in .result)) (k .before .before .span-in .ensures) (k .if2 .left) (c .before .before .before .match-up .ensures .below-is) (c .before .if3 .taken)) (c .halt2 .ensures)
 
 add-len : tie.Need-add-len Inv-loop μ-loop
 add-len c = omega (arith, tells (c .before .before .before .before .before .before .before .before) .few)
@@ -54,7 +54,7 @@ loop-less : tie.Need-loop-less Inv-loop μ-loop
 loop-less c = let w = tells (c .before .before .before .before .before .before .before .before) in omega (arith, w .least, w .within)
 
 loop-again : tie.Need-loop-again Inv-loop μ-loop
-loop-again c = let k = c .before .before .before .before .before .before .before .before in climbing-more _ _ _ _ _ _ _ _ _ (k .before .before .before .before .before .before .loop .inv) (k .before .before .before .before .if1 .taken) (spanFrom (k .before .before .span-at .result)) (k .before .before .span-at .ensures) (k .if2 .left) (c .before .before .before .before .before .match-up .ensures .below-is) (c .before .before .before .if3 .left) (c .before .before .before .before .before .match-up .ensures .len-is) (c .before .before .latest .ensures) (c .before .latest2 .ensures)
+loop-again c = let k = c .before .before .before .before .before .before .before .before in climbing-more _ _ _ _ _ _ _ _ _ (k .before .before .before .before .before .loop .inv) (k .before .before .before .if1 .taken) (spanFrom (k .before .before .span-in .result)) (k .before .before .span-in .ensures) (k .if2 .left) (c .before .before .before .before .before .match-up .ensures .below-is) (c .before .before .before .if3 .left) (c .before .before .before .before .before .match-up .ensures .len-is) (c .before .before .latest .ensures) (c .before .latest2 .ensures)
 
 returns-3 : tie.Need-returns-3 Inv-loop μ-loop
 returns-3 c = let l = c .before .before .before in halts-there _ _ _ _ _ _ _ _ (l .loop .inv) (climbing-over _ _ _ _ _ _ _ _ _ (l .loop .inv) (c .before .if1 .left)) (c .halt3 .ensures)
