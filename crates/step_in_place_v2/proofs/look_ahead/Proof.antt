@@ -23,9 +23,9 @@ module _ (k : tie.After-known-told) where
   region-read = let s = k .before .before .before .before .before in sym (region-used _ _ (s .pre .read) _ (s .pre .inside)) ∙ yes saysRegion (k .before .before .before .region-of .ensures) (k .before .read .given .1)
 
 module _ (m : tie.After-known-told2) where
-  row-read : let k = m .before .before .before .before .before .before .before .before .before .before .before .before in let s = k .before .before .before .before .before .args in let g = k .before .read .given .0 .0 in
+  row-read : let k = m .before .before .before .before .before .before .before .before .before .before .before in let s = k .before .before .before .before .before .args in let g = k .before .read .given .0 .0 in
       rowIn (take (s .t .size) (s .block .now)) (regionFrom g) (s .p .at) (s .p .«key_len») ≡ ok (rowFrom (m .before .a .given .0 .0))
-  row-read = yes saysRow (m .before .before .before .decode-at .ensures) (m .before .a .given .1)
+  row-read = yes saysRow (m .before .before .before .row-in .ensures) (m .before .a .given .1)
 
 returns : tie.Need-returns
 returns c =
@@ -41,16 +41,16 @@ returns-3 c = ahead-not _ _ _ _ λ key. up-past _ _ _ _ _ (region-read (c .befor
 returns-4 : tie.Need-returns-4
 returns-4 c = ahead-end _ _ _ _ λ key. up-done _ _ _ _ _ (region-read (c .before .before .before .before .before .before)) (c .before .before .before .before .if1 .left) (c .before .before .if2 .left) (c .if3 .taken)
 
-slice-aggregate-decode-at : tie.Need-slice-aggregate-decode-at
-slice-aggregate-decode-at c =
-    let s = c .before .before .before .before .before .before .before .before .before .before .before .before .before in
+slice-aggregate-row-in : tie.Need-slice-aggregate-row-in
+slice-aggregate-row-in c =
+    let s = c .before .before .before .before .before .before .before .before .before .before .before .before in
     sym (length-take-le _ _ (omega (arith, trailerOf-tells _ _ (s .pre .read) .0)))
 
 returns-5 : tie.Need-returns-5
 returns-5 c =
-    let k = c .before .before .before .before .before .before .before .before .before .before .before .before in
+    let k = c .before .before .before .before .before .before .before .before .before .before .before in
     ahead-not _ _ _ _ λ key.
-    up-row _ _ _ _ _ (region-read k) (c .before .before .before .before .before .before .before .before .before .before .if1 .left) (c .before .before .before .before .before .before .before .before .if2 .left) (c .before .before .before .before .before .before .if3 .left) (no saysRow refusalOfRow (c .before .before .before .decode-at .ensures) (c .before .enum-told2 .given .1) refl (c .row-refusal .ensures))
+    up-row _ _ _ _ _ (region-read k) (c .before .before .before .before .before .before .before .before .before .if1 .left) (c .before .before .before .before .before .before .before .if2 .left) (c .before .before .before .before .before .if3 .left) (no saysRow refusalOfRow (c .before .before .before .row-in .ensures) (c .before .enum-told2 .given .1) refl (c .row-refusal .ensures))
 
 add-if4 : tie.Need-add-if4
 add-if4 c = omega (arith, readRow-ends _ _ _ _ _ _ (row-read (c .before)) .fits)
@@ -58,17 +58,17 @@ add-if4 c = omega (arith, readRow-ends _ _ _ _ _ _ (row-read (c .before)) .fits)
 returns-6 : tie.Need-returns-6
 returns-6 c =
     let m = c .before .before in
-    ahead-not _ _ _ _ λ key. up-short _ _ _ _ _ (region-read (m .before .before .before .before .before .before .before .before .before .before .before .before)) (m .before .before .before .before .before .before .before .before .before .before .if1 .left) (m .before .before .before .before .before .before .before .before .if2 .left) (m .before .before .before .before .before .before .if3 .left) _ (row-read m) (c .if4 .taken)
+    ahead-not _ _ _ _ λ key. up-short _ _ _ _ _ (region-read (m .before .before .before .before .before .before .before .before .before .before .before)) (m .before .before .before .before .before .before .before .before .before .if1 .left) (m .before .before .before .before .before .before .before .if2 .left) (m .before .before .before .before .before .if3 .left) _ (row-read m) (c .if4 .taken)
 
 returns-7 : tie.Need-returns-7
 returns-7 c =
     let m = c .before .before in
-    ahead-at _ _ _ _ (record { read = row-read m; held = c .if4 .left }) λ key. up-found _ _ _ _ _ (region-read (m .before .before .before .before .before .before .before .before .before .before .before .before)) (m .before .before .before .before .before .before .before .before .before .before .if1 .left) (m .before .before .before .before .before .before .before .before .if2 .left) (m .before .before .before .before .before .before .if3 .left) _ (row-read m) (c .if4 .left)
+    ahead-at _ _ _ _ (record { read = row-read m; held = c .if4 .left }) λ key. up-found _ _ _ _ _ (region-read (m .before .before .before .before .before .before .before .before .before .before .before)) (m .before .before .before .before .before .before .before .before .before .if1 .left) (m .before .before .before .before .before .before .before .if2 .left) (m .before .before .before .before .before .if3 .left) _ (row-read m) (c .if4 .left)
 
 pub look-ahead-spec : {M : Type 1} → statement M
 look-ahead-spec =
     tie.close
     (tie.spec
     (λ c κs. search needs) (search needs) (search needs) (λ c κs. search needs) returns returns-2 returns-3
-    returns-4 slice-aggregate-decode-at (λ c κs. search needs) (search needs) (search needs)
+    returns-4 slice-aggregate-row-in (λ c κs. search needs) (search needs) (search needs)
     (λ c κs. search needs) returns-5 add-if4 returns-6 returns-7)
