@@ -4,16 +4,20 @@
 // suffixes of their keys.
 ghost use mathlib.Core.Path.{_≡_};
 ghost use Prim.Native.Nat.{_<_};
+ghost use lib.ListN.{length};
 ghost use Rattle.layout.specs.Res.{ok};
-ghost use Rattle.layout.specs.Trailer.{trailerOf};
+ghost use Rattle.layout.specs.Trailer.{trailerOf, allOffsets};
 ghost use Rattle.trailer.specs.Says.{trailerFrom};
-ghost use Rattle.block_check_v2.specs.Walk.{Stands, Leaves};
+ghost use Rattle.block_check_v2.specs.Says.{saysChecked};
+ghost use Rattle.block_check_v2.specs.Walk.{rowsOf, Stands, Leaves, Tries};
 ghost use Rattle.block_check_v2.specs.Promise.{Checks};
 use basics::Refusal;
 use basics::Verdict;
-use trailer::RegionRead;
 use trailer::Trailer;
 use trailer::TrailerRead;
+
+// Few keys are longer. An array of so many bytes is cleared for each block; one for the longest key only where it is needed.
+const SHORT_KEY: usize = 256;
 
 // How many rows the block has, or why it is refused.
 pub enum Checked {
@@ -30,9 +34,16 @@ struct Passed {
     rows: usize,
 }
 
+// `Narrow`: a row's key is longer than the bytes that are lent for it. That says nothing of the block.
 enum Walked {
     Over(Passed),
     Refused(Refusal),
+    Narrow,
+}
+
+enum Tried {
+    Known(Checked),
+    Narrow,
 }
 
 // Walks the rows of one region, whose bounds are read once. `key` carries the key of the row before, also over a restart.
@@ -42,20 +53,20 @@ fn check_region(block: &[u8], t: Trailer, key: &mut [u8], p: Passed) -> Walked
     requires { ⌜ Stands (now block) (trailerFrom t) p (now key) ⌝ }
     ensures { λ r. ⌜ Leaves (now (block .entry)) (trailerFrom t) p r (now (key .exit)) ⌝ }
 {
-    let bounds = trailer::region_of(block, t, p.region);
-    let RegionRead::Good(g) = bounds else {
-        return Walked::Refused(trailer::region_refusal(bounds));
-    };
+    let g = trailer::plain_region_at(block, p.region);
+    if g.end == 0 {
+        return Walked::Refused(Refusal::BadOffset);
+    }
     let size = t.size;
     let data = &block[..size];
     let mut at = p.at;
     let mut key_len = p.key_len;
     let mut rows = p.rows;
     while at < g.end {
-        let restart = at == g.start;
-        let row = row_span_v2::span_at(data, at, g.end, key_len, restart);
+        let row = row_span_v2::span_in(data, at, g.start, g.end, key_len);
         if row.next == 0 {
-            return Walked::Refused(row_span_v2::refusal_at(data, at, g.end, key_len, restart));
+            let refusal = row_span_v2::refusal_in(data, at, g.start, g.end, key_len);
+            return Walked::Refused(refusal);
         }
         let shared = row.shared;
         let from = row.suffix_at;
@@ -64,8 +75,11 @@ fn check_region(block: &[u8], t: Trailer, key: &mut [u8], p: Passed) -> Walked
         if keys::is_below(&data[from..to], &key[shared..key_len]) {
             return Walked::Refused(Refusal::KeyFalls);
         }
-        buf_mut::copy_in(key, shared, &data[from..to]);
         key_len = shared + row.suffix_len;
+        if key.len() < key_len {
+            return Walked::Narrow;
+        }
+        buf_mut::copy_in(key, shared, &data[from..to]);
         at = row.next;
         rows += 1;
     }
@@ -75,6 +89,51 @@ fn check_region(block: &[u8], t: Trailer, key: &mut [u8], p: Passed) -> Walked
         key_len,
         rows,
     })
+}
+
+// Walks all rows, a region after another.
+fn check_rows(block: &[u8], t: Trailer, key: &mut [u8]) -> Tried
+    requires { ⌜ trailerOf (now block) ≡ ok (trailerFrom t) ⌝ }
+    requires { ⌜ allOffsets (now block) (trailerFrom t) ≡ ok tt ⌝ }
+    ensures { λ r. ⌜ Tries (now (block .entry)) (trailerFrom t) (length (now (key .entry))) r ⌝ }
+{
+    let size = t.size;
+    let mut p = Passed {
+        at: 0,
+        region: 0,
+        key_len: 0,
+        rows: 0,
+    };
+    while p.at < size {
+        let walked = check_region(block, t, key, p);
+        match walked {
+            Walked::Over(passed) => {
+                p = passed;
+            }
+            Walked::Refused(refusal) => {
+                return Tried::Known(Checked::Refused(refusal));
+            }
+            Walked::Narrow => {
+                return Tried::Narrow;
+            }
+        }
+    }
+    Tried::Known(Checked::Rows(p.rows))
+}
+
+// The same with room for the longest key. The array is made, and cleared, here alone.
+fn check_long(block: &[u8], t: Trailer) -> Checked
+    requires { ⌜ trailerOf (now block) ≡ ok (trailerFrom t) ⌝ }
+    requires { ⌜ allOffsets (now block) (trailerFrom t) ≡ ok tt ⌝ }
+    ensures { λ r. ⌜ saysChecked r ≡ rowsOf (now (block .entry)) (trailerFrom t) ⌝ }
+{
+    let mut key = [0; basics::MAX_KEY];
+    let tried = check_rows(block, t, &mut key);
+    // Never narrow: no row is read whose key is longer.
+    let Tried::Known(answer) = tried else {
+        return Checked::Refused(Refusal::BadState);
+    };
+    answer
 }
 
 // Checks a whole block of any bytes: 14, all of 15, then row by row, 17 last of its row. It answers how many rows there are.
@@ -89,24 +148,10 @@ pub fn check(block: &[u8]) -> Checked
     if let Verdict::Refused(refusal) = tested {
         return Checked::Refused(refusal);
     }
-    let size = t.size;
-    let mut key = [0; basics::MAX_KEY];
-    let mut p = Passed {
-        at: 0,
-        region: 0,
-        key_len: 0,
-        rows: 0,
+    let mut key = [0; SHORT_KEY];
+    let tried = check_rows(block, t, &mut key);
+    let Tried::Known(answer) = tried else {
+        return check_long(block, t);
     };
-    while p.at < size {
-        let walked = check_region(block, t, &mut key, p);
-        match walked {
-            Walked::Over(passed) => {
-                p = passed;
-            }
-            Walked::Refused(refusal) => {
-                return Checked::Refused(refusal);
-            }
-        }
-    }
-    Checked::Rows(p.rows)
+    answer
 }

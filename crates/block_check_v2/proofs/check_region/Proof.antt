@@ -2,7 +2,7 @@
 -- The loop's invariant: the rest of the check, from the row at `at` on, answers what the whole does. The loop does not hold the trailer, so it is said of
 -- every trailer that the block has. Each exit is a law of the walk, over the region and the row that were read on the way to it.
 use Prim.Native.Nat.{ℕ, _-_, _^_, _≤_, _<_}
-use mathlib.Core.Path.{_≡_, refl, sym, _∙_}
+use mathlib.Core.Path.{_≡_, refl, ap, sym, _∙_}
 use mathlib.Core.List.{List}
 use native.Mathlib.Omega.{arith}
 use lib.Dec.{eqb}
@@ -13,21 +13,21 @@ use Rattle.layout.specs.Res.{ok}
 use Rattle.layout.specs.Plain.{RowSpan}
 use Rattle.layout.specs.RowRead.{RowRead as RowReadL}
 use Rattle.layout.specs.Trailer.{Trailer, trailerOf, dataOf, regionOf, rowIn}
+use Rattle.layout.specs.Laws.Splice.{length-splice}
 use Rattle.layout.specs.Laws.Tells.{RowEnds, readRow-ends, row-shares}
 use Rattle.layout.specs.Laws.Trailer.{trailerOf-tells}
-use Rattle.basics.specs.Answers.{yes, no}
 use Rattle.buf_mut.proofs.Laws.{copied}
 use Rattle.trailer.specs.declared.Region.{Region}
-use Rattle.trailer.specs.Laws.{region-used}
-use Rattle.trailer.specs.Says.{trailerFrom, regionFrom, saysRegion, refusalOfRegion}
+use Rattle.trailer.specs.Says.{trailerFrom, regionFrom}
 use Rattle.row_span_v2.specs.Laws.{spanned, span-known, span-refusal}
 use Rattle.row_span_v2.specs.Promise.{spanFrom}
-use Rattle.block_check_v2.specs.Laws.{Walks, stands-no, stands-inside, stands-walks, walks-over, walks-no, walks-room, walks-falls, walks-more, the-trailer}
+use Rattle.block_check_v2.specs.Laws.{Walks, bounds-known, bounds-none, stands-no, stands-inside, stands-walks, walks-over, walks-no, walks-room, walks-falls, walks-narrow, walks-more, the-trailer}
 use Rattle.block_check_v2.proofs.check_region.Statement.{statement}
 use Rattle.block_check_v2.proofs.check_region.Tie as tie
 
 abbrev Inv-loop : tie.InvT-loop
-Inv-loop block key₀ p g size «data» at₀ key-len₀ rows₀ key at key-len rows = (t : Trailer) → trailerOf block ≡ ok t → Walks block t (p .region) (regionFrom g) at rows key key-len
+Inv-loop block key₀ p g size «data» at₀ key-len₀ rows₀ key at key-len rows =
+    (length key ≡ length key₀) × ((t : Trailer) → trailerOf block ≡ ok t → Walks block t (p .region) (regionFrom g) at rows key key-len)
 
 abbrev μ-loop : tie.MeasureT-loop
 μ-loop block key₀ p g size «data» at₀ key-len₀ rows₀ key at key-len rows = g .end - at
@@ -41,39 +41,36 @@ inside : (s : tie.Start Inv-loop μ-loop) → s .args .p .region < s .args .t .c
 inside s = s .pre .1 .1 .starts (s .pre .1 .0) .0
 
 -- the region that was read
-module _ (k : tie.After-known-told Inv-loop μ-loop) where
-  used : let a = k .before .before .before .before .before .before .args in regionOf (a .block .now) (trailerFrom (a .t)) (a .p .region) ≡ ok (regionFrom (k .before .bounds .given .0 .0))
+module _ (k : tie.Else1 Inv-loop μ-loop) where
+  used : let a = k .before .before .before .before .before .args in regionOf (a .block .now) (trailerFrom (a .t)) (a .p .region) ≡ ok (regionFrom (k .before .before .plain-region-at .result))
   used =
-      let s = k .before .before .before .before .before .before in
-      sym (region-used _ _ (s .pre .0) _ (inside s)) ∙ yes saysRegion (k .before .before .before .region-of .ensures) (k .before .bounds .given .1)
+      let s = k .before .before .before .before .before in
+      bounds-known _ _ (s .pre .0) _ (inside s) _ (k .before .before .plain-region-at .ensures) (k .if1 .left)
 
 -- a turn of the loop: how the walk stands
 module _ (l : tie.At-loop Inv-loop μ-loop) where
   abbrev began : tie.Start Inv-loop μ-loop
-  began = l .before .before .before .before .before .before .before .before
+  began = l .before .before .before .before .before .before .before
 
   abbrev g : Region
-  g = l .before .before .before .bounds .given .0 .0
+  g = l .before .before .before .before .plain-region-at .result
 
   walk : Walks (began .args .block .now) (trailerFrom (began .args .t)) (began .args .p .region) (regionFrom g) (l .loop .at) (l .loop .rows) (l .loop .key) (l .loop .key-len)
-  walk = l .loop .inv _ (began .pre .0)
-
-  kept : length (l .loop .key) ≡ length (began .args .key .now)
-  kept = walk .checking .holds .whole ∙ sym (began .pre .1 .1 .checking .holds .whole)
+  walk = l .loop .inv .1 _ (began .pre .0)
 
 -- the row that was read in a turn
-module _ (n : tie.Else2 Inv-loop μ-loop) where
+module _ (n : tie.Else3 Inv-loop μ-loop) where
   abbrev turn : tie.At-loop Inv-loop μ-loop
-  turn = n .before .before .before .before .before .before
+  turn = n .before .before .before .before .before
 
   abbrev rows : List ℕ
   rows = dataOf (began turn .args .block .now) (trailerFrom (began turn .args .t))
 
   abbrev span : RowSpan
-  span = spanFrom (n .before .before .span-at .result)
+  span = spanFrom (n .before .before .span-in .result)
 
   known : (r : RowReadL) × (rowIn rows (regionFrom (g turn)) (turn .loop .at) (turn .loop .key-len) ≡ ok (spanned r span))
-  known = span-known _ _ _ _ _ span (n .before .before .span-at .ensures) (n .if2 .left)
+  known = span-known _ _ _ _ _ span (n .before .before .span-in .ensures) (n .if3 .left)
 
   abbrev row : RowReadL
   row = spanned (known .0) span
@@ -89,27 +86,26 @@ module _ (n : tie.Else2 Inv-loop μ-loop) where
 
 returns : tie.Need-returns Inv-loop μ-loop
 returns c =
-    let s = c .before .before .before .before .before .before in
+    let s = c .before .before .before .before .before in
     stands-no _ _ _ _ (s .pre .1 .1) (s .pre .1 .0)
-    (sym (region-used _ _ (s .pre .0) _ (inside s))
-    ∙ no saysRegion refusalOfRegion (c .before .before .before .region-of .ensures) (c .before .enum-told .given .1) refl (c .region-refusal .ensures))
+    (sym (bounds-none _ _ (s .pre .0) _ (inside s) _ (c .before .before .plain-region-at .ensures) (c .if1 .taken)))
 
 slice-aggregate-data : tie.Need-slice-aggregate-data Inv-loop μ-loop
-slice-aggregate-data c = sym (length-take-le _ _ (omega (arith, trailerOf-tells _ _ (c .before .before .before .before .before .before .before .pre .0) .0)))
+slice-aggregate-data c = sym (length-take-le _ _ (omega (arith, trailerOf-tells _ _ (c .before .before .before .before .before .before .pre .0) .0)))
 
 loop-holds : tie.Need-loop-holds Inv-loop μ-loop
 loop-holds c =
-    let s = c .before .before .before .before .before .before .before in
-    the-trailer _ _ _ (s .pre .0) (stands-walks _ _ _ _ (s .pre .1 .1) (s .pre .1 .0) _ (used (c .before)))
+    let s = c .before .before .before .before .before .before in
+    (refl, the-trailer _ _ _ (s .pre .0) (stands-walks _ _ _ _ (s .pre .1 .1) (s .pre .1 .0) _ (used (c .before))))
 
 same-length : tie.Need-same-length Inv-loop μ-loop
-same-length c = kept (c .before .before .before .before .before .before .before)
+same-length c = c .before .before .before .before .before .before .loop .inv .0
 
 returns-2 : tie.Need-returns-2 Inv-loop μ-loop
 returns-2 c =
-    let l = c .before .before .before .before .before .before .before in
-    walks-no _ _ _ _ (used (l .before .before)) _ _ _ _ (walk l) (c .before .before .before .before .before .if1 .taken)
-    (span-refusal _ _ _ _ _ (spanFrom (c .before .before .before .span-at .result)) (c .before .before .before .span-at .ensures) (c .before .if2 .taken) (c .refusal-at .ensures))
+    let l = c .before .before .before .before .before .before in
+    walks-no _ _ _ _ (used (l .before .before)) _ _ _ _ (walk l) (c .before .before .before .before .if2 .taken)
+    (span-refusal _ _ _ _ _ (spanFrom (c .before .before .before .span-in .result)) (c .before .before .before .span-in .ensures) (c .before .if3 .taken) (c .refusal-in .ensures))
 
 add-to : tie.Need-add-to Inv-loop μ-loop
 add-to c =
@@ -132,15 +128,26 @@ part-is-below-start-2 : tie.Need-part-is-below-start-2 Inv-loop μ-loop
 part-is-below-start-2 c = shares (c .before .before .before)
 
 part-is-below-end-2 : tie.Need-part-is-below-end-2 Inv-loop μ-loop
-part-is-below-end-2 c = let w = walk (turn (c .before .before .before)) .checking .holds in omega (arith, w .few, w .whole)
+part-is-below-end-2 c = walk (turn (c .before .before .before)) .goes .room
 
 same-length-2 : tie.Need-same-length-2 Inv-loop μ-loop
-same-length-2 c = kept (turn (c .before .before .before .before .before .before))
+same-length-2 c = turn (c .before .before .before .before .before .before) .loop .inv .0
 
 returns-3 : tie.Need-returns-3 Inv-loop μ-loop
 returns-3 c =
     let n = c .before .before .before .before .before .before in
-    walks-falls _ _ _ _ (used (turn n .before .before)) _ _ _ _ (walk (turn n)) (n .before .before .before .before .if1 .taken) _ (read n) (sym (c .before .is-below .ensures) ∙ c .if3 .taken)
+    walks-falls _ _ _ _ (used (turn n .before .before)) _ _ _ _ (walk (turn n)) (n .before .before .before .if2 .taken) _ (read n) (sym (c .before .is-below .ensures) ∙ c .if4 .taken)
+
+add-key-len : tie.Need-add-key-len Inv-loop μ-loop
+add-key-len c = omega (arith, told (c .before .before .before .before .before .before .before) .fits)
+
+same-length-3 : tie.Need-same-length-3 Inv-loop μ-loop
+same-length-3 c = turn (c .before .before .before .before .before .before .before .before) .loop .inv .0
+
+returns-4 : tie.Need-returns-4 Inv-loop μ-loop
+returns-4 c =
+    let n = c .before .before .before .before .before .before .before .before in
+    walks-narrow _ _ _ _ (used (turn n .before .before)) _ _ _ _ (walk (turn n)) (n .before .before .before .if2 .taken) _ (read n) (c .if5 .taken)
 
 sub-copy-in : tie.Need-sub-copy-in Inv-loop μ-loop
 sub-copy-in c = omega arith
@@ -149,46 +156,52 @@ part-copy-in-start : tie.Need-part-copy-in-start Inv-loop μ-loop
 part-copy-in-start c = omega arith
 
 part-copy-in-end : tie.Need-part-copy-in-end Inv-loop μ-loop
-part-copy-in-end c = told (c .before .before .before .before .before .before .before) .suffix
+part-copy-in-end c = told (c .before .before .before .before .before .before .before .before .before) .suffix
 
-add-key-len : tie.Need-add-key-len Inv-loop μ-loop
-add-key-len c = omega (arith, told (c .before .before .before .before .before .before .before .before .before .before .before .before) .fits)
+-- the row that a turn has passed
+module _ (c : tie.After-slice-known2 Inv-loop μ-loop) where
+  abbrev passed : tie.Else3 Inv-loop μ-loop
+  passed = c .before .before .before .before .before .before .before .before .before .before .before .before .before
 
 add-rows : tie.Need-add-rows Inv-loop μ-loop
-add-rows c = let f = walk (turn (c .before .before .before .before .before .before .before .before .before .before .before .before)) .few in omega (arith, told (c .before .before .before .before .before .before .before .before .before .before .before .before) .least)
+add-rows c = let f = walk (turn (passed c)) .goes .few in omega (arith, told (passed c) .least)
 
 loop-less : tie.Need-loop-less Inv-loop μ-loop
-loop-less c = let w = told (c .before .before .before .before .before .before .before .before .before .before .before .before) in omega (arith, w .least, w .within)
+loop-less c = let w = told (passed c) in omega (arith, w .least, w .within)
 
 loop-again : tie.Need-loop-again Inv-loop μ-loop
 loop-again c =
-    let n = c .before .before .before .before .before .before .before .before .before .before .before .before in
+    let n = passed c in
     let l = turn n in
     let u = used (l .before .before) in
-    let t = n .before .before .before .before .if1 .taken in
-    the-trailer _ _ _ (began l .pre .0)
-    (walks-more _ _ _ _ u _ _ _ _ (walk l) t _ (read n) (sym (c .before .before .before .before .before .before .before .is-below .ensures) ∙ c .before .before .before .before .before .before .if3 .left) _
-    (copied (walks-room _ _ _ _ u _ _ _ _ (walk l) t _ (read n)) (c .before .before .before .copy-in .ensures)))
+    let t = n .before .before .before .if2 .taken in
+    let k = c .before .before .before .before .before .if5 .left in
+    let r = walks-room _ _ _ _ u _ _ _ _ (walk l) t _ (read n) k in
+    let q = copied r (c .before .before .copy-in .ensures) in (
+      ap length q ∙ length-splice _ _ _ r ∙ l .loop .inv .0,
+      the-trailer _ _ _ (began l .pre .0)
+          (walks-more _ _ _ _ u _ _ _ _ (walk l) t _ (read n) k (sym (c .before .before .before .before .before .before .before .before .is-below .ensures) ∙ c .before .before .before .before .before .before .before .if4 .left) _ q),
+    )
 
-add-t37 : tie.Need-add-t37 Inv-loop μ-loop
-add-t37 c = let s = c .before .before .before .before .before .before .before .before .before .before .before in omega (arith, inside s, trailerOf-tells _ _ (s .pre .0) .0)
+add-t36 : tie.Need-add-t36 Inv-loop μ-loop
+add-t36 c = let s = began (c .before .before .before) in omega (arith, inside s, trailerOf-tells _ _ (s .pre .0) .0)
 
-same-length-3 : tie.Need-same-length-3 Inv-loop μ-loop
-same-length-3 c = kept (c .before .before .before)
+same-length-4 : tie.Need-same-length-4 Inv-loop μ-loop
+same-length-4 c = c .before .before .before .loop .inv .0
 
-returns-4 : tie.Need-returns-4 Inv-loop μ-loop
-returns-4 c =
+returns-5 : tie.Need-returns-5 Inv-loop μ-loop
+returns-5 c =
     let l = c .before .before .before in
     let u = used (l .before .before) in
-    let over = c .before .if1 .left in
+    let over = c .before .if2 .left in
     (omega (arith, stands-inside _ _ _ _ (began l .pre .1 .1) (began l .pre .1 .0) _ u), walks-over _ _ _ _ u _ _ _ _ (walk l) over)
 
 pub check-region-spec : {M : Type 1} → statement M
 check-region-spec =
     tie.close
     (tie.spec
-    Inv-loop μ-loop (search needs) (search needs) (search needs) (search needs) returns slice-aggregate-data
+    Inv-loop μ-loop (search needs) returns slice-aggregate-data
     loop-holds (search needs) (search needs) same-length returns-2 add-to sub-is-below part-is-below-start
     part-is-below-end sub-is-below-2 part-is-below-start-2 part-is-below-end-2 (search needs) same-length-2
-    returns-3 sub-copy-in part-copy-in-start part-copy-in-end (search needs) add-key-len add-rows loop-less
-    loop-again add-t37 same-length-3 returns-4)
+    returns-3 add-key-len same-length-3 returns-4 sub-copy-in part-copy-in-start part-copy-in-end (search needs) add-rows loop-less
+    loop-again add-t36 same-length-4 returns-5)
