@@ -1,6 +1,6 @@
-// The desk's cases and the slips this trade knows, through the code. It prints the bytes and numbers that the code answered; what they should be stands in the
-// file `stdout` alone.
-mod reading;
+// The desk's cases on rows, numbers and builders, and the slips this trade knows, through the code. It prints the bytes and numbers that the code answered; what
+// they should be stands in the file `stdout` alone.
+mod building;
 mod say;
 mod show;
 mod writing;
@@ -13,5 +13,4 @@ fn main() {
     writing::flags();
     writing::far_restarts();
     writing::slips();
-    reading::seeks();
 }

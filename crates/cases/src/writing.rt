@@ -1,26 +1,18 @@
 // Cases 1 to 7 and 11, the spellings of a number, and the slips on writing.
+use crate::building::add;
+use crate::building::built;
+use crate::building::fields;
 use crate::say;
 use crate::show;
 use basics::Kind;
 use basics::Time;
-use basics::Verdict;
 use block_v2::BlockBuilderV2;
 use buf_mut::Put;
-use build_in_place_v2::BuildAnswer;
 use row_decode_v2::KeyRead;
 use row_decode_v2::RowRead;
 use row_encode_v2::Encoded;
 use row_flags::RowFields;
 use utils::VarintRead;
-
-fn fields(seq: u64) -> RowFields {
-    RowFields {
-        kind: Kind::Value,
-        seq,
-        expire: Time::Absent,
-        create: Time::Absent,
-    }
-}
 
 fn row(previous_len: usize, shared: usize, suffix: &[u8], value: &[u8], held: RowFields) {
     let mut out = [0u8; 64];
@@ -33,37 +25,6 @@ fn row(previous_len: usize, shared: usize, suffix: &[u8], value: &[u8], held: Ro
 pub fn rows() {
     say::text(b"case 1: ");
     row(0, 0, b"a", b"", fields(1));
-}
-
-fn added(answer: Verdict) {
-    match answer {
-        Verdict::Good => say::text(b"taken\n"),
-        Verdict::Refused(r) => say::refusal(r),
-    }
-}
-
-// Offers a row to the builder, and says whether it was taken.
-pub fn add(
-    builder: BlockBuilderV2,
-    data: &mut [u8],
-    restarts: &mut [u16],
-    key: &[u8],
-    value: &[u8],
-    seq: u64,
-) -> BlockBuilderV2 {
-    let r = builder.add(data, restarts, key, value, fields(seq));
-    let answer = r.answer;
-    added(answer);
-    r.builder
-}
-
-pub fn built(builder: BlockBuilderV2, data: &mut [u8], restarts: &[u16]) {
-    let b = builder.build(data, restarts);
-    let answer = b.answer;
-    match answer {
-        BuildAnswer::Block(n) => show::bytes(data, n),
-        BuildAnswer::Refused(r) => say::refusal(r),
-    }
 }
 
 // Case 2's two rows, and the block of those that were taken.

@@ -1,7 +1,7 @@
 // Cases 8 to 10, and the walks both ways, on the block of keys a, b, b, b, c with interval 2. A row is known by its sequence number, which is its place.
+use crate::building::add;
+use crate::building::built;
 use crate::say;
-use crate::writing::add;
-use crate::writing::built;
 use basics::IterationOrder;
 use block_check_v2::Checked;
 use block_iterator_v2::BlockIteratorV2;
