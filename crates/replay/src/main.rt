@@ -4,11 +4,7 @@
 // Bytes are written in hexadecimal digits; `-` is none of them, or a time that is absent. A row is KEY:KIND:VALUE:SEQ:EXPIRE:CREATE, its kind v, t or m.
 mod answer;
 mod lines;
-mod offered;
-mod parse;
-mod show;
 mod single;
-mod words;
 mod writing;
 
 fn main() {

@@ -1,9 +1,9 @@
 // The commands on one row or one number.
-use crate::offered;
-use crate::parse;
-use crate::show;
-use crate::words;
 use buf_mut::Put;
+use replay_text::offered;
+use replay_text::parse;
+use replay_text::show;
+use replay_text::words;
 use row_decode_v2::KeyRead;
 use row_decode_v2::RowRead;
 use row_encode_v2::Encoded;

@@ -1,11 +1,11 @@
 // The commands on a builder.
-use crate::offered;
-use crate::parse;
-use crate::show;
-use crate::words;
 use basics::Verdict;
 use block_v2::BlockBuilderV2;
 use build_in_place_v2::BuildAnswer;
+use replay_text::offered;
+use replay_text::parse;
+use replay_text::show;
+use replay_text::words;
 
 // How long the builder's buffers are.
 const DATA: usize = 8192;

@@ -1,7 +1,7 @@
 // A command's number is its place among the names.
 use crate::reading;
-use crate::show;
-use crate::words;
+use replay_text::show;
+use replay_text::words;
 
 pub fn answer(line: &[u8]) {
     let names = b"scan2 seek2 walk2 isempty2";

@@ -2,10 +2,7 @@
 // is what slatedb 0.16.0's own code printed for the same list.
 mod answer;
 mod lines;
-mod parse;
 mod reading;
-mod show;
-mod words;
 
 fn main() {
     lines::answer_input();

@@ -2,8 +2,8 @@
 -- Words are cut off and compared whatever their bytes are, so the loop has nothing to keep; it has as many turns as the names have bytes, and fewer are left each time.
 use Prim.Native.Nat.{_-_}
 use borrow.Author.Needs.{needs}
-use Rattle.replay_blocks.proofs.words.which.Statement.{statement}
-use Rattle.replay_blocks.proofs.words.which.Tie as tie
+use Rattle.replay_text.proofs.words.which.Statement.{statement}
+use Rattle.replay_text.proofs.words.which.Tie as tie
 
 abbrev Inv-loop : tie.InvT-loop
 Inv-loop name names number₀ number-end number = Unit {0}

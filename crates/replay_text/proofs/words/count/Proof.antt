@@ -4,8 +4,8 @@ use Prim.Native.Nat.{_-_}
 use mathlib.Core.Path.{_≡_}
 use borrow.Author.Needs.{needs}
 use lib.ListN.{length}
-use Rattle.replay.proofs.words.count.Statement.{statement}
-use Rattle.replay.proofs.words.count.Tie as tie
+use Rattle.replay_text.proofs.words.count.Statement.{statement}
+use Rattle.replay_text.proofs.words.count.Tie as tie
 
 abbrev Inv-loop : tie.InvT-loop
 Inv-loop s mark n₀ i₀ i-end n i = i-end ≡ length s

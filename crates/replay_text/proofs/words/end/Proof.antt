@@ -4,8 +4,8 @@ use Prim.Native.Nat.{_-_, _≤_}
 use mathlib.Core.Path.{_≡_}
 use borrow.Author.Needs.{needs}
 use lib.ListN.{length}
-use Rattle.replay_blocks.proofs.words.end.Statement.{statement}
-use Rattle.replay_blocks.proofs.words.end.Tie as tie
+use Rattle.replay_text.proofs.words.end.Statement.{statement}
+use Rattle.replay_text.proofs.words.end.Tie as tie
 
 abbrev Inv-loop : tie.InvT-loop
 Inv-loop s from mark i₀ i-end i = (from ≤ i) × (i-end ≡ length s)

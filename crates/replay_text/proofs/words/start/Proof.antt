@@ -3,8 +3,8 @@
 use Prim.Native.Nat.{_-_, _≤_}
 use borrow.Author.Needs.{needs}
 use lib.ListN.{length}
-use Rattle.replay_blocks.proofs.words.start.Statement.{statement}
-use Rattle.replay_blocks.proofs.words.start.Tie as tie
+use Rattle.replay_text.proofs.words.start.Statement.{statement}
+use Rattle.replay_text.proofs.words.start.Tie as tie
 
 abbrev Inv-loop : tie.InvT-loop
 Inv-loop s mark number at₀ counter₀ at counter = at ≤ length s

@@ -2,8 +2,8 @@
 -- A byte past the end is read as 0, and the place is a sum that may wrap, so nothing has to be known of either; fewer bytes are left to be written each time.
 use Prim.Native.Nat.{_-_}
 use borrow.Author.Needs.{needs}
-use Rattle.replay.proofs.show.bytes.Statement.{statement}
-use Rattle.replay.proofs.show.bytes.Tie as tie
+use Rattle.replay_text.proofs.show.bytes.Statement.{statement}
+use Rattle.replay_text.proofs.show.bytes.Tie as tie
 
 abbrev Inv-loop : tie.InvT-loop
 Inv-loop s start len i₀ i = Unit {0}

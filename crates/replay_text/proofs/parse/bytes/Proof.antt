@@ -6,8 +6,8 @@ use native.Mathlib.Omega.{arith}
 use borrow.Author.Needs.{needs}
 use lib.ListN.{length}
 use lib.Seq.{length-take-le}
-use Rattle.replay.proofs.parse.bytes.Statement.{statement}
-use Rattle.replay.proofs.parse.bytes.Tie as tie
+use Rattle.replay_text.proofs.parse.bytes.Statement.{statement}
+use Rattle.replay_text.proofs.parse.bytes.Tie as tie
 
 abbrev Inv-loop : tie.InvT-loop
 Inv-loop word out₀ n i₀ out i = (n ≤ length out₀) × (length out ≡ length out₀)

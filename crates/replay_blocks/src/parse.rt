@@ -1,1 +1,0 @@
-../../replay/src/parse.rt
