@@ -20,7 +20,6 @@ use Rattle.layout.specs.Laws.Seek.{restart-region, restart-no, restart-is, belo
 use Rattle.layout.specs.Laws.Compare.{isLess, isEqual, compare-less-below, compare-equal-same}
 use Rattle.layout.specs.Laws.Restart.{readKey-ends, middle-is, search-inside, start-inside}
 use Rattle.basics.specs.Answers.{apart}
-use Rattle.trailer.specs.Handed.{regionAt}
 use Rattle.trailer.specs.Laws.{handed-known, handed-tells}
 use Rattle.block_restarts_v2.specs.declared.Start.{Start}
 use Rattle.block_restarts_v2.specs.Handed.{startIs, searchAt, startUpAt, startDownAt}
@@ -33,47 +32,42 @@ pub key-lies : (b : List ℕ) (t : Trailer) (at end : ℕ) (k : KeyRead) → t .
     → k .suffixAt + k .suffixLen ≤ length b
 key-lies b t at end k s e = omega (arith, readKey-ends (dataOf b t) at end 0 true k e .0, length-take-le (t .size) b (omega arith))
 
-module _ (b : List ℕ) (t : Trailer) (i : ℕ) where
-  -- the trailer is the block's, so a region is as the rules say
-  pub region-in : {x : Res Region} → t .size + (2 + 2 * t .count) ≡ length b → i < t .count → x ≡ regionAt b t i → x ≡ regionOf b t i
-  region-in s h e = e ∙ handed-known b t i _ (s, h)
+module _ (b : List ℕ) (t : Trailer) (i : ℕ) (target : Key) where
+  pub compared-region : {n : ℕ} → regionOf b t i ≡ refuse n → refuse n ≡ restartCompared b t target i
+  unfolding restartCompared
+  compared-region e = rw (restart-region b t i e)
 
-  module _ (target : Key) where
-    pub compared-region : {n : ℕ} → regionOf b t i ≡ refuse n → refuse n ≡ restartCompared b t target i
+  module _ (g : Region) (e : regionOf b t i ≡ ok g) where
+    pub compared-no : {n : ℕ} → readKey (dataOf b t) (g .start) (g .end) 0 true ≡ refuse n → refuse n ≡ restartCompared b t target i
     unfolding restartCompared
-    compared-region e = rw (restart-region b t i e)
+    compared-no q = rw (restart-no b t i g e q)
 
-    module _ (g : Region) (e : regionOf b t i ≡ ok g) where
-      pub compared-no : {n : ℕ} → readKey (dataOf b t) (g .start) (g .end) 0 true ≡ refuse n → refuse n ≡ restartCompared b t target i
-      unfolding restartCompared
-      compared-no q = rw (restart-no b t i g e q)
-
-      -- the part of the rows that was compared is the key
-      pub compared-is : {o : Ordering} (k : KeyRead) → readKey (dataOf b t) (g .start) (g .end) 0 true ≡ ok k
-          → o ≡ compare (take (k .suffixAt + k .suffixLen - k .suffixAt) (drop (k .suffixAt) (dataOf b t))) target → ok o ≡ restartCompared b t target i
-      unfolding restartCompared
-      compared-is k q w =
-          let n : k .suffixAt + k .suffixLen - k .suffixAt ≡ k .suffixLen = omega arith in
-          rw (restart-is b t i g e k q, take-nil {A = ℕ} (k .shared)) (ap ok (w ∙ (rw n)))
-
-    -- what the comparison tells of the key
-    key-refused : {n : ℕ} → restartCompared b t target i ≡ refuse n → restartKey b t i ≡ refuse n
+    -- the part of the rows that was compared is the key
+    pub compared-is : {o : Ordering} (k : KeyRead) → readKey (dataOf b t) (g .start) (g .end) 0 true ≡ ok k
+        → o ≡ compare (take (k .suffixAt + k .suffixLen - k .suffixAt) (drop (k .suffixAt) (dataOf b t))) target → ok o ≡ restartCompared b t target i
     unfolding restartCompared
-    key-refused {n} e = go (restartKey b t i) e
-      where
-        go : (x : Res Key) → bind x (λ k. ok (compare k target)) ≡ refuse n → x ≡ refuse n
-        go (ok k) q = absurd (apart q)
-        go (refuse m) q = let w : m ≡ n = cc in ap refuse w
+    compared-is k q w =
+        let n : k .suffixAt + k .suffixLen - k .suffixAt ≡ k .suffixLen = omega arith in
+        rw (restart-is b t i g e k q, take-nil {A = ℕ} (k .shared)) (ap ok (w ∙ (rw n)))
 
-    key-compared : {o : Ordering} {A : Type 0} → restartCompared b t target i ≡ ok o → ((k : Key) → restartKey b t i ≡ ok k → compare k target ≡ o → A) → A
-    unfolding restartCompared
-    key-compared {o} e f = bind-then (restartKey b t i) _ o e λ k p q. f k p (ok-inj q)
+  -- what the comparison tells of the key
+  key-refused : {n : ℕ} → restartCompared b t target i ≡ refuse n → restartKey b t i ≡ refuse n
+  unfolding restartCompared
+  key-refused {n} e = go (restartKey b t i) e
+    where
+      go : (x : Res Key) → bind x (λ k. ok (compare k target)) ≡ refuse n → x ≡ refuse n
+      go (ok k) q = absurd (apart q)
+      go (refuse m) q = let w : m ≡ n = cc in ap refuse w
 
-    key-below : {o : Ordering} → restartCompared b t target i ≡ ok o → restartBelow b t target i ≡ ok (isLess o)
-    key-below e = key-compared e λ k p q. below-is b t i target k p ∙ ap ok (sym (compare-less-below k target) ∙ ap isLess q)
+  key-compared : {o : Ordering} {A : Type 0} → restartCompared b t target i ≡ ok o → ((k : Key) → restartKey b t i ≡ ok k → compare k target ≡ o → A) → A
+  unfolding restartCompared
+  key-compared {o} e f = bind-then (restartKey b t i) _ o e λ k p q. f k p (ok-inj q)
 
-    key-same : {o : Ordering} {x : Bool} {A : Type 0} → restartCompared b t target i ≡ ok o → isEqual o ≡ x → ((k : Key) → restartKey b t i ≡ ok k → same k target ≡ x → A) → A
-    key-same e w f = key-compared e λ k p q. f k p (sym (compare-equal-same k target) ∙ ap isEqual q ∙ w)
+  key-below : {o : Ordering} → restartCompared b t target i ≡ ok o → restartBelow b t target i ≡ ok (isLess o)
+  key-below e = key-compared e λ k p q. below-is b t i target k p ∙ ap ok (sym (compare-less-below k target) ∙ ap isLess q)
+
+  key-same : {o : Ordering} {x : Bool} {A : Type 0} → restartCompared b t target i ≡ ok o → isEqual o ≡ x → ((k : Key) → restartKey b t i ≡ ok k → same k target ≡ x → A) → A
+  key-same e w f = key-compared e λ k p q. f k p (sym (compare-equal-same k target) ∙ ap isEqual q ∙ w)
 
 -- ---- the span halved
 

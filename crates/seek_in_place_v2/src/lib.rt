@@ -22,7 +22,6 @@ use block_regions_v2::PlaceRead;
 use block_restarts_v2::Start;
 use block_restarts_v2::StartRead;
 use place_v2::Place;
-use trailer::RegionRead;
 use trailer::Trailer;
 use trailer::TrailerRead;
 
@@ -95,7 +94,7 @@ fn over(order: IterationOrder, region: usize, at: usize, reads: usize) -> Found
     }
 }
 
-// ---- the walks
+// ---- the walks. The trailer has each region that they read, so that one that is all 0 is refused with 15
 
 // From region to region, up to the first row at or above the target.
 fn walk_up(key: &mut [u8], block: &[u8], t: Trailer, target: &[u8], start: Start) -> Found
@@ -105,10 +104,10 @@ fn walk_up(key: &mut [u8], block: &[u8], t: Trailer, target: &[u8], start: Start
     let size = t.size;
     let mut number = start.region;
     while number < t.count {
-        let read = trailer::region_of(block, t, number);
-        let RegionRead::Good(region) = read else {
-            return Found::Refused(trailer::region_refusal(read));
-        };
+        let region = trailer::plain_region(block, t, number);
+        if region.end == 0 {
+            return Found::Refused(Refusal::BadOffset);
+        }
         let stop = block_regions_v2::walk_into(&block[..size], region, target, key);
         let PlaceRead::At { at, key_len } = stop else {
             return Found::Refused(place_refusal(stop));
@@ -129,10 +128,10 @@ fn walk_down(block: &[u8], t: Trailer, target: &[u8], start: Start) -> Found
     let size = t.size;
     let mut number = start.region;
     loop {
-        let read = trailer::region_of(block, t, number);
-        let RegionRead::Good(region) = read else {
-            return Found::Refused(trailer::region_refusal(read));
-        };
+        let region = trailer::plain_region(block, t, number);
+        if region.end == 0 {
+            return Found::Refused(Refusal::BadOffset);
+        }
         let last = block_regions_v2::last_at_or_below(&block[..size], region, target);
         let LastRead::Ends(end) = last else {
             return Found::Refused(last_refusal(last));

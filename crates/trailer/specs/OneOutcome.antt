@@ -10,7 +10,7 @@ use Rattle.trailer.specs.declared.TrailerRead.{TrailerRead}
 use Rattle.trailer.specs.declared.Region.{Region}
 use Rattle.trailer.specs.declared.RegionRead.{RegionRead}
 use Rattle.basics.specs.declared.Verdict.{Verdict}
-use Rattle.trailer.specs.Promise.{PlainTrailer, ReadsTrailer, TestsTrailer, TrailerRefusal, PlainRegionAt, ReadsRegion, RegionRefusal, TestsOffsets}
+use Rattle.trailer.specs.Promise.{PlainTrailer, ReadsTrailer, TestsTrailer, TrailerRefusal, PlainRegion, PlainRegionAt, ReadsRegion, RegionRefusal, TestsOffsets}
 use Rattle.trailer.specs.Says.{trailerFrom-one, saysTrailer-one, regionFrom-one, saysRegion-one}
 
 pub plain-trailer-settled : (b : List ℕ) (r q : Trailer) → PlainTrailer b r → PlainTrailer b q → r ≡ q
@@ -24,6 +24,9 @@ has-region-settled t len i r q m n = m ∙ sym n
 
 pub trailer-refusal-settled : (a : TrailerRead) (r q : Refusal) → TrailerRefusal a r → TrailerRefusal a q → r ≡ q
 trailer-refusal-settled a r q m n = m ∙ sym n
+
+pub plain-region-settled : (b : List ℕ) (t : Trailer) (i : ℕ) (r q : Region) → PlainRegion b t i r → PlainRegion b t i q → r ≡ q
+plain-region-settled b t i r q m n = regionFrom-one r q (m ∙ sym n)
 
 pub plain-region-at-settled : (b : List ℕ) (i : ℕ) (r q : Region) → PlainRegionAt b i r → PlainRegionAt b i q → r ≡ q
 plain-region-at-settled b i r q m n = regionFrom-one r q (m ∙ sym n)

@@ -15,7 +15,7 @@ use Rattle.layout.specs.Laws.Res.{ltb-cases, eqb-cases, bool-cases, clash, bind
 use Rattle.layout.specs.Laws.Plain.{or-false}
 use Rattle.layout.specs.Laws.Trailer.{trailer-short, trailer-none, trailer-long, trailer-good, trailerOf-tells, region-first, region-far, region-falls, region-next-far, region-inner, region-last, regionOf-tells}
 use Rattle.trailer.specs.Handed.{regionAt}
-use Rattle.trailer.specs.Laws.{handed-past, handed-tells, region-used}
+use Rattle.trailer.specs.Laws.{handed-known, handed-past, handed-tells, region-used}
 
 abbrev pub noTrailer : Trailer
 noTrailer = trailerIs 0 0
@@ -165,6 +165,18 @@ module _ (b : List ℕ) (t : Trailer) (r : ℕ) where
       let n : g .end ≡ endOf = ap (λ (u : Region). u .end) (e ∙ ap regionOr (sym h)) in
       absurd (omega (arith, w .rises)))
       (bool-cases badRegion)
+
+-- ---- a region of a trailer that is handed in and has it: an end of 0 is that of one refused with 15, and any other that of a good one
+
+module _ (b : List ℕ) (t : Trailer) (r : ℕ) (k : (t .size + (2 + 2 * t .count) ≡ length b) × (r < t .count)) (g : Region) (e : g ≡ regionOr (regionAt b t r)) where
+  known : g ≡ regionOr (regionOf b t r)
+  known = e ∙ ap regionOr (handed-known b t r _ k)
+
+  pub known-not : g .end ≡ 0 → regionOf b t r ≡ refuse 15
+  known-not z = sym (region-not b t r g known z)
+
+  pub known-is : (g .end ≡ 0 → ⊥) → regionOf b t r ≡ ok g
+  known-is h = region-is (regionOf b t r) g known h
 
 -- ---- a region of the trailer that is read
 

@@ -28,6 +28,10 @@ TestsTrailer t len r h = h ≡ hasRegion len (trailerFrom t) r
 abbrev pub TrailerRefusal : TrailerRead → Refusal → Type 0
 TrailerRefusal a r = r ≡ refusalOfTrailer a
 
+-- a region of the trailer that is handed in
+abbrev pub PlainRegion : List ℕ → Trailer → ℕ → Region → Type 0
+PlainRegion b t r g = regionFrom g ≡ regionOr (regionAt b (trailerFrom t) r)
+
 abbrev pub PlainRegionAt : List ℕ → ℕ → Region → Type 0
 PlainRegionAt b r g = regionFrom g ≡ regionOr (regionBy b r)
 

@@ -9,7 +9,7 @@ ghost use Rattle.layout.specs.Trailer.{shortAt, firstOf, regionOf, allOffsets};
 ghost use Rattle.basics.specs.Answers.{saysVerdict};
 ghost use Rattle.trailer.specs.Plain.{noTrailer, noRegion, regionOr};
 ghost use Rattle.trailer.specs.Says.{trailerFrom, regionFrom};
-ghost use Rattle.trailer.specs.Promise.{PlainTrailer, ReadsTrailer, TestsTrailer, TrailerRefusal, PlainRegionAt, ReadsRegion, RegionRefusal, TestsOffsets};
+ghost use Rattle.trailer.specs.Promise.{PlainTrailer, ReadsTrailer, TestsTrailer, TrailerRefusal, PlainRegion, PlainRegionAt, ReadsRegion, RegionRefusal, TestsOffsets};
 use basics::Refusal;
 use basics::Verdict;
 
@@ -149,6 +149,17 @@ fn region_in(block: &[u8], t: Trailer, r: usize) -> Region
         end,
         reach: pick(last, end, end - 1),
     }
+}
+
+// Region `r` of a trailer that is handed in, as numbers: all 0 where `region_of` refuses. A good one ends past 0.
+pub fn plain_region(block: &[u8], t: Trailer, r: usize) -> Region
+    ensures { λ g. ⌜ PlainRegion (now (block .entry)) t r g ⌝ }
+{
+    let len = block.len();
+    if !has_region(t, len, r) {
+        return no_region();
+    }
+    region_in(block, t, r)
 }
 
 // The trailer read and region `r` of it, as numbers: all 0 where either is refused. A good one ends past 0.
