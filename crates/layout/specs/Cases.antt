@@ -146,6 +146,8 @@ pub data Case : Type 0 where
   refuses : List ℕ → ℕ → Case
   -- its key alone is refused, not at a restart
   refusesKey : List ℕ → ℕ → Case
+  -- a finished block of rows: what the check answers
+  checks : ℕ → List Row → Res ℕ → Case
   -- a seek in a block of rows with these keys
   seeks : ℕ → List Row → Direction → Key → Landed → Case
   -- a key of so many bytes: the answer of each call
@@ -163,6 +165,7 @@ Holds (spells v bytes) = (varint v ≡ bytes) × (readVarint bytes ≡ ok (num v
 Holds (reads bytes answer) = readVarint bytes ≡ answer
 Holds (refuses bytes n) = decodeRow bytes 0 ≡ refuse n
 Holds (refusesKey bytes n) = readKey bytes 0 (length bytes) 0 false ≡ refuse n
+Holds (checks interval rows answer) = check (blockFor 4096 interval rows) ≡ answer
 Holds (seeks interval rows d target answer) = landed d (blockFor 4096 interval rows) target ≡ ok answer
 Holds (edges n said) = edgeAnswers (rowWith (replicate n 107) [] 1) ≡ said
 Holds (shares before r bytes n) =
@@ -194,9 +197,20 @@ bytesAB = 1 ∷ 1 ∷ 1 ∷ 98 ∷ 120 ∷ 0 ∷ 0 ∷ 0 ∷ 0 ∷ 0 ∷ 0 ∷ 0
 abbrev bytesABAlone : List ℕ
 bytesABAlone = 0 ∷ 2 ∷ 1 ∷ 97 ∷ 98 ∷ 120 ∷ 0 ∷ 0 ∷ 0 ∷ 0 ∷ 0 ∷ 0 ∷ 0 ∷ 2 ∷ 0 ∷ []
 
--- keys a, b, b, b, c
-abbrev rows8 : List Row
-rows8 = rowWith (97 ∷ []) [] 1 ∷ rowWith (98 ∷ []) [] 2 ∷ rowWith (98 ∷ []) [] 3 ∷ rowWith (98 ∷ []) [] 4 ∷ rowWith (99 ∷ []) [] 5 ∷ []
+-- keys a, b, b, b, c, with these numbers
+abbrev pub numbered8 : ℕ → ℕ → ℕ → ℕ → ℕ → List Row
+numbered8 v w x y z = rowWith (97 ∷ []) [] v ∷ rowWith (98 ∷ []) [] w ∷ rowWith (98 ∷ []) [] x ∷ rowWith (98 ∷ []) [] y ∷ rowWith (99 ∷ []) [] z ∷ []
+
+-- the numbers fall
+abbrev pub rows8 : List Row
+rows8 = numbered8 5 4 3 2 1
+
+-- one key twice, with these numbers
+abbrev twice : ℕ → ℕ → List Row
+twice x y = rowWith keyA [] x ∷ rowWith keyA [] y ∷ []
+
+abbrev largest : ℕ
+largest = 18446744073709551615
 
 abbrev pub cases : List Case
 cases =
@@ -222,6 +236,7 @@ cases =
     ∷ refuses (0 ∷ 1 ∷ 0 ∷ 97 ∷ 0 ∷ 0 ∷ 0 ∷ 0 ∷ 0 ∷ 0 ∷ 0 ∷ 1 ∷ 9 ∷ []) 12
     ∷ refuses (0 ∷ 1 ∷ 0 ∷ 97 ∷ 0 ∷ 0 ∷ 0 ∷ 0 ∷ 0 ∷ 0 ∷ 0 ∷ 1 ∷ 16 ∷ []) 11
     -- 8
+    ∷ checks 2 rows8 (ok 5)
     ∷ seeks 2 rows8 ascending (98 ∷ []) (row 1 2)
     ∷ seeks 2 rows8 descending (98 ∷ []) (row 3 2)
     -- 9
@@ -242,6 +257,25 @@ cases =
     -- a padded value length in a key-only read, and a padded share that is too long
     ∷ refusesKey (0 ∷ 1 ∷ 128 ∷ 0 ∷ 97 ∷ []) 10
     ∷ refuses (133 ∷ 0 ∷ 1 ∷ 0 ∷ 97 ∷ 0 ∷ 0 ∷ 0 ∷ 0 ∷ 0 ∷ 0 ∷ 0 ∷ 1 ∷ 0 ∷ []) 10
+    -- newest first among equals. Case 8's keys with numbers that rise, and that are equal; then the two rows at fault on both sides of a restart, and inside a region
+    ∷ checks 2 (numbered8 1 2 3 4 5) (refuse 17)
+    ∷ checks 2 (numbered8 7 7 7 7 7) (refuse 17)
+    ∷ checks 2 (numbered8 5 3 4 2 1) (refuse 17)
+    ∷ checks 2 (numbered8 5 4 4 2 1) (refuse 17)
+    ∷ checks 2 (numbered8 5 4 2 3 1) (refuse 17)
+    ∷ checks 2 (numbered8 5 4 3 3 1) (refuse 17)
+    -- of different keys no number is asked: they may rise, and be equal; and a smaller key is refused with a smaller number too
+    ∷ checks 2 (numbered8 1 4 3 2 5) (ok 5)
+    ∷ checks 2 (numbered8 4 4 3 2 2) (ok 5)
+    ∷ checks 16 (rowAB ∷ rowA ∷ []) (refuse 17)
+    -- the largest number, and 0
+    ∷ checks 16 (twice largest 0) (ok 2)
+    ∷ checks 16 (twice 0 largest) (refuse 17)
+    ∷ checks 1 (twice largest 0) (ok 2)
+    ∷ checks 1 (twice 0 largest) (refuse 17)
+    ∷ checks 1 (twice largest largest) (refuse 17)
+    -- any row may be the first: of the smallest key, and of number 0
+    ∷ checks 16 (rowWith (0 ∷ []) [] 0 ∷ []) (ok 1)
     -- the longest key
     ∷ edges maxKey (replicate 14 0)
     -- one byte more: nothing was added, so nothing is built
@@ -253,4 +287,4 @@ cases =
 pub cases-hold : AllHold cases
 unfolding leadingZeros answers offered finished blockFor rowStarts numberIn landed varint varintIn varintLength readVarint readVarintIn big unbig bits unbits varintAt fixedAt splice below common timeBytes rowBytes rowSize sizeAlone keyLengthTests lengthTests decodeRow lengthsAt headTests headAt flagsAt bodyTests bodyAt timeAt timesAt rowAt readRow readKey isRestart shareOf laidRow offsetBytes trailer shortAt trailerOf risingFrom allOffsets regionOf stateTests fits wouldFit add build rowEndingAt stepUp stepBackIn stepDown next middle searchIn search restartKey restartBelow searchRestarts walkRegion walkUp seekUp lastEqual startDown lastAtOrBelow walkDown seekDown seek edgeAnswers encodeRow restoreKey check checkFrom checkRow mayFollow blockBytes blockRows offsets rowsFrom offsetsFrom
 cases-hold =
-    ((refl, refl, refl), ((refl, refl), ((refl, refl), ((refl, refl), ((refl, refl, refl), ((refl, refl), ((refl, refl), ((refl, refl), ((refl, refl), ((refl, refl), (refl, (refl, (refl, (refl, (refl, (refl, (refl, (refl, (refl, (refl, (refl, (refl, (refl, (refl, (refl, (refl, (refl, (refl, (refl, (refl, (refl, (refl, ((refl, refl), tt)))))))))))))))))))))))))))))))))
+    ((refl, refl, refl), ((refl, refl), ((refl, refl), ((refl, refl), ((refl, refl, refl), ((refl, refl), ((refl, refl), ((refl, refl), ((refl, refl), ((refl, refl), (refl, (refl, (refl, (refl, (refl, (refl, (refl, (refl, (refl, (refl, (refl, (refl, (refl, (refl, (refl, (refl, (refl, (refl, (refl, (refl, (refl, (refl, (refl, (refl, (refl, (refl, (refl, (refl, (refl, (refl, (refl, (refl, (refl, (refl, (refl, (refl, (refl, (refl, ((refl, refl), tt)))))))))))))))))))))))))))))))))))))))))))))))))

@@ -1,7 +1,7 @@
 -- Keys: their order, what two begin with in common, the order of rows, and the first of a list of keys at or above a target.
 use Prim.Native.Nat.{ℕ, suc}
 use mathlib.Core.Path.{_≡_}
-use mathlib.Core.Bool.{Bool, true, false, cond, not}
+use mathlib.Core.Bool.{Bool, true, false, cond, not, _&&_, _||_}
 use mathlib.Core.List.{List, [], _∷_}
 use lib.Dec.{ltb, eqb}
 use Rattle.layout.specs.Bytes.{Bytes}
@@ -41,13 +41,13 @@ pub record Rank : Type 0 where
 abbrev pub rankIs : Key → ℕ → Rank
 rankIs k q = record { key = k; seq = q }
 
--- before the first row stands none: no key is below its key
+-- before the first row stands none. Its key is empty, and a row that is read has a key, which is greater: so any may be the first, whatever its number (`first-passes`)
 abbrev pub noRank : Rank
 noRank = rankIs [] 0
 
--- the order that a block's check asks of two rows, one after the other: the key never falls
+-- the order that a block's check asks of two rows, one after the other: the key is greater, or it is the same and the sequence number is smaller
 unfoldable pub mayFollow : Rank → Rank → Bool
-mayFollow before row = not (below (row .key) (before .key))
+mayFollow before row = below (before .key) (row .key) || (same (before .key) (row .key) && ltb (row .seq) (before .seq))
 
 -- each may follow the one before
 abbrev pub Rising : Rank → List Rank → Type 0

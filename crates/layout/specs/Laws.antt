@@ -6,6 +6,7 @@ pub mod Splice
 pub mod Byte
 pub mod Key
 pub mod Compare
+pub mod Order
 pub mod Match
 pub mod Words
 pub mod Row

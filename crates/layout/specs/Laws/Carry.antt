@@ -2,7 +2,7 @@
 -- row's key compares while it still lies in two parts, the carried bytes that it shares and its suffix in the data.
 use Prim.Native.Nat.{ℕ, _+_, _≤_}
 use mathlib.Core.Path.{_≡_, refl, ap, sym, _∙_}
-use mathlib.Core.Bool.{Bool, not}
+use mathlib.Core.Bool.{Bool}
 use mathlib.Core.List.{List, [], _∷_, _++_}
 use native.Mathlib.Omega.{arith}
 use lib.ListN.{length, take, drop, length-append, length-drop, take-append-drop}
@@ -11,8 +11,9 @@ use borrow.Author.Tests.{le-ltb}
 use Rattle.layout.specs.Res.{Res, ok}
 use Rattle.layout.specs.Limits.{maxKey}
 use Rattle.layout.specs.Place.{splice}
-use Rattle.layout.specs.Key.{Key, below, rankIs, mayFollow}
+use Rattle.layout.specs.Key.{Key, below, Ordering, compare, rankIs, mayFollow}
 use Rattle.layout.specs.RowRead.{RowRead, readRow, keyLength, keyOf}
+use Rattle.layout.specs.Laws.Order.{mayBy, may-by}
 use Rattle.layout.specs.Laws.Splice.{length-splice, take-past-splice}
 use Rattle.layout.specs.Laws.Tells.{RowEnds, readRow-ends, row-shares}
 
@@ -78,11 +79,15 @@ unfolding below
 below-after [] a b = refl
 below-after (x ∷ p) a b = rw (le-ltb x x (omega arith)) (below-after p a b)
 
--- a row's key against the carried one: only what follows the shared bytes is compared
-pub follows-suffix : (key : List ℕ) (len shared : ℕ) (s : List ℕ) (q₁ q₂ : ℕ) → shared ≤ len
-    → mayFollow (rankIs (take len key) q₁) (rankIs (take shared key ++ s) q₂) ≡ not (below s (drop shared (take len key)))
-unfolding mayFollow
-follows-suffix key len shared s q₁ q₂ h =
+pub compare-after : (p a b : Key) → compare (p ++ a) (p ++ b) ≡ compare a b
+unfolding compare
+compare-after p a b = rw (below-after p a b, below-after p b a)
+
+-- a row's key against the carried one: only what follows the shared bytes is compared, and then, where that is equal, the numbers are
+pub follows-suffix : (key : List ℕ) (len shared : ℕ) (s : List ℕ) (before seq : ℕ) → shared ≤ len
+    → mayFollow (rankIs (take len key) before) (rankIs (take shared key ++ s) seq) ≡ mayBy (compare s (drop shared (take len key))) before seq
+follows-suffix key len shared s before seq h =
     let split : take shared key ++ drop shared (take len key) ≡ take len key =
     ap (λ (x : List ℕ). x ++ drop shared (take len key)) (sym (take-take shared len key h)) ∙ take-append-drop shared (take len key) in
-    ap not (ap (below (take shared key ++ s)) (sym split) ∙ below-after (take shared key) s (drop shared (take len key)))
+    may-by (rankIs (take len key) before) (rankIs (take shared key ++ s) seq)
+    ∙ ap (λ (o : Ordering). mayBy o before seq) (ap (compare (take shared key ++ s)) (sym split) ∙ compare-after (take shared key) s (drop shared (take len key)))

@@ -80,6 +80,12 @@ below-trans a b c h e =
     (λ t. let e′ : below b c ≡ false = le-below b c (at-most-trans c a b (below-false a c t) h) in cc)
     (bool-cases (below a c))
 
+pub below-most : (a b c : Key) → below a b ≡ true → AtMost b c → below a c ≡ true
+below-most a b c e h =
+    ⊎-elim (λ t. t)
+    (λ t. let e′ : below a b ≡ false = le-below a b (at-most-trans b c a h (below-false a c t)) in cc)
+    (bool-cases (below a c))
+
 -- ---- the common prefix
 
 pub common-left : (xs ys : List ℕ) → common xs ys ≤ length xs
