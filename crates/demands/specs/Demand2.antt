@@ -30,8 +30,8 @@ pub decode-encode : (prevLen shared : ℕ) (suffix : List ℕ) (f : Fields) (roo
     → DecodesBack prevLen shared suffix f w post
 decode-encode prevLen shared suffix f room w post t e = decodes-back prevLen shared suffix f w post (encode-tells prevLen shared suffix f room w e) t
 
--- The check accepts exactly the blocks whose trailer and offsets are good and whose rows cover the data, one starting at each restart, with keys that never fall; and it answers
--- how many rows there are.
+-- The check accepts exactly the blocks whose trailer and offsets are good and whose rows cover the data, one starting at each restart, each of which may follow the one before: its key
+-- is greater, or the same with a smaller sequence number. And it answers how many rows there are.
 pub check-exact : (b : List ℕ) (n : ℕ) → (check b ≡ ok n → Accepts b n) × (Accepts b n → check b ≡ ok n)
 check-exact b n = (check-accepts b n, accepts-check b n)
 
@@ -86,14 +86,14 @@ module _ (b : List ℕ) (n : ℕ) (t : Trailer) (rows : List Keyed) (q : Rows b 
       let same : s .c ≡ c = ap (λ (x : Sought). x .cursor) (ok-inj (sym (s .is) ∙ e)) in
       (λ i h k. rw same at (retry-present b n t rows q target room fits i h k), λ k moved g has. retry-absent b n t rows q target room fits k moved (rw same g) has)
 
--- A finished block is accepted exactly when its rows are in order: each may follow the one before.
+-- A finished block is accepted exactly when its rows are in this order.
 pub finished-accepted : (size interval : ℕ) (calls : List Call) (rows : List Row) (end : Lending) (block : List ℕ) → Ran size interval calls rows end → Finishes end block
     → (Rising noRank (offeredRanks rows) → check block ≡ ok (length rows)) × ((n : ℕ) → check block ≡ ok n → Rising noRank (offeredRanks rows))
 finished-accepted size interval calls rows end block ran f =
     let l = ran-laid size interval calls rows end ran block f in
     (laid-accepted block interval rows l, λ n e. accepted-laid block interval rows n l e)
 
--- And of one that is not, the check refuses it with 17.
+-- And one whose rows are not is refused with 17.
 pub finished-refused : (size interval : ℕ) (calls : List Call) (rows : List Row) (end : Lending) (block : List ℕ) → Ran size interval calls rows end → Finishes end block
     → (Rising noRank (offeredRanks rows) → ⊥) → check block ≡ refuse 17
 finished-refused size interval calls rows end block ran f falls =

@@ -1,5 +1,5 @@
 -- Each demand's theorem once, on the desk's own rows, so that none is empty: what a theorem asks for is there, by computation, for a run that makes case 2's block with calls of every kind,
--- a refused row and longer buffers among them, for case 8's block, and for two runs with other settings whose keys fall.
+-- a refused row and longer buffers among them, for case 8's block, for two runs with other settings whose keys fall, and for one that offers a row twice.
 use Prim.Native.Nat.{ℕ, zero, suc, _+_, _<_, _≤_}
 use mathlib.Core.Path.{_≡_, refl}
 use mathlib.Core.Bool.{Bool, true, false, cond}
@@ -24,16 +24,17 @@ use Rattle.layout.specs.Builder.{Builder, keptBuilder, fresh, newBuilder, state
 use Rattle.layout.specs.Check.{checkRow, checkFrom, check}
 use Rattle.layout.specs.Cursor.{ascending, descending, Cursor, keptCursor, cursorIs, opened, openBlock, Keyed, stepUp, next, keyAfter, isEmpty}
 use Rattle.layout.specs.Seek.{seek, soughtAfter}
-use Rattle.demands.specs.Reads.{regionRows, regionsRows, allRows, Accepts, contentOf, keysOf}
-use Rattle.layout.specs.Cases.{rowWith}
+use Rattle.demands.specs.Reads.{regionRows, regionsRows, Reads, allRows, Accepts, contentOf, keysOf}
+use Rattle.layout.specs.Cases.{rowWith, rows8 as offered8}
 use Rattle.demands.specs.Runs.{Lending, lending, Call, offer, would-fit, is-empty, finish, lend-on, run, rowsOf, BeginAlike, Ran, Finishes, RoomFor, backwards, WalksAll, stepsGive, GivesFirst, KeysFit}
 use Rattle.demands.specs.Rows.{DecodesBack, Rows, BothWays, SoughtUp, SoughtDown, FoundFirst}
 use Rattle.demands.specs.Demand1.{refused-step, refused-seek, refused-add, refused-build, refused-encode, refused-restore, given-bytes, stale-bytes-tell-nothing, stale-bytes-empty, stale-bytes-seek, stale-bytes-fit, stale-bytes-add, stale-bytes-build}
 use Rattle.demands.specs.Demand2.{decode-encode, check-exact, has-rows, room-enough, walk-any-buffers, first-at-or-above, last-at-or-below, walk-steps, seek-ascending-lands, seek-descending-lands, retry-found, restarts-at-most, finished-accepted, finished-refused}
 use Rattle.demands.specs.Demand3.{run-finishes, blocks-differ, keys-fit, reads-forwards, reads-backwards, reads-any-buffers, row-begins-no-other, read-begins-no-other}
-use Rattle.demands.specs.AnyOrder.{cutFrom, regionsFrom, through}
-use Rattle.demands.specs.OldBlocks.{Stand, old-blocks-stand}
-use Rattle.layout.specs.Laws.Res.{ltb-cases, clash, clash}
+use Rattle.demands.specs.AnyOrder.{cutFrom, regionsFrom, through, SoughtAmong}
+use Rattle.demands.specs.OldBlocks.{formerMaxKey, Stand, old-blocks-stand}
+use Rattle.demands.specs.DoubleDebit.{rankAt, no-double-debit, newest-first}
+use Rattle.layout.specs.Laws.Res.{ltb-cases, clash}
 use Rattle.demands.specs.Laws.Refusals.{seek-never-18}
 
 -- ---- case 2, by a run
@@ -134,7 +135,7 @@ case-2-decodes = decode-encode 1 1 (98 ∷ []) (rowAB .fields) 14 (rowBytes 1 (9
 -- ---- case 8
 
 abbrev block8 : List ℕ
-block8 = blockBytes 2 (rowWith (97 ∷ []) [] 1 ∷ rowWith (98 ∷ []) [] 2 ∷ rowWith (98 ∷ []) [] 3 ∷ rowWith (98 ∷ []) [] 4 ∷ rowWith (99 ∷ []) [] 5 ∷ [])
+block8 = blockBytes 2 offered8
 
 pub case-8-accepted : check block8 ≡ ok 5
 unfolding blockBytes blockRows offsets rowsFrom offsetsFrom trailer offsetBytes isRestart shareOf laidRow rowBytes timeBytes big varint varintIn common check checkFrom checkRow trailerOf shortAt unbig allOffsets risingFrom regionOf readRow rowAt headTests headAt lengthsAt varintAt readVarint readVarintIn keyLengthTests bodyTests bodyAt fixedAt flagsAt timesAt timeAt mayFollow below
@@ -160,12 +161,16 @@ regions8 = unlessRefused (regionsRows 3 block8 t8 0)
 abbrev rows8 : List Keyed
 rows8 = allRows regions8
 
+regions-read8 : Reads block8 t8 regions8
+unfolding blockBytes blockRows offsets rowsFrom offsetsFrom trailer offsetBytes isRestart shareOf laidRow rowBytes timeBytes big varint varintIn common regionsRows regionRows trailerOf shortAt unbig allOffsets risingFrom regionOf readRow rowAt headTests headAt lengthsAt varintAt readVarint readVarintIn keyLengthTests bodyTests bodyAt fixedAt flagsAt timesAt timeAt
+regions-read8 = record { trailer-good = refl; offsets-good = refl; rows-read = refl }
+
 reads8 : Rows block8 5 t8 rows8
 unfolding blockBytes blockRows offsets rowsFrom offsetsFrom trailer offsetBytes isRestart shareOf laidRow rowBytes timeBytes big varint varintIn common regionsRows regionRows allRows trailerOf shortAt unbig allOffsets risingFrom regionOf readRow rowAt headTests headAt lengthsAt varintAt readVarint readVarintIn keyLengthTests bodyTests bodyAt fixedAt flagsAt timesAt timeAt mayFollow below
 reads8 =
     record {
       regions = regions8;
-      reads = record { trailer-good = refl; offsets-good = refl; rows-read = refl };
+      reads = regions-read8;
       are = refl;
       in-order = (refl, (refl, (refl, (refl, (refl, tt)))));
       many = refl;
@@ -190,6 +195,14 @@ case-8-ascending = seek-ascending-lands block8 5 t8 rows8 reads8 maxKey room8 (9
 
 pub case-8-descending : SoughtDown block8 t8 (98 ∷ []) rows8 maxKey
 case-8-descending = seek-descending-lands block8 5 t8 rows8 reads8 maxKey room8 (98 ∷ [])
+
+-- no two of its rows have one key and one number. Rows 1 and 3 have the key "b": so has row 2, which stands between them, with a smaller number than row 1
+pub case-8-no-double : (i j : ℕ) → i < 5 → j < 5 → rankAt rows8 i .key ≡ rankAt rows8 j .key → rankAt rows8 i .seq ≡ rankAt rows8 j .seq → i ≡ j
+case-8-no-double i j h l = no-double-debit block8 5 t8 regions8 case-8-accepted regions-read8 i j (omega (arith, reads8 .many)) (omega (arith, reads8 .many))
+
+pub case-8-newest-first : (rankAt rows8 2 .key ≡ rankAt rows8 1 .key) × (rankAt rows8 2 .seq < rankAt rows8 1 .seq)
+unfolding blockBytes blockRows offsets rowsFrom offsetsFrom trailer offsetBytes isRestart shareOf laidRow rowBytes timeBytes big varint varintIn common regionsRows regionRows allRows trailerOf shortAt unbig allOffsets risingFrom regionOf readRow rowAt headTests headAt lengthsAt varintAt readVarint readVarintIn keyLengthTests bodyTests bodyAt fixedAt flagsAt timesAt timeAt
+case-8-newest-first = newest-first block8 5 t8 regions8 case-8-accepted regions-read8 1 2 3 (omega arith) (omega arith) (omega (arith, reads8 .many)) refl
 
 -- row 1 has the key "b", so the row after the seek has it
 pub case-8-retry : FoundFirst block8 (98 ∷ []) rows8 maxKey (case-8-ascending .c)
@@ -270,7 +283,7 @@ module _ (x y : List ℕ) where
 
 -- the step gives row 1, and its key "b" at the start of a buffer of sevens
 row1 : RowRead
-row1 = record { start = 13; next = 26; shared = 0; suffixAt = 16; suffixLen = 1; held = holds 17 0; seq = 2; expire = Absent; create = Absent }
+row1 = record { start = 13; next = 26; shared = 0; suffixAt = 16; suffixLen = 1; held = holds 17 0; seq = 4; expire = Absent; create = Absent }
 
 pub case-8-given : let after = keyAfter (next (after-a []) block8 8) (replicate 8 7) in (take 1 after ≡ 98 ∷ []) × (drop 1 after ≡ drop 1 (replicate 8 7))
 unfolding blockBytes blockRows offsets rowsFrom offsetsFrom trailer offsetBytes isRestart shareOf laidRow rowBytes timeBytes big varint varintIn common trailerOf shortAt unbig regionOf readRow rowAt headTests headAt lengthsAt varintAt readVarint readVarintIn keyLengthTests bodyTests bodyAt fixedAt flagsAt timesAt timeAt next stepUp row1
@@ -417,3 +430,43 @@ falling-region = refl
 pub falling-last : through (97 ∷ []) (rowY .key ∷ rowA .key ∷ []) ≡ 2
 unfolding through below
 falling-last = refl
+
+-- ---- a key twice with one number: a builder takes both rows, and the check refuses the block; built before, it still stands, and every seek is told by the two
+
+abbrev rowB : Row
+rowB = rowWith (98 ∷ []) [] 7
+
+abbrev callsB : List Call
+callsB = offer rowB ∷ offer rowB ∷ []
+
+abbrev startB : Lending
+startB = lending (fresh 4096 1) (replicate 32 9) (replicate 2 9)
+
+abbrev blockB : List ℕ
+blockB = blockBytes 1 (rowB ∷ rowB ∷ [])
+
+ran-b : Ran 4096 1 callsB (rowB ∷ rowB ∷ []) (run startB callsB)
+unfolding leadingZeros run rowsOf newBuilder stateTests fits wouldFit add build keyLengthTests lengthTests isRestart shareOf laidRow rowBytes timeBytes big varint varintIn common splice trailer offsetBytes
+ran-b =
+    record {
+      fresh-one = fresh 4096 1;
+      bytes = replicate 32 9;
+      places = replicate 2 9;
+      is-new = refl;
+      typed = (typed (98 ∷ []) [] 7 (omega arith), (typed (98 ∷ []) [] 7 (omega arith), tt));
+      rows-are = refl;
+      ends = refl;
+    }
+
+finishes-b : Finishes (run startB callsB) blockB
+finishes-b = run-finishes 4096 1 callsB (rowB ∷ rowB ∷ []) (run startB callsB) ran-b (omega arith)
+
+pub twice-refused : check blockB ≡ refuse 17
+unfolding mayFollow below
+twice-refused = finished-refused 4096 1 callsB (rowB ∷ rowB ∷ []) (run startB callsB) blockB ran-b finishes-b (λ o. clash (o .1 .0) refl)
+
+pub twice-stands : Stand 1 (rowB ∷ rowB ∷ []) blockB
+twice-stands = old-blocks-stand 4096 1 callsB (rowB ∷ rowB ∷ []) (run startB callsB) blockB ran-b finishes-b (omega arith, (omega arith, tt))
+
+pub twice-sought : SoughtAmong blockB (twice-stands .t) (98 ∷ []) (twice-stands .given) formerMaxKey
+twice-sought = twice-stands .sought (98 ∷ [])

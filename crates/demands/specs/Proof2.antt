@@ -27,8 +27,8 @@ use Rattle.demands.specs.Rows.{DecodesBack, Rows, BothWays, offeredRanks
 use Rattle.demands.specs.RunsProof.{walks-before, walks-after}
 use Rattle.demands.specs.SoughtProof.{landed-up, landed-down}
 use Rattle.demands.specs.Proof3.{Encoded, encoded-fields}
-use Rattle.layout.specs.Laws.Res.{ok-inj, ltb-cases, bool-cases, clash}
-use Rattle.layout.specs.Laws.Key.{AtMost, at-most-refl, at-most-trans, at-most-antisym, below-false, le-below}
+use Rattle.layout.specs.Laws.Res.{ok-inj, ltb-cases, clash}
+use Rattle.layout.specs.Laws.Key.{AtMost, at-most-refl, at-most-trans, at-most-antisym, below-false, le-below, below-most}
 use Rattle.layout.specs.Laws.Row.{placesOf, readRow-law, placesOf-fields, placesOf-key}
 use Rattle.layout.specs.Laws.Tells.{readRow-ends, restart-least}
 use Rattle.layout.specs.Laws.Trailer.{regionOf-tells, trailerOf-tells}
@@ -140,10 +140,7 @@ module _ (target : Key) (rows : List Keyed) (in-order : Rising noRank (ranksOf r
       from : firstAbove target (keysOf rows) ≤ i → below target (getD (keysOf rows) i []) ≡ true
       from h =
           let j : ℕ = firstAbove target (keysOf rows) in
-          let rise = sorted-by [] rows o j i h here in
-          ⊎-elim (λ e. e)
-          (λ e. absurd (clash (above-here target (keysOf rows) (omega (arith, keys-many))) (le-below target (getD (keysOf rows) j []) (at-most-trans (getD (keysOf rows) j []) (getD (keysOf rows) i []) target rise (below-false target (getD (keysOf rows) i []) e)))))
-          (bool-cases (below target (getD (keysOf rows) i [])))
+          below-most target (getD (keysOf rows) j []) (getD (keysOf rows) i []) (above-here target (keysOf rows) (omega (arith, keys-many))) (sorted-by [] rows o j i h here)
 
 key-at : (ks : List Keyed) (n : ℕ) (k : Keyed) (rest : List Keyed) → drop n ks ≡ k ∷ rest → getD (keysOf ks) n [] ≡ k .key
 key-at [] zero k rest e = absurd (let z : _≡_ {A = ℕ} 0 1 = cc in omega arith)
@@ -305,9 +302,14 @@ laid-verdict b n rows l =
     check-verdict b (l .t) (l .regions) (l .reads)
     ∙ ap (λ (x : List Rank). verdict noRank x 0) (same-ranks (dataOf b (l .t)) (allRows (l .regions)) rows (l .contents))
 
+-- the rows that are read of an accepted block are in order
+pub accepted-in-order : (b : List ℕ) (n : ℕ) (t : Trailer) (regions : List (List Keyed)) → check b ≡ ok n → Reads b t regions → Rising noRank (ranksOf (allRows regions))
+accepted-in-order b n t regions e reads =
+    let a = check-accepts b n e in
+    let s : a .t ≡ t = ok-inj (sym (a .reads .trailer-good) ∙ reads .trailer-good) in
+    let r : a .regions ≡ regions = ok-inj (sym (a .reads .rows-read) ∙ ap (λ (x : Trailer). regionsRows (x .count) b x 0) s ∙ reads .rows-read) in
+    rw (← r) (a .in-order)
+
 pub accepted-laid : (b : List ℕ) (n : ℕ) (rows : List Row) (k : ℕ) → LaidBlock b n rows → check b ≡ ok k → Rising noRank (offeredRanks rows)
 accepted-laid b n rows k l e =
-    let a = check-accepts b k e in
-    let t : a .t ≡ l .t = ok-inj (sym (a .reads .trailer-good) ∙ l .reads .trailer-good) in
-    let r : a .regions ≡ l .regions = ok-inj (sym (a .reads .rows-read) ∙ ap (λ (x : Trailer). regionsRows (x .count) b x 0) t ∙ l .reads .rows-read) in
-    rw (← same-ranks (dataOf b (l .t)) (allRows (l .regions)) rows (l .contents), ← r) (a .in-order)
+    rw (← same-ranks (dataOf b (l .t)) (allRows (l .regions)) rows (l .contents)) (accepted-in-order b k (l .t) (l .regions) e (l .reads))

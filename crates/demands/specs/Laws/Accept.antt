@@ -1,5 +1,5 @@
--- The check accepts a block exactly when trailer and offsets are good, rows cover the data with one starting at each restart, and keys never fall; and then it
--- answers how many rows there are. Both directions go along the check's own fold, region by region; of rows that are read it tells no more than their order.
+-- The check accepts a block exactly when trailer and offsets are good, rows cover the data with one starting at each restart, and each may follow the one before; and
+-- then it answers how many rows there are. Both directions go along the check's own fold, region by region; of rows that are read it tells no more than their order.
 use Prim.Native.Nat.{ℕ, zero, suc, _+_, _-_, _<_, _≤_}
 use mathlib.Core.Path.{_≡_, refl, ap, sym, _∙_}
 use mathlib.Core.Bool.{Bool, true, false, cond, not}

@@ -1,18 +1,55 @@
--- Rows whose keys never fall, and how many of them, from the first on, pass a test: the rows before one that is below a target are below it, and so on.
-use Prim.Native.Nat.{suc, _+_, _<_, _≤_, zero-le, suc-le-suc}
-use mathlib.Core.Path.{_≡_, refl, ap, sym}
+-- Rows in order, by their numbers: each may follow every one before it. Then rows whose keys never fall, which is less, and how many of them, from the first on, pass a test: the rows before
+-- one that is below a target are below it, and so on.
+use Prim.Native.Nat.{ℕ, zero, suc, _+_, _<_, _≤_, zero-le, suc-le-suc}
+use mathlib.Core.Path.{_≡_, refl, ap, sym, _∙_}
 use mathlib.Core.Bool.{Bool, true, false, not}
 use mathlib.Core.List.{List, [], _∷_, _++_}
 use mathlib.Core.Logic.{⊎-elim}
 use native.Mathlib.Omega.{arith}
 use native.Mathlib.Nat.{le-of-suc-le-suc, not-suc-le-zero, suc-add, zero-add}
-use lib.ListN.{length}
-use borrow.Author.Tests.{not-true}
-use Rattle.layout.specs.Key.{Key, below, Rank, rankIs, mayFollow, Rising, leading, isBelow, notAbove}
+use lib.ListN.{length, getD}
+use Rattle.layout.specs.Key.{Key, below, Rank, rankIs, noRank, mayFollow, Rising, leading, isBelow, notAbove}
 use Rattle.layout.specs.Cursor.{Keyed}
 use Rattle.demands.specs.Reads.{ranksOf, AllOf, keysOf}
 use Rattle.layout.specs.Laws.Res.{bool-cases, clash}
-use Rattle.layout.specs.Laws.Key.{AtMost, at-most-trans, below-false, le-below, below-trans}
+use Rattle.layout.specs.Laws.Key.{AtMost, at-most-refl, at-most-trans, below-false, le-below, below-le, below-trans, below-most}
+use Rattle.layout.specs.Laws.Order.{may-tells, greater-may, newer-may}
+
+-- ---- rows in order
+
+-- the key of a row that may follow is no smaller; and where it is the same, the number is smaller
+pub may-at-most : (a b : Rank) → mayFollow a b ≡ true → AtMost (a .key) (b .key)
+may-at-most a b e = ⊎-elim (below-le (a .key) (b .key)) (λ k. rw (k .0) (at-most-refl (b .key))) (may-tells a b e)
+
+pub may-newer : (a b : Rank) → mayFollow a b ≡ true → a .key ≡ b .key → b .seq < a .seq
+may-newer a b e k =
+    ⊎-elim
+    (λ l. absurd (clash (rw k at l) (le-below (b .key) (b .key) (at-most-refl (b .key)))))
+    (λ n. n .1)
+    (may-tells a b e)
+
+pub may-trans : (a b c : Rank) → mayFollow a b ≡ true → mayFollow b c ≡ true → mayFollow a c ≡ true
+may-trans a b c p q =
+    ⊎-elim
+    (λ l. greater-may a c (below-most (a .key) (b .key) (c .key) l (may-at-most b c q)))
+    (λ n.
+    ⊎-elim
+    (λ l. greater-may a c (rw (n .0) l))
+    (λ m. newer-may a c (n .0 ∙ m .0) (omega (arith, n .1, m .1)))
+    (may-tells b c q))
+    (may-tells a b p)
+
+rising-from : (a : Rank) (rs : List Rank) → Rising a rs → (j : ℕ) → j < length rs → mayFollow a (getD rs j noRank) ≡ true
+rising-from a [] o j h = absurd (not-suc-le-zero h)
+rising-from a (r ∷ rs) o zero h = o .0
+rising-from a (r ∷ rs) o (suc j) h = may-trans a r (getD rs j noRank) (o .0) (rising-from r rs (o .1) j (omega arith))
+
+-- each row may follow every one before it, wherever the two stand
+pub rising-by : (a : Rank) (rs : List Rank) → Rising a rs → (i j : ℕ) → i < j → j < length rs → mayFollow (getD rs i noRank) (getD rs j noRank) ≡ true
+rising-by a [] o i j h l = absurd (not-suc-le-zero l)
+rising-by a (r ∷ rs) o i zero h l = absurd (not-suc-le-zero h)
+rising-by a (r ∷ rs) o zero (suc j) h l = rising-from r rs (o .1) j (omega arith)
+rising-by a (r ∷ rs) o (suc i) (suc j) h l = rising-by r rs (o .1) i j (omega arith) (omega arith)
 
 -- ---- rows that all pass a test
 
@@ -63,8 +100,7 @@ NeverFall before [] = Unit {0}
 NeverFall before (k ∷ ks) = (below (k .key) before ≡ false) × NeverFall (k .key) ks
 
 pub may-not-below : (a b : Rank) → mayFollow a b ≡ true → below (b .key) (a .key) ≡ false
-unfolding mayFollow
-may-not-below a b e = not-true (below (b .key) (a .key)) e
+may-not-below a b e = le-below (b .key) (a .key) (may-at-most a b e)
 
 pub rising-never-falls : (a : Rank) (ks : List Keyed) → Rising a (ranksOf ks) → NeverFall (a .key) ks
 rising-never-falls a [] o = tt
@@ -98,8 +134,4 @@ pub above-on : (target a : Key) (ks : List Keyed) → NeverFall a ks → below t
 unfolding leading
 above-on target a [] o e = refl
 above-on target a (k ∷ ks) o e =
-    let b : below target (k .key) ≡ true =
-    ⊎-elim (λ t. t)
-    (λ t. absurd (clash e (le-below target a (at-most-trans a (k .key) target (below-false (k .key) a (o .0)) (below-false target (k .key) t)))))
-    (bool-cases (below target (k .key))) in
-    rw b
+    rw (below-most target a (k .key) e (below-false (k .key) a (o .0)))
