@@ -86,7 +86,7 @@ module _ (b : List ℕ) (n : ℕ) (t : Trailer) (rows : List Keyed) (q : Rows b 
       let same : s .c ≡ c = ap (λ (x : Sought). x .cursor) (ok-inj (sym (s .is) ∙ e)) in
       (λ i h k. rw same at (retry-present b n t rows q target room fits i h k), λ k moved g has. retry-absent b n t rows q target room fits k moved (rw same g) has)
 
--- A finished block is accepted exactly when its rows are in this order.
+-- A finished block is accepted exactly when its rows are in this order: each may follow the one before.
 pub finished-accepted : (size interval : ℕ) (calls : List Call) (rows : List Row) (end : Lending) (block : List ℕ) → Ran size interval calls rows end → Finishes end block
     → (Rising noRank (offeredRanks rows) → check block ≡ ok (length rows)) × ((n : ℕ) → check block ≡ ok n → Rising noRank (offeredRanks rows))
 finished-accepted size interval calls rows end block ran f =
