@@ -1,7 +1,7 @@
 -- The walk, by what was met: one law for each thing that the code does before a region and in one.
 use Prim.Native.Nat.{ℕ, _+_, _-_, _≤_, _<_}
 use mathlib.Core.Path.{_≡_, refl, ap, sym, _∙_, subst}
-use mathlib.Core.Bool.{true, false, cond}
+use mathlib.Core.Bool.{Bool, true, false, cond}
 use mathlib.Core.List.{List, _++_}
 use mathlib.Core.Logic.{⊎-elim}
 use native.Mathlib.Omega.{arith}
@@ -10,7 +10,7 @@ use lib.ListN.{length, take, drop, replicate, length-drop, length-replicate}
 use lib.Seq.{take-add, take-take, drop-at, length-take-le}
 use borrow.Author.Tests.{lt-ltb, le-ltb}
 use Rattle.layout.specs.Res.{ok, refuse}
-use Rattle.layout.specs.Key.{below}
+use Rattle.layout.specs.Key.{Key, Ordering, compare}
 use Rattle.layout.specs.Limits.{maxKey}
 use Rattle.layout.specs.Place.{splice}
 use Rattle.layout.specs.RowRead.{RowRead, keyLength}
@@ -19,6 +19,7 @@ use Rattle.layout.specs.Laws.Res.{ltb-cases, ok-inj}
 use Rattle.layout.specs.Laws.Carry.{suffixOf, suffix-fits, carries-on}
 use Rattle.layout.specs.Laws.Splice.{length-splice, take-past-splice}
 use Rattle.layout.specs.Laws.Check.{Checking, checking-start, checking-over, checking-no, checking-more, row-region, row-no, row-falls, row-passed}
+use Rattle.layout.specs.Laws.Order.{mayBy}
 use Rattle.layout.specs.Laws.Tells.{RowEnds, row-shares, rowIn-ends}
 use Rattle.layout.specs.Laws.Trailer.{RegionTells, regionOf-tells, trailerOf-tells, allOffsets-tell}
 use Rattle.trailer.specs.Laws.{region-used}
@@ -29,8 +30,8 @@ use Rattle.block_check_v2.specs.declared.Walked.{Walked}
 use Rattle.block_check_v2.specs.Walk.{rowsOf, Goes, Stands, Leaves, Tries}
 
 -- in region r, whose bounds are g: a row that ended at its end has left it
-pub record Walks (b : List ℕ) (t : Trailer) (r : ℕ) (g : Region) (at rows : ℕ) (key : List ℕ) (len : ℕ) : Type 0 where
-  pub goes : Goes b t at (cond (ltb at (g .end)) r (r + 1)) rows key len
+pub record Walks (b : List ℕ) (t : Trailer) (r : ℕ) (g : Region) (at rows seq : ℕ) (key : List ℕ) (len : ℕ) : Type 0 where
+  pub goes : Goes b t at (cond (ltb at (g .end)) r (r + 1)) rows seq key len
   pub within : at ≤ g .end
 
 -- the part of a list that is lent from a to before z
@@ -50,8 +51,12 @@ splice-alike l k w a len h e f g =
     ∙ ap (λ (x : List ℕ). x ++ w) (sym (take-take a len l h) ∙ ap (take a) e ∙ take-take a len k h)
     ∙ sym (take-past-splice k a w g)
 
-abbrev pub passedFrom : ℕ → ℕ → ℕ → ℕ → Passed
-passedFrom at region len rows = record { at = at; region = region; «key_len» = len; rows = rows }
+abbrev pub passedFrom : ℕ → ℕ → ℕ → ℕ → ℕ → Passed
+passedFrom at region len seq rows = record { at = at; region = region; «key_len» = len; seq = seq; rows = rows }
+
+-- a row's order after the one before it, as it was told: the comparison of the keys, then the test of the numbers
+pub may-told : (a b : Key) (before seq : ℕ) {o : Ordering} {m x : Bool} → o ≡ compare a b → m ≡ mayBy o before seq → m ≡ x → mayBy (compare a b) before seq ≡ x
+may-told a b before seq e f g = ap (λ (o : Ordering). mayBy o before seq) (sym e) ∙ sym f ∙ g
 
 module _ (b : List ℕ) (t : Trailer) where
   -- the case of an answer is known, so what it leaves is
@@ -61,7 +66,7 @@ module _ (b : List ℕ) (t : Trailer) where
   pub tries-as : (room : ℕ) {w v : Tried} → Tries b t room w → w ≡ v → Tries b t room v
   tries-as room l e = subst (λ (x : Tried). Tries b t room x) e l
 
-  pub stands-first : trailerOf b ≡ ok t → allOffsets b t ≡ ok tt → (key : List ℕ) → Stands b t (passedFrom 0 0 0 0) key
+  pub stands-first : trailerOf b ≡ ok t → allOffsets b t ≡ ok tt → (key : List ℕ) → Stands b t (passedFrom 0 0 0 0 0) key
   stands-first e o key =
       record {
         goes =
@@ -91,17 +96,17 @@ module _ (b : List ℕ) (t : Trailer) where
     bounds-none z = region-not b t r g here-is z
 
   module _ (p : Passed) (key : List ℕ) (s : Stands b t p key) where
-    now-goes : Checking b t (p .at) (p .region) (p .rows) (s .goes .long) (p .«key_len»)
+    now-goes : Checking b t (p .at) (p .region) (p .rows) (p .seq) (s .goes .long) (p .«key_len»)
     now-goes = s .goes .checking
 
     pub stands-over : t .size ≤ p .at → ok (p .rows) ≡ rowsOf b t
-    stands-over h = checking-over b t (p .at) (p .region) (p .rows) (s .goes .long) (p .«key_len») now-goes h
+    stands-over h = checking-over b t (p .at) (p .region) (p .rows) (p .seq) (s .goes .long) (p .«key_len») now-goes h
 
     module _ (h : p .at < t .size) where
       pub stands-no : {n : ℕ} → regionOf b t (p .region) ≡ refuse n → refuse n ≡ rowsOf b t
       stands-no {n} e =
-          checking-no b t (p .at) (p .region) (p .rows) (s .goes .long) (p .«key_len») now-goes h n
-          (sym (row-region b t (p .at) (p .region) (p .rows) (now-goes .seq) (s .goes .long) (p .«key_len») (now-goes .holds) e))
+          checking-no b t (p .at) (p .region) (p .rows) (p .seq) (s .goes .long) (p .«key_len») now-goes h n
+          (sym (row-region b t (p .at) (p .region) (p .rows) (p .seq) (s .goes .long) (p .«key_len») (now-goes .holds) e))
 
       module _ (g : Region) (e : regionOf b t (p .region) ≡ ok g) where
         tells : RegionTells b t (p .region) g
@@ -110,17 +115,17 @@ module _ (b : List ℕ) (t : Trailer) where
         pub stands-inside : p .at < g .end
         stands-inside = omega (arith, s .starts h .1, tells .from, tells .rises)
 
-        pub stands-walks : Walks b t (p .region) g (p .at) (p .rows) key (p .«key_len»)
+        pub stands-walks : Walks b t (p .region) g (p .at) (p .rows) (p .seq) key (p .«key_len»)
         stands-walks =
             let i = stands-inside in
             record { goes = rw (lt-ltb (p .at) (g .end) i) (s .goes); within = omega arith }
 
-  module _ (r : ℕ) (g : Region) (used : regionOf b t r ≡ ok g) (at rows : ℕ) (key : List ℕ) (len : ℕ) (w : Walks b t r g at rows key len) where
+  module _ (r : ℕ) (g : Region) (used : regionOf b t r ≡ ok g) (at rows seq : ℕ) (key : List ℕ) (len : ℕ) (w : Walks b t r g at rows seq key len) where
     ends : RegionTells b t r g
     ends = regionOf-tells b t r g used
 
     -- past the last row of the region: its end is where the next starts, or the data's end
-    pub walks-over : g .end ≤ at → Stands b t (passedFrom at (r + 1) len rows) key
+    pub walks-over : g .end ≤ at → Stands b t (passedFrom at (r + 1) len seq rows) key
     walks-over h =
         let m = w .within in
         record {
@@ -134,20 +139,20 @@ module _ (b : List ℕ) (t : Trailer) where
         }
 
     module _ (h : at < g .end) where
-      here : Goes b t at r rows key len
+      here : Goes b t at r rows seq key len
       here = rw (lt-ltb at (g .end) h) at (w .goes)
 
       abbrev long : List ℕ
       long = here .long
 
-      checks : Checking b t at r rows long len
+      checks : Checking b t at r rows seq long len
       checks = here .checking
 
       inside : at < t .size
       inside = omega (arith, ends .inside)
 
       pub walks-no : {n : ℕ} → rowIn (dataOf b t) g at len ≡ refuse n → refuse n ≡ rowsOf b t
-      walks-no {n} e = checking-no b t at r rows long len checks inside n (sym (row-no b t at r rows (checks .seq) long len (checks .holds) g used e))
+      walks-no {n} e = checking-no b t at r rows seq long len checks inside n (sym (row-no b t at r rows seq long len (checks .holds) g used e))
 
       module _ (x : RowRead) (e : rowIn (dataOf b t) g at len ≡ ok x) where
         row : RowEnds (dataOf b t) at (g .end) len (eqb at (g .start)) x
@@ -171,11 +176,11 @@ module _ (b : List ℕ) (t : Trailer) where
         suffix-long : length (suffixOf (dataOf b t) x) ≡ x .suffixLen
         suffix-long = length-take-le (x .suffixLen) (drop (x .suffixAt) (dataOf b t)) (rw (length-drop (x .suffixAt) (dataOf b t)) (omega (arith, row .suffix)))
 
-        order : below (suffixOf (dataOf b t) x) (drop (x .shared) (take len long)) ≡ below suffix rest
+        order : mayBy (compare (suffixOf (dataOf b t) x) (drop (x .shared) (take len long))) seq (x .seq) ≡ mayBy (compare suffix rest) seq (x .seq)
         order = rw (suffix-is, here .same, drop-take (x .shared) len key shares (omega (arith, here .room, shares)))
 
-        pub walks-falls : below suffix rest ≡ true → refuse 17 ≡ rowsOf b t
-        walks-falls f = checking-no b t at r rows long len checks inside 17 (sym (row-falls b t at r rows (checks .seq) long len (checks .holds) g used x e (order ∙ f)))
+        pub walks-falls : mayBy (compare suffix rest) seq (x .seq) ≡ false → refuse 17 ≡ rowsOf b t
+        walks-falls f = checking-no b t at r rows seq long len checks inside 17 (sym (row-falls b t at r rows seq long len (checks .holds) g used x e (order ∙ f)))
 
         -- a key that is longer than the lent bytes
         pub walks-narrow : length key < keyLength x → length key < maxKey
@@ -188,9 +193,9 @@ module _ (b : List ℕ) (t : Trailer) where
           pub walks-room : x .shared + length suffix ≤ length key
           walks-room = rw (← suffix-is) fits
 
-          pub walks-more : below suffix rest ≡ false
+          pub walks-more : mayBy (compare suffix rest) seq (x .seq) ≡ true
               → (key′ : List ℕ) → key′ ≡ splice key (x .shared) suffix
-              → Walks b t r g (x .next) (rows + 1) key′ (keyLength x)
+              → Walks b t r g (x .next) (rows + 1) (x .seq) key′ (keyLength x)
           walks-more f key′ q =
               rw (q ∙ ap (splice key (x .shared)) (sym suffix-is))
               (record {
@@ -198,9 +203,9 @@ module _ (b : List ℕ) (t : Trailer) where
                     record {
                       long = splice long (x .shared) (suffixOf (dataOf b t) x);
                       checking =
-                          checking-more b t at r rows long len checks inside (x .next) (cond (ltb (x .next) (g .end)) r (r + 1)) (rows + 1) (x .seq) (splice long (x .shared) (suffixOf (dataOf b t) x)) (keyLength x)
+                          checking-more b t at r rows seq long len checks inside (x .next) (cond (ltb (x .next) (g .end)) r (r + 1)) (rows + 1) (x .seq) (splice long (x .shared) (suffixOf (dataOf b t) x)) (keyLength x)
                           (carries-on (dataOf b t) at (g .end) (eqb at (g .start)) long len (checks .holds) x e) (omega (arith, row .least))
-                          (row-passed b t at r rows (checks .seq) long len (checks .holds) g used x e (order ∙ f));
+                          (row-passed b t at r rows seq long len (checks .holds) g used x e (order ∙ f));
                       same = rw suffix-long at (splice-alike long key (suffixOf (dataOf b t) x) (x .shared) len shares (here .same) (suffix-fits (dataOf b t) at (g .end) (eqb at (g .start)) long len (checks .holds) x e) fits);
                       room = rw (length-splice key (x .shared) (suffixOf (dataOf b t) x) fits) k;
                       few = omega (arith, here .few, row .least);

@@ -22,16 +22,16 @@ abbrev pub rowsOf : List ℕ → Trailer → Res ℕ
 rowsOf b t = checkFrom (t .size) b t (passedIs 0 0 noRank 0)
 
 -- what is left of the check, from here on, answers what the whole does; and the lent bytes, which may be fewer than the longest key has, hold the carried key
-pub record Goes (b : List ℕ) (t : Trailer) (at region rows : ℕ) (key : List ℕ) (len : ℕ) : Type 0 where
+pub record Goes (b : List ℕ) (t : Trailer) (at region rows seq : ℕ) (key : List ℕ) (len : ℕ) : Type 0 where
   pub long : List ℕ
-  pub checking : Checking b t at region rows long len
+  pub checking : Checking b t at region rows seq long len
   pub same : take len long ≡ take len key
   pub room : len ≤ length key
   pub few : rows ≤ at
 
 -- before a region, or at the data's end
 pub record Stands (b : List ℕ) (t : Trailer) (p : Passed) (key : List ℕ) : Type 0 where
-  pub goes : Goes b t (p .at) (p .region) (p .rows) key (p .«key_len»)
+  pub goes : Goes b t (p .at) (p .region) (p .rows) (p .seq) key (p .«key_len»)
   pub starts : p .at < t .size → (p .region < t .count) × (p .at ≡ offsetAt b t (p .region))
 
 -- what the walk of a region leaves: it moved on, and stands so again; or the whole check is refused; or the longest key has no room

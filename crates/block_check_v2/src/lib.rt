@@ -1,4 +1,4 @@
-// The check of a whole block: its trailer, all its offsets, then row after row, with the order of the keys last of each.
+// The check of a whole block: its trailer, all its offsets, then row after row, with the order of the rows last of each.
 // slatedb 0.16.0 has no such check. This one is added: it reads the layout of src/format/block_v2.rs and
 // src/format/row_codec_v2.rs (Apache License 2.0), takes any bytes, walks the rows where they stand and copies only the
 // suffixes of their keys.
@@ -7,12 +7,15 @@ ghost use Prim.Native.Nat.{_<_};
 ghost use lib.ListN.{length};
 ghost use Rattle.layout.specs.Res.{ok};
 ghost use Rattle.layout.specs.Trailer.{trailerOf, allOffsets};
+ghost use Rattle.layout.specs.Laws.Order.{mayBy};
+ghost use Rattle.keys.specs.Says.{saysOrdering};
 ghost use Rattle.trailer.specs.Says.{trailerFrom};
 ghost use Rattle.block_check_v2.specs.Says.{saysChecked};
 ghost use Rattle.block_check_v2.specs.Walk.{rowsOf, Stands, Leaves, Tries};
 ghost use Rattle.block_check_v2.specs.Promise.{Checks};
 use basics::Refusal;
 use basics::Verdict;
+use keys::Ordering;
 use trailer::Trailer;
 use trailer::TrailerRead;
 
@@ -25,12 +28,13 @@ pub enum Checked {
     Refused(Refusal),
 }
 
-// What the rows passed so far leave: where the next region starts and its number, the length of the carried key, and how many
-// rows they are.
+// What the rows passed so far leave: where the next region starts and its number, the length of the carried key, the sequence
+// number of the last of them, and how many they are.
 struct Passed {
     at: usize,
     region: usize,
     key_len: usize,
+    seq: u64,
     rows: usize,
 }
 
@@ -46,7 +50,20 @@ enum Tried {
     Narrow,
 }
 
-// Walks the rows of one region, whose bounds are read once. `key` carries the key of the row before, also over a restart.
+// Whether a row may stand after one whose sequence number is `before`, by how its key stands to that one's: of equal keys the
+// newest stands first.
+fn may_follow(order: Ordering, before: u64, seq: u64) -> bool
+    ensures { λ r. ⌜ r ≡ mayBy (saysOrdering order) before seq ⌝ }
+{
+    match order {
+        Ordering::Less => false,
+        Ordering::Equal => seq < before,
+        Ordering::Greater => true,
+    }
+}
+
+// Walks the rows of one region, whose bounds are read once. `key` carries the key of the row before, and `seq` its number, also
+// over a restart.
 fn check_region(block: &[u8], t: Trailer, key: &mut [u8], p: Passed) -> Walked
     requires { ⌜ trailerOf (now block) ≡ ok (trailerFrom t) ⌝ }
     requires { ⌜ p .at < t .size ⌝ }
@@ -61,6 +78,7 @@ fn check_region(block: &[u8], t: Trailer, key: &mut [u8], p: Passed) -> Walked
     let data = &block[..size];
     let mut at = p.at;
     let mut key_len = p.key_len;
+    let mut seq = p.seq;
     let mut rows = p.rows;
     while at < g.end {
         let row = row_span_v2::span_in(data, at, g.start, g.end, key_len);
@@ -72,7 +90,8 @@ fn check_region(block: &[u8], t: Trailer, key: &mut [u8], p: Passed) -> Walked
         let from = row.suffix_at;
         let to = from + row.suffix_len;
         // 17: the shared bytes tell nothing, so the suffix is compared, before it is put, with what the carried key has there.
-        if keys::is_below(&data[from..to], &key[shared..key_len]) {
+        let order = keys::compare(&data[from..to], &key[shared..key_len]);
+        if !may_follow(order, seq, row.seq) {
             return Walked::Refused(Refusal::KeyFalls);
         }
         key_len = shared + row.suffix_len;
@@ -81,12 +100,14 @@ fn check_region(block: &[u8], t: Trailer, key: &mut [u8], p: Passed) -> Walked
         }
         buf_mut::copy_in(key, shared, &data[from..to]);
         at = row.next;
+        seq = row.seq;
         rows += 1;
     }
     Walked::Over(Passed {
         at,
         region: p.region + 1,
         key_len,
+        seq,
         rows,
     })
 }
@@ -102,6 +123,7 @@ fn check_rows(block: &[u8], t: Trailer, key: &mut [u8]) -> Tried
         at: 0,
         region: 0,
         key_len: 0,
+        seq: 0,
         rows: 0,
     };
     while p.at < size {

@@ -1,4 +1,4 @@
--- What a span tells its caller: with an end, the row that was read, with these four numbers; with none, that the row is refused, and by which number.
+-- What a span tells its caller: with an end, the row that was read, with these five numbers; with none, that the row is refused, and by which number.
 use Prim.Native.Nat.{ℕ}
 use mathlib.Core.Path.{_≡_, refl, ap, sym, _∙_}
 use mathlib.Core.Bool.{Bool}
@@ -19,7 +19,7 @@ spanned r p =
       suffixAt = p .suffixAt;
       suffixLen = p .suffixLen;
       held = r .held;
-      seq = r .seq;
+      seq = p .seq;
       expire = r .expire;
       create = r .create;
     }

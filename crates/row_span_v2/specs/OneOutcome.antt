@@ -10,9 +10,9 @@ use Rattle.row_decode_v2.specs.declared.RowRead.{RowRead}
 use Rattle.row_span_v2.specs.declared.RowSpan.{RowSpan}
 use Rattle.row_span_v2.specs.Promise.{spanFrom, SpansIn, RefusesIn, ReadsIn}
 
--- a span says its four numbers
+-- a span says its five numbers
 spanFrom-one : (r q : RowSpan) → spanFrom r ≡ spanFrom q → r ≡ q
-spanFrom-one r q e = ap (λ (x : Span). record { next = x .next; shared = x .shared; «suffix_at» = x .suffixAt; «suffix_len» = x .suffixLen }) e
+spanFrom-one r q e = ap (λ (x : Span). record { next = x .next; shared = x .shared; «suffix_at» = x .suffixAt; «suffix_len» = x .suffixLen; seq = x .seq }) e
 
 module _ (s : List ℕ) (at start end prevLen : ℕ) where
   pub span-in-settled : (r q : RowSpan) → SpansIn s at start end prevLen r → SpansIn s at start end prevLen q → r ≡ q

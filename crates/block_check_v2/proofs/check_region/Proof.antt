@@ -9,6 +9,7 @@ use lib.Dec.{eqb}
 use lib.ListN.{length, length-take}
 use lib.Seq.{length-take-le}
 use borrow.Author.Needs.{needs}
+use borrow.Author.Tests.{not-true, not-false}
 use Rattle.layout.specs.Res.{ok}
 use Rattle.layout.specs.Plain.{RowSpan}
 use Rattle.layout.specs.RowRead.{RowRead as RowReadL}
@@ -21,16 +22,16 @@ use Rattle.trailer.specs.declared.Region.{Region}
 use Rattle.trailer.specs.Says.{trailerFrom, regionFrom}
 use Rattle.row_span_v2.specs.Laws.{spanned, span-known, span-refusal}
 use Rattle.row_span_v2.specs.Promise.{spanFrom}
-use Rattle.block_check_v2.specs.Laws.{Walks, bounds-known, bounds-none, stands-no, stands-inside, stands-walks, walks-over, walks-no, walks-room, walks-falls, walks-narrow, walks-more, the-trailer}
+use Rattle.block_check_v2.specs.Laws.{Walks, bounds-known, bounds-none, stands-no, stands-inside, stands-walks, walks-over, walks-no, walks-room, walks-falls, walks-narrow, walks-more, may-told, the-trailer}
 use Rattle.block_check_v2.proofs.check_region.Statement.{statement}
 use Rattle.block_check_v2.proofs.check_region.Tie as tie
 
 abbrev Inv-loop : tie.InvT-loop
-Inv-loop block key₀ p g size «data» at₀ key-len₀ rows₀ key at key-len rows =
-    (length key ≡ length key₀) × ((t : Trailer) → trailerOf block ≡ ok t → Walks block t (p .region) (regionFrom g) at rows key key-len)
+Inv-loop block key₀ p g size «data» at₀ key-len₀ seq₀ rows₀ key at key-len seq rows =
+    (length key ≡ length key₀) × ((t : Trailer) → trailerOf block ≡ ok t → Walks block t (p .region) (regionFrom g) at rows seq key key-len)
 
 abbrev μ-loop : tie.MeasureT-loop
-μ-loop block key₀ p g size «data» at₀ key-len₀ rows₀ key at key-len rows = g .end - at
+μ-loop block key₀ p g size «data» at₀ key-len₀ seq₀ rows₀ key at key-len seq rows = g .end - at
 
 -- a length fits a word
 short : (s : tie.Start Inv-loop μ-loop) → length (s .args .block .now) < 2 ^ 64
@@ -55,7 +56,7 @@ module _ (l : tie.At-loop Inv-loop μ-loop) where
   abbrev g : Region
   g = l .before .before .before .before .plain-region-at .result
 
-  walk : Walks (began .args .block .now) (trailerFrom (began .args .t)) (began .args .p .region) (regionFrom g) (l .loop .at) (l .loop .rows) (l .loop .key) (l .loop .key-len)
+  walk : Walks (began .args .block .now) (trailerFrom (began .args .t)) (began .args .p .region) (regionFrom g) (l .loop .at) (l .loop .rows) (l .loop .seq) (l .loop .key) (l .loop .key-len)
   walk = l .loop .inv .1 _ (began .pre .0)
 
 -- the row that was read in a turn
@@ -104,7 +105,7 @@ same-length c = c .before .before .before .before .before .before .loop .inv .0
 returns-2 : tie.Need-returns-2 Inv-loop μ-loop
 returns-2 c =
     let l = c .before .before .before .before .before .before in
-    walks-no _ _ _ _ (used (l .before .before)) _ _ _ _ (walk l) (c .before .before .before .before .if2 .taken)
+    walks-no _ _ _ _ (used (l .before .before)) _ _ _ _ _ (walk l) (c .before .before .before .before .if2 .taken)
     (span-refusal _ _ _ _ _ (spanFrom (c .before .before .before .span-in .result)) (c .before .before .before .span-in .ensures) (c .before .if3 .taken) (c .refusal-in .ensures))
 
 add-to : tie.Need-add-to Inv-loop μ-loop
@@ -112,42 +113,42 @@ add-to c =
     let s = began (turn (c .before)) in
     omega (arith, told (c .before) .suffix, length-take (s .args .t .size) (s .args .block .now), short s)
 
-sub-is-below : tie.Need-sub-is-below Inv-loop μ-loop
-sub-is-below c = omega arith
+sub-compare : tie.Need-sub-compare Inv-loop μ-loop
+sub-compare c = omega arith
 
-part-is-below-start : tie.Need-part-is-below-start Inv-loop μ-loop
-part-is-below-start c = omega arith
+part-compare-start : tie.Need-part-compare-start Inv-loop μ-loop
+part-compare-start c = omega arith
 
-part-is-below-end : tie.Need-part-is-below-end Inv-loop μ-loop
-part-is-below-end c = told (c .before) .suffix
+part-compare-end : tie.Need-part-compare-end Inv-loop μ-loop
+part-compare-end c = told (c .before) .suffix
 
-sub-is-below-2 : tie.Need-sub-is-below-2 Inv-loop μ-loop
-sub-is-below-2 c = shares (c .before .before)
+sub-compare-2 : tie.Need-sub-compare-2 Inv-loop μ-loop
+sub-compare-2 c = shares (c .before .before)
 
-part-is-below-start-2 : tie.Need-part-is-below-start-2 Inv-loop μ-loop
-part-is-below-start-2 c = shares (c .before .before .before)
+part-compare-start-2 : tie.Need-part-compare-start-2 Inv-loop μ-loop
+part-compare-start-2 c = shares (c .before .before .before)
 
-part-is-below-end-2 : tie.Need-part-is-below-end-2 Inv-loop μ-loop
-part-is-below-end-2 c = walk (turn (c .before .before .before)) .goes .room
+part-compare-end-2 : tie.Need-part-compare-end-2 Inv-loop μ-loop
+part-compare-end-2 c = walk (turn (c .before .before .before)) .goes .room
 
 same-length-2 : tie.Need-same-length-2 Inv-loop μ-loop
-same-length-2 c = turn (c .before .before .before .before .before .before) .loop .inv .0
+same-length-2 c = turn (c .before .before .before .before .before .before .before) .loop .inv .0
 
 returns-3 : tie.Need-returns-3 Inv-loop μ-loop
 returns-3 c =
-    let n = c .before .before .before .before .before .before in
-    walks-falls _ _ _ _ (used (turn n .before .before)) _ _ _ _ (walk (turn n)) (n .before .before .before .if2 .taken) _ (read n) (sym (c .before .is-below .ensures) ∙ c .if4 .taken)
+    let n = c .before .before .before .before .before .before .before in
+    walks-falls _ _ _ _ (used (turn n .before .before)) _ _ _ _ _ (walk (turn n)) (n .before .before .before .if2 .taken) _ (read n) (may-told _ _ _ _ (c .before .before .compare .ensures) (c .before .may-follow .ensures) (not-true _ (c .if4 .taken)))
 
 add-key-len : tie.Need-add-key-len Inv-loop μ-loop
-add-key-len c = omega (arith, told (c .before .before .before .before .before .before .before) .fits)
+add-key-len c = omega (arith, told (c .before .before .before .before .before .before .before .before) .fits)
 
 same-length-3 : tie.Need-same-length-3 Inv-loop μ-loop
-same-length-3 c = turn (c .before .before .before .before .before .before .before .before) .loop .inv .0
+same-length-3 c = turn (c .before .before .before .before .before .before .before .before .before) .loop .inv .0
 
 returns-4 : tie.Need-returns-4 Inv-loop μ-loop
 returns-4 c =
-    let n = c .before .before .before .before .before .before .before .before in
-    walks-narrow _ _ _ _ (used (turn n .before .before)) _ _ _ _ (walk (turn n)) (n .before .before .before .if2 .taken) _ (read n) (c .if5 .taken)
+    let n = c .before .before .before .before .before .before .before .before .before in
+    walks-narrow _ _ _ _ (used (turn n .before .before)) _ _ _ _ _ (walk (turn n)) (n .before .before .before .if2 .taken) _ (read n) (c .if5 .taken)
 
 sub-copy-in : tie.Need-sub-copy-in Inv-loop μ-loop
 sub-copy-in c = omega arith
@@ -156,12 +157,12 @@ part-copy-in-start : tie.Need-part-copy-in-start Inv-loop μ-loop
 part-copy-in-start c = omega arith
 
 part-copy-in-end : tie.Need-part-copy-in-end Inv-loop μ-loop
-part-copy-in-end c = told (c .before .before .before .before .before .before .before .before .before) .suffix
+part-copy-in-end c = told (c .before .before .before .before .before .before .before .before .before .before) .suffix
 
 -- the row that a turn has passed
 module _ (c : tie.After-slice-known2 Inv-loop μ-loop) where
   abbrev passed : tie.Else3 Inv-loop μ-loop
-  passed = c .before .before .before .before .before .before .before .before .before .before .before .before .before
+  passed = c .before .before .before .before .before .before .before .before .before .before .before .before .before .before
 
 add-rows : tie.Need-add-rows Inv-loop μ-loop
 add-rows c = let f = walk (turn (passed c)) .goes .few in omega (arith, told (passed c) .least)
@@ -176,15 +177,15 @@ loop-again c =
     let u = used (l .before .before) in
     let t = n .before .before .before .if2 .taken in
     let k = c .before .before .before .before .before .if5 .left in
-    let r = walks-room _ _ _ _ u _ _ _ _ (walk l) t _ (read n) k in
+    let r = walks-room _ _ _ _ u _ _ _ _ _ (walk l) t _ (read n) k in
     let q = copied r (c .before .before .copy-in .ensures) in (
       ap length q ∙ length-splice _ _ _ r ∙ l .loop .inv .0,
       the-trailer _ _ _ (began l .pre .0)
-          (walks-more _ _ _ _ u _ _ _ _ (walk l) t _ (read n) k (sym (c .before .before .before .before .before .before .before .before .is-below .ensures) ∙ c .before .before .before .before .before .before .before .if4 .left) _ q),
+          (walks-more _ _ _ _ u _ _ _ _ _ (walk l) t _ (read n) k (may-told _ _ _ _ (c .before .before .before .before .before .before .before .before .before .compare .ensures) (c .before .before .before .before .before .before .before .before .may-follow .ensures) (not-false _ (c .before .before .before .before .before .before .before .if4 .left))) _ q),
     )
 
-add-t36 : tie.Need-add-t36 Inv-loop μ-loop
-add-t36 c = let s = began (c .before .before .before) in omega (arith, inside s, trailerOf-tells _ _ (s .pre .0) .0)
+add-t38 : tie.Need-add-t38 Inv-loop μ-loop
+add-t38 c = let s = began (c .before .before .before) in omega (arith, inside s, trailerOf-tells _ _ (s .pre .0) .0)
 
 same-length-4 : tie.Need-same-length-4 Inv-loop μ-loop
 same-length-4 c = c .before .before .before .loop .inv .0
@@ -194,14 +195,14 @@ returns-5 c =
     let l = c .before .before .before in
     let u = used (l .before .before) in
     let over = c .before .if2 .left in
-    (omega (arith, stands-inside _ _ _ _ (began l .pre .1 .1) (began l .pre .1 .0) _ u), walks-over _ _ _ _ u _ _ _ _ (walk l) over)
+    (omega (arith, stands-inside _ _ _ _ (began l .pre .1 .1) (began l .pre .1 .0) _ u), walks-over _ _ _ _ u _ _ _ _ _ (walk l) over)
 
 pub check-region-spec : {M : Type 1} → statement M
 check-region-spec =
     tie.close
     (tie.spec
     Inv-loop μ-loop (search needs) returns slice-aggregate-data
-    loop-holds (search needs) (search needs) same-length returns-2 add-to sub-is-below part-is-below-start
-    part-is-below-end sub-is-below-2 part-is-below-start-2 part-is-below-end-2 (search needs) same-length-2
+    loop-holds (search needs) (search needs) same-length returns-2 add-to sub-compare part-compare-start
+    part-compare-end sub-compare-2 part-compare-start-2 part-compare-end-2 (search needs) (search needs) same-length-2
     returns-3 add-key-len same-length-3 returns-4 sub-copy-in part-copy-in-start part-copy-in-end (search needs) add-rows loop-less
-    loop-again add-t36 same-length-4 returns-5)
+    loop-again add-t38 same-length-4 returns-5)
