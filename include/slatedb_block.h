@@ -46,7 +46,7 @@ extern "C" {
 #define SLATEDB_BAD_TRAILER 14         /* the block has under 2 bytes, its count is 0, or its trailer is longer than the block */
 #define SLATEDB_BAD_OFFSET 15          /* the first restart is not 0, the offsets don't rise, or one is not below the data's length */
 #define SLATEDB_ROW_PAST_REGION 16     /* a row inside the data runs past the next restart */
-#define SLATEDB_KEY_FALLS 17           /* a key is smaller than the one before */
+#define SLATEDB_KEY_FALLS 17           /* a key is smaller than the one before, or equal with a sequence number that is not smaller */
 #define SLATEDB_BAD_STATE 18           /* the cursor's or the builder's state can't belong to these buffers */
 #define SLATEDB_KEY_BUFFER_TOO_SHORT 19 /* the lent key buffer is shorter than the key */
 #define SLATEDB_BAD_WORDS 254          /* lent words or key bytes are not as many as they must be, or a word has no meaning: tested first */
@@ -186,7 +186,8 @@ uint8_t slatedb_builder_build(const uint64_t *builder, size_t builder_len, uint8
 
 /* ---- reading a block */
 
-/* Checks a whole block: 14, 15, then row by row any of 9 to 13, 1, 2, 3, 16, 17. *count: its rows. */
+/* Checks a whole block: 14, 15, then row by row any of 9 to 13, 1, 2, 3, 16, 17. *count: its rows. In a block that
+ * it accepts keys never fall, and where they are equal the sequence numbers do: none comes twice with one number. */
 SLATEDB_MUST_USE
 uint8_t slatedb_check(const uint8_t *block, size_t block_len, uint64_t *count);
 

@@ -48,11 +48,17 @@ fn main() -> Result<(), Refusal> {
             debits.push(debit(card, retry, 25, debits.len() as u64));
         }
     }
-    // the slip that the desk fears: the same retry once more
-    debits.insert(16, debit(5005, 1, 25, 99));
-    let block = block_of(debits)?;
+    // the slip that the desk fears: the same retry once more, the newer one first
+    debits.insert(15, debit(5005, 1, 25, 99));
+    let block = block_of(debits.clone())?;
     println!("{} rows in {} bytes", check(&block)?, block.len());
     say(&block, 5003, 2)?;
     say(&block, 5003, 4)?;
-    say(&block, 5005, 1)
+    say(&block, 5005, 1)?;
+    // one debit written twice, number and all, is in no block that the check accepts
+    debits.insert(16, debit(5005, 1, 25, 99));
+    if let Err(refusal) = check(&block_of(debits)?) {
+        println!("a block with one debit twice: {refusal}");
+    }
+    Ok(())
 }

@@ -24,7 +24,8 @@ pub use iter::IterationOrder;
 pub use refusal::Refusal;
 pub use types::{RowEntry, ValueDeletable};
 
-/// Checks a whole block: its trailer, its restarts, every row, and that the keys never fall. Answers how many rows it has.
+/// Checks a whole block: its trailer, its restarts, every row, and their order: keys never fall, and among equal keys the
+/// sequence numbers do. Answers how many rows it has.
 pub fn check(block: &[u8]) -> Result<usize, Refusal> {
     let mut count = 0;
     refusal::good(ffi::check(block, &mut count))?;

@@ -44,7 +44,7 @@ refusals! {
     14 BadTrailer "the block has under 2 bytes, its count is 0, or its trailer is longer than the block"
     15 BadOffset "the first restart is not 0, the offsets don't rise, or one is not below the data's length"
     16 RowPastRegion "a row inside the data runs past the next restart"
-    17 KeyFalls "a key is smaller than the one before"
+    17 KeyFalls "a key is smaller than the one before, or equal with a sequence number that is not smaller"
     18 BadState "the cursor's or the builder's state can't belong to these buffers"
     19 KeyBufferTooShort "the lent key buffer is shorter than the key"
 }

@@ -153,6 +153,36 @@ fn keys_that_fall_17() {
     assert_eq!(walk(&block, IterationOrder::Ascending).unwrap().len(), 2);
 }
 
+/// Numbers of 64 bits without a sign: falling they are taken, with a restart between them or without.
+#[test]
+fn equal_keys_whose_numbers_do_not_fall_17() {
+    const TOP: u64 = 1 << 63;
+    let cases = [
+        ([1, 0], Ok(3)),
+        ([256, 255], Ok(3)),
+        ([TOP, TOP - 1], Ok(3)),
+        ([u64::MAX, 0], Ok(3)),
+        ([0, 0], Err(Refusal::KeyFalls)),
+        ([u64::MAX, u64::MAX], Err(Refusal::KeyFalls)),
+        ([255, 256], Err(Refusal::KeyFalls)),
+        ([TOP - 1, TOP], Err(Refusal::KeyFalls)),
+        ([0, u64::MAX], Err(Refusal::KeyFalls)),
+    ];
+    for ([first, second], answer) in cases {
+        let rows = [
+            value(b"a", 0),
+            RowEntry::new_value(b"b", b"x", first),
+            RowEntry::new_tombstone(b"b", second),
+        ];
+        for interval in [1, 2, 3] {
+            let block = build(&rows, interval);
+            assert_eq!(check(&block), answer, "{first}, then {second}");
+            // readers don't ask for it
+            assert_eq!(walk(&block, IterationOrder::Ascending).unwrap(), rows);
+        }
+    }
+}
+
 #[test]
 fn a_refused_step_is_refused_again_and_ends_a_loop() {
     let mut block = build(&rows_of(&["a", "b"]), 1);
@@ -235,6 +265,6 @@ fn refusals_have_their_numbers() {
     }
     assert_eq!(
         Refusal::KeyFalls.to_string(),
-        "refusal 17: a key is smaller than the one before"
+        "refusal 17: a key is smaller than the one before, or equal with a sequence number that is not smaller"
     );
 }

@@ -36,6 +36,7 @@ fn present_absent_below_and_above() {
     ];
     for interval in [1, 2, 3, 5, 16] {
         let block = build(&rows, interval);
+        assert_eq!(check(&block), Ok(rows.len()));
         for target in targets {
             for order in BOTH {
                 let target = target.as_bytes();
@@ -62,18 +63,19 @@ fn a_target_may_be_longer_than_any_key() {
 #[test]
 fn cases_8_to_10() {
     let block = build(&rows_of(&["a", "b", "b", "b", "c"]), 2);
+    assert_eq!(check(&block), Ok(5));
     let answer = |order, target: &[u8]| {
         let mut iterator = open(&block, order);
         assert_eq!(iterator.seek(target), Ok(2));
         iterator.next().unwrap().map(|row| row.seq)
     };
-    assert_eq!(answer(IterationOrder::Ascending, b"b"), Some(1));
-    assert_eq!(answer(IterationOrder::Descending, b"b"), Some(3));
-    assert_eq!(answer(IterationOrder::Ascending, b"bb"), Some(4));
-    assert_eq!(answer(IterationOrder::Descending, b"bb"), Some(3));
+    assert_eq!(answer(IterationOrder::Ascending, b"b"), Some(3));
+    assert_eq!(answer(IterationOrder::Descending, b"b"), Some(1));
+    assert_eq!(answer(IterationOrder::Ascending, b"bb"), Some(0));
+    assert_eq!(answer(IterationOrder::Descending, b"bb"), Some(1));
     assert_eq!(answer(IterationOrder::Ascending, b"d"), None);
     assert_eq!(answer(IterationOrder::Descending, b""), None);
-    assert_eq!(answer(IterationOrder::Ascending, b""), Some(0));
+    assert_eq!(answer(IterationOrder::Ascending, b""), Some(4));
 }
 
 #[test]
@@ -112,6 +114,22 @@ fn a_seek_that_finds_nothing_leaves_nothing() {
         iterator.seek(target.as_bytes()).unwrap();
         assert!(iterator.is_empty());
         assert_eq!(iterator.next(), Ok(None));
+    }
+}
+
+/// No seek looks at a sequence number, whether the check accepts the block or not.
+#[test]
+fn equal_keys_with_any_numbers_are_sought_alike() {
+    for seqs in [[3, 2, 1], [1, 2, 3], [2, 2, 2], [0, u64::MAX, 0]] {
+        let rows = seqs.map(|seq| RowEntry::new_value(b"b", b"", seq));
+        for interval in [1, 2, 3] {
+            let block = build(&rows, interval);
+            for order in BOTH {
+                for target in [&b""[..], b"b", b"c"] {
+                    assert_eq!(rest(&block, order, target), expected(&rows, order, target));
+                }
+            }
+        }
     }
 }
 

@@ -18,10 +18,10 @@ pub fn build_within(block_size: usize, rows: &[RowEntry], interval: usize) -> Ve
     builder.build().unwrap()
 }
 
-/// Rows with these keys, numbered from 0.
+/// Rows with these keys, numbered down to 0: among equal keys the newest is first.
 pub fn rows_of(keys: &[&str]) -> Vec<RowEntry> {
-    let row = |(seq, key): (usize, &&str)| RowEntry::new_value(key.as_bytes(), b"", seq as u64);
-    keys.iter().enumerate().map(row).collect()
+    let row = |(key, seq): (&&str, u64)| RowEntry::new_value(key.as_bytes(), b"", seq);
+    keys.iter().zip((0..keys.len() as u64).rev()).map(row).collect()
 }
 
 pub fn open(block: &[u8], order: IterationOrder) -> BlockIteratorV2<&[u8]> {
