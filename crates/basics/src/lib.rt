@@ -36,7 +36,7 @@ pub enum Refusal {
     BadOffset,
     // 16: a row inside the data runs past the next restart
     RowPastRegion,
-    // 17: a key is smaller than the one before
+    // 17: a key is smaller than the one before, or equal with a sequence number that is not smaller
     KeyFalls,
     // 18: the cursor's or the builder's state can't belong to these buffers
     BadState,
