@@ -7,6 +7,7 @@ use crate::cursor::{Cursor, Order, Order::*};
 use crate::row::{self, Fields, Kind, Place};
 use crate::seek::Sought;
 use crate::{varint, Key, Refusal, INTERVAL_LIMIT, KEY_LIMIT};
+use std::collections::BTreeSet;
 
 /// Case 1's row.
 const R: [u8; 13] = [0, 1, 0, 0x61, 0, 0, 0, 0, 0, 0, 0, 1, 0];
@@ -32,8 +33,15 @@ fn block_of(rows: &[&[u8]], offsets: &[u16]) -> Vec<u8> {
     block
 }
 
+/// Case 1's row with this sequence number.
+fn numbered(seq: u8) -> [u8; 13] {
+    let mut row = R;
+    row[11] = seq;
+    row
+}
+
 fn off(x: u16, y: u16, z: u16) -> Vec<u8> {
-    block_of(&[&R, &R, &R], &[x, y, z])
+    block_of(&[&numbered(3), &numbered(2), &R], &[x, y, z])
 }
 
 fn b2() -> Vec<u8> {
@@ -44,16 +52,27 @@ fn b4() -> Vec<u8> {
     block_of(&[&R, &AB_RESTART], &[0, 13])
 }
 
-/// A block built of these keys with empty values, row i with seq i.
-fn built(interval: usize, keys: &[&[u8]]) -> Vec<u8> {
+/// A block built of these keys and sequence numbers, with empty values.
+fn built_of(interval: usize, rows: &[(&[u8], u64)]) -> Vec<u8> {
     let (mut data, mut restarts) = (vec![0; 200_000], vec![0; 10_000]);
     let mut builder = Builder::with_interval(131_072, interval).unwrap();
-    for (i, key) in keys.iter().enumerate() {
-        builder.add(&mut data, &mut restarts, key, b"", &plain(i as u64)).unwrap();
+    for (key, seq) in rows {
+        builder.add(&mut data, &mut restarts, key, b"", &plain(*seq)).unwrap();
     }
     let end = builder.build(&mut data, &restarts).unwrap();
     data.truncate(end);
     data
+}
+
+/// A row's seq is how many rows stand after it, so that equal keys are in order.
+fn built(interval: usize, keys: &[&[u8]]) -> Vec<u8> {
+    let seqs = (0..keys.len() as u64).rev();
+    built_of(interval, &keys.iter().copied().zip(seqs).collect::<Vec<_>>())
+}
+
+/// Rows in order: by key, and "equal keys stand with the larger sequence number first".
+fn in_order<K: Ord>(rows: &[(K, u64)]) -> bool {
+    rows.windows(2).all(|pair| pair[0].0 < pair[1].0 || pair[0].0 == pair[1].0 && pair[0].1 > pair[1].1)
 }
 
 fn cursor(order: Order, region: usize, at: usize, key: &[u8]) -> Cursor {
@@ -89,6 +108,16 @@ fn walk(block: &[u8], mut cursor: Cursor) -> Result<Vec<u64>, Refusal> {
         seqs.push(row.fields.seq);
     }
     Ok(seqs)
+}
+
+/// The keys and seqs of all rows.
+fn entries(block: &[u8]) -> Vec<(Vec<u8>, u64)> {
+    let mut cursor = Cursor::open(block, Ascending).unwrap();
+    let (mut entries, mut out) = (Vec::new(), [0; KEY_LIMIT]);
+    while let Some(row) = cursor.next(block, &mut out).unwrap() {
+        entries.push((out[..row.shared + row.suffix_len].to_vec(), row.fields.seq));
+    }
+    entries
 }
 
 /// The seq of the row a seek lands on, and the number of restart keys read.
@@ -184,20 +213,39 @@ fn flagged(flags: u8) -> Vec<u8> {
     [&R[..12], &[flags], &[1; 8], &[2; 8]].concat()
 }
 
+const CASE_8_KEYS: [&[u8]; 5] = [b"a", b"b", b"b", b"b", b"c"];
+
+/// "Case 8 gets falling sequence numbers": 4, 3, 2, 1, 0.
 fn case_8_block() -> Vec<u8> {
-    built(2, &[b"a", b"b", b"b", b"b", b"c"])
+    built(2, &CASE_8_KEYS)
 }
 
 #[test]
 fn case_8_run_of_equal_keys() {
-    assert_eq!(seek(&case_8_block(), Ascending, b"b"), Ok((Some(1), 2)));
-    assert_eq!(seek(&case_8_block(), Descending, b"b"), Ok((Some(3), 2)));
+    assert_eq!(check(&case_8_block()), Ok(5));
+    assert_eq!(seek(&case_8_block(), Ascending, b"b"), Ok((Some(3), 2)));
+    assert_eq!(seek(&case_8_block(), Descending, b"b"), Ok((Some(1), 2)));
+}
+
+/// As it was before: refused, and read all the same. "Seeks still look at keys alone."
+#[test]
+fn case_8_with_other_numbers() {
+    for seqs in [[0, 1, 2, 3, 4], [1; 5], [4, 3, 2, 2, 0], [4, 2, 3, 1, 0], [4, 3, 1, 2, 0]] {
+        let rows: Vec<_> = CASE_8_KEYS.into_iter().zip(seqs).collect();
+        for interval in [1, 2, 3, 16] {
+            assert_eq!(check(&built_of(interval, &rows)), Err(17));
+        }
+        let block = built_of(2, &rows);
+        assert_eq!(seek(&block, Ascending, b"b"), Ok((Some(seqs[1]), 2)));
+        assert_eq!(seek(&block, Descending, b"b"), Ok((Some(seqs[3]), 2)));
+        assert_eq!(walk(&block, Cursor::open(&block, Ascending).unwrap()), Ok(seqs.to_vec()));
+    }
 }
 
 #[test]
 fn case_9_between() {
-    assert_eq!(seek(&case_8_block(), Ascending, b"bb").unwrap().0, Some(4));
-    assert_eq!(seek(&case_8_block(), Descending, b"bb").unwrap().0, Some(3));
+    assert_eq!(seek(&case_8_block(), Ascending, b"bb").unwrap().0, Some(0));
+    assert_eq!(seek(&case_8_block(), Descending, b"bb").unwrap().0, Some(1));
 }
 
 #[test]
@@ -205,7 +253,7 @@ fn case_10_done() {
     let block = case_8_block();
     assert_eq!(seek(&block, Ascending, b"d").unwrap().0, None);
     assert_eq!(seek(&block, Descending, b"").unwrap().0, None);
-    assert_eq!(seek(&block, Ascending, b"").unwrap().0, Some(0));
+    assert_eq!(seek(&block, Ascending, b"").unwrap().0, Some(4));
 }
 
 #[test]
@@ -565,9 +613,13 @@ fn a_refused_row_leaves_its_key_unshared() {
 fn keys_may_arrive_out_of_order() {
     let block = built(16, &[b"b", b"abc", b"ab", b"ab"]);
     assert_eq!(check(&block), Err(17));
-    assert_eq!(walk(&block, Cursor::open(&block, Ascending).unwrap()), Ok(vec![0, 1, 2, 3]));
-    assert_eq!(walk(&block, Cursor::open(&block, Descending).unwrap()), Ok(vec![3, 2, 1, 0]));
+    assert_eq!(walk(&block, Cursor::open(&block, Ascending).unwrap()), Ok(vec![3, 2, 1, 0]));
+    assert_eq!(walk(&block, Cursor::open(&block, Descending).unwrap()), Ok(vec![0, 1, 2, 3]));
     assert_eq!(check(&built(16, &[b"ab", b"ab", b"abc", b"b"])), Ok(4));
+    // So may their numbers.
+    let block = built_of(16, &[(b"ab", 1), (b"ab", 1), (b"ab", 2)]);
+    assert_eq!(check(&block), Err(17));
+    assert_eq!(walk(&block, Cursor::open(&block, Descending).unwrap()), Ok(vec![2, 1, 1]));
 }
 
 #[test]
@@ -632,19 +684,63 @@ fn the_check_answers_the_first_refusal() {
     assert_eq!(check(&block_of(&[&flags_9, &R], &[0, 99])), Err(15));
     assert_eq!(check(&block_of(&[&AB_RESTART, &flags_9], &[0])), Err(12));
     assert_eq!(check(&block_of(&[&AB_RESTART, &R, &flags_9], &[0])), Err(17));
-    // 17 across restarts, and only for a key that falls.
+    // 17 across restarts, for a key that falls, and for one that stays with a number that does not fall.
     assert_eq!(check(&block_of(&[&AB_RESTART, &R], &[0, 15])), Err(17));
-    assert_eq!(check(&block_of(&[&R, &R], &[0, 13])), Ok(2));
+    for (first, second, answer) in [(2, 1, Ok(2)), (1, 1, Err(17)), (1, 2, Err(17))] {
+        assert_eq!(check(&block_of(&[&numbered(first), &numbered(second)], &[0, 13])), answer);
+        assert_eq!(check(&block_of(&[&numbered(first), &numbered(second)], &[0])), answer);
+    }
+    assert_eq!(check(&block_of(&[&R, &flags_9], &[0])), Err(12));
+    assert_eq!(check(&block_of(&[&R, &R, &flags_9], &[0])), Err(17));
     // 16 before 17; 13 at a restart though the key before would do.
     assert_eq!(check(&block_of(&[&AB_RESTART, &R, &R], &[0, 15, 27])), Err(16));
+    assert_eq!(check(&block_of(&[&R, &R, &R], &[0, 13, 25])), Err(16));
     assert_eq!(check(&block_of(&[&R, &AB], &[0, 13])), Err(13));
     // Bytes left over are the start of a row that is missing.
     assert_eq!(check(&block_of(&[&R, &[0]], &[0])), Err(9));
     // It knows no interval, and takes short shares and tombstones with value bytes, but no long spellings.
-    let tombstone = [0, 1, 1, b'a', 9, 0, 0, 0, 0, 0, 0, 0, 1, 1];
-    let long = [0x80, 0, 0x81, 0, 0, b'a', 0, 0, 0, 0, 0, 0, 0, 1, 0];
-    assert_eq!(check(&block_of(&[&R, &R, &tombstone, &long, &R, &R], &[0, 13, 55])), Err(10));
-    assert_eq!(check(&block_of(&[&R, &R, &tombstone, &R, &R, &R], &[0, 13, 53])), Ok(6));
+    let tombstone = [0, 1, 1, b'a', 9, 0, 0, 0, 0, 0, 0, 0, 4, 1];
+    let long = [0x80, 0, 0x81, 0, 0, b'a', 0, 0, 0, 0, 0, 0, 0, 3, 0];
+    let [six, five, three, two] = [6, 5, 3, 2].map(numbered);
+    assert_eq!(check(&block_of(&[&six, &five, &tombstone, &long, &two, &R], &[0, 13, 55])), Err(10));
+    assert_eq!(check(&block_of(&[&six, &five, &tombstone, &three, &two, &R], &[0, 13, 53])), Ok(6));
+}
+
+/// "Unsigned 64 bits; equal is refused", next to a restart and inside a region; "before the first row stands no row".
+#[test]
+fn numbers_of_equal_keys() {
+    const TOP: u64 = 1 << 63;
+    for first in [0, 1, u64::MAX] {
+        assert_eq!(check(&built_of(1, &[(b"a", first)])), Ok(1));
+    }
+    let numbers = [0, 1, 255, 256, u64::from(u32::MAX), 1 << 32, TOP - 1, TOP, u64::MAX - 1, u64::MAX];
+    for (first, second) in numbers.iter().flat_map(|first| numbers.map(|second| (*first, second))) {
+        let answer = if first > second { Ok(2) } else { Err(17) };
+        for interval in [1, 2] {
+            assert_eq!(check(&built_of(interval, &[(b"a", first), (b"a", second)])), answer);
+            // The numbers of other keys do not matter.
+            assert_eq!(check(&built_of(interval, &[(b"a", first), (b"b", second)])), Ok(2));
+            assert_eq!(check(&built_of(interval, &[(b"b", first), (b"a", second)])), Err(17));
+            assert_eq!(check(&built_of(interval, &[(b"a", first), (b"aa", second)])), Ok(2));
+            assert_eq!(check(&built_of(interval, &[(b"aa", first), (b"a", second)])), Err(17));
+        }
+    }
+}
+
+/// "A finished block is accepted exactly when its rows are in this order": all of up to four rows.
+#[test]
+fn finished_blocks_are_accepted_in_order_only() {
+    let keys: [&[u8]; 2] = [b"a", b"b"];
+    let row = |n: usize| (keys[n / 3], [0, 1, u64::MAX][n % 3]);
+    for count in 1..=4 {
+        for number in 0..6usize.pow(count) {
+            let rows: Vec<_> = (0..count).map(|place| row(number / 6usize.pow(place) % 6)).collect();
+            let answer = if in_order(&rows) { Ok(rows.len()) } else { Err(17) };
+            for interval in [1, 2, 3] {
+                assert_eq!(check(&built_of(interval, &rows)), answer);
+            }
+        }
+    }
 }
 
 // ---- the cursor
@@ -853,17 +949,17 @@ fn where_a_seek_leaves_the_cursor() {
 fn a_run_of_equal_restarts() {
     let block = built(1, &[b"a", b"b", b"b", b"b", b"c"]);
     // The span 0..5: reads 2, 1, 0; the run adds nothing.
-    assert_eq!(seek(&block, Descending, b"b"), Ok((Some(3), 3)));
-    assert_eq!(seek(&block, Ascending, b"b"), Ok((Some(1), 3)));
+    assert_eq!(seek(&block, Descending, b"b"), Ok((Some(1), 3)));
+    assert_eq!(seek(&block, Ascending, b"b"), Ok((Some(3), 3)));
     let to_the_end = built(1, &[b"b", b"b", b"b"]);
-    assert_eq!(seek(&to_the_end, Descending, b"b"), Ok((Some(2), 2)));
-    assert_eq!(seek(&to_the_end, Ascending, b"b"), Ok((Some(0), 2)));
+    assert_eq!(seek(&to_the_end, Descending, b"b"), Ok((Some(0), 2)));
+    assert_eq!(seek(&to_the_end, Ascending, b"b"), Ok((Some(2), 2)));
 }
 
 #[test]
 fn descending_takes_the_last_at_or_below() {
-    assert_eq!(seek(&built(16, &[b"a", b"z", b"b"]), Descending, b"c"), Ok((Some(2), 1)));
-    assert_eq!(seek(&built(16, &[b"z", b"a"]), Descending, b"c"), Ok((Some(1), 1)));
+    assert_eq!(seek(&built(16, &[b"a", b"z", b"b"]), Descending, b"c"), Ok((Some(0), 1)));
+    assert_eq!(seek(&built(16, &[b"z", b"a"]), Descending, b"c"), Ok((Some(0), 1)));
 }
 
 #[test]
@@ -924,6 +1020,11 @@ impl Chance {
         }
     }
 
+    /// Few numbers, so that equal keys come with falling, equal and rising ones; the extremes among them.
+    fn seq(&mut self) -> u64 {
+        [0, 1, 2, 3, 1 << 63, u64::MAX][self.below(6)]
+    }
+
     fn order(&mut self) -> Order {
         [Ascending, Descending][self.below(2)]
     }
@@ -932,36 +1033,44 @@ impl Chance {
 #[test]
 fn finished_blocks_read_back() {
     let mut chance = Chance(1);
-    for _ in 0..300 {
-        let mut keys: Vec<Vec<u8>> = (0..1 + chance.below(30)).map(|_| chance.key()).collect();
+    let mut accepted = 0;
+    for _ in 0..600 {
+        let mut rows: Vec<(Vec<u8>, u64)> = (0..1 + chance.below(30)).map(|_| (chance.key(), chance.seq())).collect();
+        // As they come; by key, with any numbers; or in order, and none twice.
         let sorted = chance.below(4) > 0;
         if sorted {
-            keys.sort();
+            rows.sort_by(|one, other| one.0.cmp(&other.0).then(other.1.cmp(&one.1)));
+            rows.dedup();
         }
-        let never_fall = keys.windows(2).all(|pair| pair[0] <= pair[1]);
-        let block = built(1 + chance.below(6), &keys.iter().map(|key| key.as_slice()).collect::<Vec<_>>());
-        assert_eq!(check(&block), if never_fall { Ok(keys.len()) } else { Err(17) });
-        let seqs: Vec<u64> = (0..keys.len() as u64).collect();
+        if sorted && chance.below(2) == 0 {
+            rows.iter_mut().for_each(|row| row.1 = chance.seq());
+        }
+        let block = built_of(1 + chance.below(6), &rows.iter().map(|(key, seq)| (key.as_slice(), *seq)).collect::<Vec<_>>());
+        assert_eq!(check(&block), if in_order(&rows) { Ok(rows.len()) } else { Err(17) });
+        accepted += usize::from(in_order(&rows));
+        let seqs: Vec<u64> = rows.iter().map(|row| row.1).collect();
         assert_eq!(walk(&block, Cursor::open(&block, Ascending).unwrap()).unwrap(), seqs);
         let back: Vec<u64> = seqs.iter().rev().copied().collect();
         assert_eq!(walk(&block, Cursor::open(&block, Descending).unwrap()).unwrap(), back);
         if sorted {
-            seeks_like_a_list(&block, &keys, &mut chance);
+            seeks_like_a_list(&block, &rows, &mut chance);
         }
     }
+    assert!((200..400).contains(&accepted), "{accepted} of 600 are accepted");
 }
 
-fn seeks_like_a_list(block: &[u8], keys: &[Vec<u8>], chance: &mut Chance) {
+/// Keys alone count, so the numbers may be any.
+fn seeks_like_a_list(block: &[u8], rows: &[(Vec<u8>, u64)], chance: &mut Chance) {
     for _ in 0..20 {
         let target = if chance.below(8) == 0 { Vec::new() } else { chance.key() };
-        let first = keys.iter().position(|key| *key >= target);
-        let last = keys.iter().rposition(|key| *key <= target);
-        assert_eq!(seek(block, Ascending, &target).unwrap().0, first.map(|i| i as u64));
-        assert_eq!(seek(block, Descending, &target).unwrap().0, last.map(|i| i as u64));
+        let first = rows.iter().position(|row| row.0 >= target);
+        let last = rows.iter().rposition(|row| row.0 <= target);
+        assert_eq!(seek(block, Ascending, &target).unwrap().0, first.map(|i| rows[i].1));
+        assert_eq!(seek(block, Descending, &target).unwrap().0, last.map(|i| rows[i].1));
         // From there the walk goes on to the end.
         let mut on = cursor(Ascending, 0, 0, b"");
         on.seek(block, &target).unwrap();
-        assert_eq!(walk(block, on).unwrap().len(), keys.len() - first.unwrap_or(keys.len()));
+        assert_eq!(walk(block, on).unwrap().len(), rows.len() - first.unwrap_or(rows.len()));
         let mut back = cursor(Descending, 0, 0, b"");
         back.seek(block, &target).unwrap();
         assert_eq!(walk(block, back).unwrap().len(), last.map_or(0, |i| i + 1));
@@ -993,11 +1102,15 @@ fn no_input_breaks_a_reader() {
             assert!(refusal != 18 && refusal != 19);
             assert_eq!(sought, forged);
         }
-        // An accepted block opens, and is walked to its end both ways.
+        // An accepted block opens, and is walked to its end both ways; no key stands in it twice with one number.
         if let Ok(rows) = check(&block) {
             for order in [Ascending, Descending] {
                 assert_eq!(walk(&block, Cursor::open(&block, order).unwrap()).unwrap().len(), rows);
             }
+            let entries = entries(&block);
+            let different: BTreeSet<_> = entries.iter().collect();
+            assert_eq!((entries.len(), different.len()), (rows, rows));
+            assert!(in_order(&entries));
         }
         let _ = row::decode(&block, chance.number());
         let _ = row::decode_key(&block, chance.number());
