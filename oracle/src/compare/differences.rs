@@ -304,6 +304,16 @@ pub static TRAILER: [Difference<Vec<u8>>; 6] = [
     }),
 ];
 
+// ---- a block's order
+
+/// A row and the one after it. The Rust has no check, so on both it reads on; and so do steps and seeks here.
+pub static ORDER: [Difference<(Row, Row)>; 2] = [
+    entry("a key below the one before: the Rust has no check and reads it, 01's refuses 17", 17, Rust::Varies, |(row, next)| next.key < row.key),
+    entry("equal keys whose numbers don't fall: the Rust has no check and reads them, 02's refuses 17", 17, Rust::Varies, |(row, next)| {
+        next.key == row.key && next.seq >= row.seq
+    }),
+];
+
 // ---- scans and seeks of a block that is opened
 
 /// What the Rust must do: whether it opens the block, whether the seek is good, the rows that it gives, and how it ends then; None

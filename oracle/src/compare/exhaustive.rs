@@ -1,5 +1,5 @@
-//! All small inputs: varints at every edge, all blocks of up to four rows over few keys, a few small blocks with every cursor, with
-//! keys read at every place and with each byte damaged.
+//! All small inputs: varints at every edge, all blocks of up to four rows over few keys, equal keys with all of few numbers, a few
+//! small blocks with every cursor, with keys read at every place and with each byte damaged.
 use crate::calls::bytes_of;
 use crate::reading::{self, Arrays, Op};
 use crate::{building, refused, rows, Run};
@@ -28,9 +28,41 @@ pub fn all(run: &mut Run) {
     for _ in 0..MOST_ROWS {
         blocks = blocks.iter().flat_map(|block: &Vec<Vec<u8>>| keys.iter().map(|key| [&block[..], &[key.clone()]].concat())).collect();
         for block in &blocks {
-            for interval in INTERVALS {
-                one_block(run, interval, block, &targets);
+            for rows in numbered(block) {
+                INTERVALS.iter().for_each(|interval| one_block(run, *interval, &rows, &targets));
             }
+        }
+    }
+    equal_keys(run, &targets);
+}
+
+fn plain(key: &[u8], seq: u64) -> Row {
+    Row { key: key.to_vec(), kind: 0, value: Vec::new(), seq, expire: None, create: None }
+}
+
+/// Rows of these keys with falling numbers; where the keys never fall and some are equal, also with rising ones, and with one for all.
+fn numbered(keys: &[Vec<u8>]) -> Vec<Vec<Row>> {
+    let count = keys.len() as u64;
+    let mut numbers: Vec<Vec<u64>> = vec![(0..count).rev().collect()];
+    if keys.is_sorted() && keys.windows(2).any(|pair| pair[0] == pair[1]) {
+        numbers.extend([(0..count).collect(), vec![7; keys.len()]]);
+    }
+    let rows = |numbers: Vec<u64>| keys.iter().zip(numbers).map(|(key, seq)| plain(key, seq)).collect();
+    numbers.into_iter().map(rows).collect()
+}
+
+/// Up to three rows over two keys that never fall, with all of these numbers, with a restart at each place and at none.
+fn equal_keys(run: &mut Run, targets: &[Vec<u8>]) {
+    const NUMBERS: [u64; 4] = [0, 1, 1 << 63, u64::MAX];
+    let choices = LETTERS.iter().flat_map(|letter| NUMBERS.map(|number| plain(&[*letter], number)));
+    let choices: Vec<Row> = choices.collect();
+    let mut blocks = vec![Vec::new()];
+    for _ in 0..3 {
+        let follow = |rows: &Vec<Row>, row: &Row| rows.last().is_none_or(|last: &Row| last.key <= row.key);
+        let longer = |rows: &Vec<Row>| choices.iter().filter(|row| follow(rows, row)).map(|row| [&rows[..], &[row.clone()]].concat()).collect::<Vec<_>>();
+        blocks = blocks.iter().flat_map(longer).collect();
+        for rows in &blocks {
+            INTERVALS.iter().for_each(|interval| one_block(run, *interval, rows, targets));
         }
     }
 }
@@ -50,12 +82,10 @@ fn words(longest: usize) -> Vec<Vec<u8>> {
     all
 }
 
-fn one_block(run: &mut Run, interval: usize, keys: &[Vec<u8>], targets: &[Vec<u8>]) {
-    let plain = |seq: usize| Row { key: keys[seq].clone(), kind: 0, value: Vec::new(), seq: seq as u64, expire: None, create: None };
-    let offered: Vec<Row> = (0..keys.len()).map(plain).collect();
-    let Some(block) = building::fill(run, 4096, interval, &offered, 100, 4) else { return };
+fn one_block(run: &mut Run, interval: usize, offered: &[Row], targets: &[Vec<u8>]) {
+    let Some(block) = building::fill(run, 4096, interval, offered, 100, 4) else { return };
     if reading::check(run, &block) == 0 {
-        accepted(run, &block, keys.len(), targets);
+        accepted(run, &block, offered.len(), targets);
     } else {
         refused::compare(run, &block, targets);
         for order in [0, 1] {
@@ -67,14 +97,16 @@ fn one_block(run: &mut Run, interval: usize, keys: &[Vec<u8>], targets: &[Vec<u8
 
 // ---- small blocks
 
-/// The row of key "a", as in 01's case 1.
-const ROW: [u8; 13] = [0, 1, 0, 0x61, 0, 0, 0, 0, 0, 0, 0, 1, 0];
+/// The row of key "a" with this number, which is 1 in 01's case 1.
+const fn row_a(seq: u8) -> [u8; 13] {
+    [0, 1, 0, 0x61, 0, 0, 0, 0, 0, 0, 0, seq, 0]
+}
 
 /// The blocks of 01's cases 2, 4 and 8, and one with times, a tombstone and a merge.
 fn small_blocks() -> Vec<Vec<u8>> {
-    let row = |key: &[u8], kind, value: &[u8], time| Row { key: key.to_vec(), kind, value: value.to_vec(), seq: 2, expire: time, create: time };
+    let row = |key: &[u8], kind, value: &[u8], time| Row { kind, value: value.to_vec(), expire: time, create: time, ..plain(key, 2) };
     let case_2 = [row(b"a", 0, b"", None), row(b"ab", 0, b"x", None)];
-    let case_8 = [b"a", b"b", b"b", b"b", b"c"].map(|key| row(key, 0, b"", None));
+    let case_8 = [(b"a", 4), (b"b", 3), (b"b", 2), (b"b", 1), (b"c", 0)].map(|(key, seq)| plain(key, seq));
     let kinds = [row(b"a", 1, b"", Some(-1)), row(b"aa", 2, b"xy", None), row(b"ab", 0, b"z", Some(5))];
     [(16, &case_2[..]), (1, &case_2), (2, &case_8), (2, &kinds), (16, &kinds)].map(|(interval, rows)| built(interval, rows)).to_vec()
 }
@@ -102,7 +134,7 @@ fn every_key(run: &mut Run, block: &[u8]) {
 
 /// Words of parts that are not as many as they must be, or stand for no case: 254 before all else.
 fn wrong_words(run: &mut Run) {
-    for input in [&ROW[..], &[]] {
+    for input in [&row_a(1)[..], &[]] {
         for words in 0..5 {
             rows::read_varint_at(run, input, 0, words);
             for restart in [0, 1, 2, 256, 1 << 32, u64::MAX] {
@@ -148,13 +180,13 @@ fn every_damage(run: &mut Run, block: &[u8]) {
     }
 }
 
-/// Three rows of 13 bytes with all offsets of interest: rising or not, at rows and inside them.
+/// Three rows of 13 bytes, in order, with all offsets of interest: rising or not, at rows and inside them.
 fn moved_offsets(run: &mut Run) {
     const OFFSETS: [u8; 6] = [0, 1, 13, 26, 38, 39];
     let targets = [vec![], b"a".to_vec(), b"b".to_vec()];
     for a in OFFSETS {
         for (b, c) in OFFSETS.into_iter().flat_map(|b| OFFSETS.map(|c| (b, c))) {
-            let block = [&ROW[..], &ROW, &ROW, &[0, a, 0, b, 0, c, 0, 3]].concat();
+            let block = [&row_a(3)[..], &row_a(2), &row_a(1), &[0, a, 0, b, 0, c, 0, 3]].concat();
             any_block(run, &block, &targets);
             for at in [0, 1, 12, 13, 14, 26, 39, 40] {
                 for (order, region) in [0, 1].into_iter().flat_map(|order| (0..=3).map(move |region| (order, region))) {

@@ -2,6 +2,7 @@
 use model::KEY_LIMIT;
 use slate_oracle::direct::Row;
 use slate_oracle::rng::Rng;
+use std::collections::BTreeSet;
 
 pub fn below(rng: &mut Rng, bound: usize) -> usize {
     (rng.next() % bound as u64) as usize
@@ -55,10 +56,15 @@ fn time(rng: &mut Rng) -> Option<i64> {
     pick(rng, &[None, None, None, None, Some(0), Some(-1), Some(i64::MIN), Some(i64::MAX), Some(any)])
 }
 
+/// A sequence number, often one with an edge beside it.
+fn seq(rng: &mut Rng) -> u64 {
+    let any = rng.next();
+    pick(rng, &[0, 1, 2, 255, 256, u64::MAX, 1 << 63, any])
+}
+
 pub fn row_of(rng: &mut Rng, key: Vec<u8>, value_length: usize) -> Row {
     let kind = pick(rng, &[0, 0, 0, 1, 2]);
-    let any = rng.next();
-    let seq = pick(rng, &[0, 1, 2, 255, 256, u64::MAX, 1 << 63, any]);
+    let seq = seq(rng);
     let value = rng.bytes(value_length);
     Row { key, kind, value, seq, expire: time(rng), create: time(rng) }
 }
@@ -80,10 +86,37 @@ pub fn any_row(rng: &mut Rng) -> Row {
     }
 }
 
-pub fn sorted_keys(rng: &mut Rng, count: usize) -> Vec<Vec<u8>> {
-    let mut keys: Vec<Vec<u8>> = (0..count).map(|_| good_key(rng)).collect();
+/// Rows of rising keys, few or many of them equal, with any numbers.
+pub fn sorted_rows(rng: &mut Rng, count: usize) -> Vec<Row> {
+    let equal = pick(rng, &[0, 2, 6]);
+    let mut keys: Vec<Vec<u8>> = Vec::new();
+    while keys.len() < count {
+        let again = keys.last().filter(|_| below(rng, 8) < equal).cloned();
+        keys.push(again.unwrap_or_else(|| good_key(rng)));
+    }
     keys.sort();
-    keys
+    keys.into_iter().map(|key| good_row(rng, key)).collect()
+}
+
+/// Numbers rows of equal keys anew, the newest first: so the check wants them.
+pub fn newest_first(rng: &mut Rng, rows: &mut [Row]) {
+    for equal in rows.chunk_by_mut(|one, next| one.key == next.key) {
+        let mut numbers = BTreeSet::new();
+        while numbers.len() < equal.len() {
+            numbers.insert(seq(rng));
+        }
+        equal.iter_mut().zip(numbers.into_iter().rev()).for_each(|(row, number)| row.seq = number);
+    }
+}
+
+/// The same rows, but for the number of one whose key is that of the row before: that row's number, one beside it, an extreme or any.
+/// None: no two such rows.
+pub fn renumbered(rng: &mut Rng, rows: &[Row]) -> Option<Vec<Row>> {
+    let places: Vec<usize> = (1..rows.len()).filter(|&at| rows[at].key == rows[at - 1].key).collect();
+    let at = if places.is_empty() { return None } else { pick(rng, &places) };
+    let (mut rows, before, any) = (rows.to_vec(), rows[at - 1].seq, rng.next());
+    rows[at].seq = pick(rng, &[before, before.wrapping_add(1), before.wrapping_sub(1), before.wrapping_sub(1), 0, u64::MAX, any]);
+    Some(rows)
 }
 
 /// A target near the block's keys: one of them, with a byte more, less or changed, or any.
@@ -102,12 +135,14 @@ pub fn target(rng: &mut Rng, keys: &[Vec<u8>]) -> Vec<u8> {
 
 // ---- blocks that no builder writes
 
-/// A varint; where it may be padded, seldom with more bytes than it needs.
+/// A varint; where it may be padded, seldom with more bytes than it needs, so that rows before it are read.
 fn spelled(rng: &mut Rng, number: usize, padded: bool) -> Vec<u8> {
     let mut bytes = model::varint::write(number as u32);
-    while padded && bytes.len() < 5 && one_in(rng, 8) {
+    let mut more = padded && one_in(rng, 24);
+    while more && bytes.len() < 5 {
         *bytes.last_mut().expect("a byte") |= 0x80;
         bytes.push(0);
+        more = one_in(rng, 2);
     }
     bytes
 }
@@ -129,12 +164,12 @@ fn crafted_row(rng: &mut Rng, row: &Row, shared: usize, padded: bool) -> Vec<u8>
 }
 
 /// Good rows with restarts anywhere, shares shorter than they could be and tombstones with value bytes; but for varints that may be padded.
-pub fn crafted_block(rng: &mut Rng, keys: &[Vec<u8>], padded: bool) -> Vec<u8> {
+pub fn crafted_block(rng: &mut Rng, rows: &[Row], padded: bool) -> Vec<u8> {
     let (mut data, mut offsets) = (Vec::new(), Vec::new());
     let mut previous: &[u8] = &[];
-    for key in keys {
+    for row in rows {
         let restart = data.is_empty() || data.len() < 65_536 && one_in(rng, 3);
-        let common = previous.iter().zip(key).take_while(|(a, b)| a == b).count();
+        let common = previous.iter().zip(&row.key).take_while(|(a, b)| a == b).count();
         let shared = match restart {
             true => 0,
             false if one_in(rng, 3) => below(rng, common + 1),
@@ -143,9 +178,8 @@ pub fn crafted_block(rng: &mut Rng, keys: &[Vec<u8>], padded: bool) -> Vec<u8> {
         if restart {
             offsets.push(data.len() as u16);
         }
-        let row = good_row(rng, key.clone());
-        data.extend(crafted_row(rng, &row, shared, padded));
-        previous = key;
+        data.extend(crafted_row(rng, row, shared, padded));
+        previous = &row.key;
     }
     let count = offsets.len() as u16;
     data.extend(offsets.iter().chain([&count]).flat_map(|offset| offset.to_be_bytes()));

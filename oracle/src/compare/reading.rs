@@ -2,8 +2,8 @@
 use crate::building::scramble;
 use crate::calls::{amount, bytes_of, words_of, Arg, Expected, Function, DONE, GOOD};
 use crate::guest::short_hex;
-use crate::Run;
-use model::KEY_LIMIT;
+use crate::{regions, Run};
+use model::{refusal, KEY_LIMIT};
 use slate_oracle::direct::{self, Opened, Row, Stop};
 
 #[derive(Clone, Debug)]
@@ -30,8 +30,20 @@ pub struct Arrays {
     pub key: Vec<u8>,
 }
 
+/// The verdict, which the tables must give too. The Rust has no check: what it does with the block is compared elsewhere.
 pub fn check(run: &mut Run, block: &[u8]) -> u8 {
-    run.call("block checked", Function::Check, vec![Arg::Read(block.to_vec()), Arg::Written(bytes_of(&[3]))]).code
+    let here = run.call("block checked", Function::Check, vec![Arg::Read(block.to_vec()), Arg::Written(bytes_of(&[3]))]);
+    run.tally.checked(here.code == GOOD);
+    let kind = "block checked (the tables)";
+    match (here.code, regions::verdict(block)) {
+        (GOOD, Ok(rows)) if here.memory[0] == bytes_of(&[rows as u64]) => run.tally.same(kind),
+        (code, Err(known)) if code == known.here && code == refusal::KEY_FALLS => {
+            run.tally.listed(known.name, block.len(), || short_hex(block))
+        }
+        (code, Err(known)) if code == known.here => run.tally.same(kind),
+        (code, told) => run.tally.differs(kind, block.len(), || format!("block {}: {code}, the tables {told:?}", short_hex(block))),
+    }
+    here.code
 }
 
 pub fn open(run: &mut Run, block: &[u8], order: u64) -> Result<Arrays, u8> {

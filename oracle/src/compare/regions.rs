@@ -68,6 +68,19 @@ pub fn regions(block: &[u8]) -> (Vec<Region>, &[u8]) {
     (offsets.iter().zip(ends).map(|(start, end)| region(data, *start, *end)).collect(), data)
 }
 
+// ---- the check
+
+/// How many rows the block has, or what is wrong with it: its trailer and offsets, then in the order of the rows a fault, or a row
+/// that may not follow the one before, whatever regions they stand in.
+pub fn verdict(block: &[u8]) -> Result<usize, Known> {
+    differences::first(&differences::TRAILER, &block.to_vec()).map_or(Ok(()), Err)?;
+    let (regions, _) = regions(block);
+    let told = onward(&regions);
+    let falls = |pair: &[Row]| differences::first(&differences::ORDER, &(pair[0].clone(), pair[1].clone()));
+    told.rows.windows(2).find_map(falls).map_or(Ok(()), Err)?;
+    told.end.map_or(Ok(told.rows.len()), Err)
+}
+
 // ---- scans
 
 fn ended(rows: Vec<Row>, fault: Option<&Fault>) -> Told {

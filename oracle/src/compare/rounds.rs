@@ -1,5 +1,5 @@
 //! Rounds of inputs by chance, and the edges by name.
-use crate::inputs::{self, any_row, below, good_row, one_in, pick};
+use crate::inputs::{self, any_row, below, one_in, pick};
 use crate::reading::{self, Op};
 use crate::{building, forged, refused, rows, Run};
 use model::{INTERVAL_LIMIT, KEY_LIMIT, MOST_RESTARTS};
@@ -14,33 +14,53 @@ pub fn round(run: &mut Run) {
     if one_in(&mut run.rng, 20) {
         near_the_last_restart(run);
     }
-    let keys = keys(run);
-    let block = if one_in(&mut run.rng, 3) { inputs::crafted_block(&mut run.rng, &keys, false) } else { built(run, &keys) };
-    good_block(run, &block, &keys);
-    damaged_block(run, &block, &keys);
-    let padded = inputs::crafted_block(&mut run.rng, &keys, true);
-    damaged_block(run, &padded, &keys);
+    blocks(run);
     for _ in 0..4 {
         forged::builder(run);
         forged::fit_of_lengths(run);
     }
 }
 
-fn keys(run: &mut Run) -> Vec<Vec<u8>> {
-    let count = if one_in(&mut run.rng, 10) { 30 + below(&mut run.rng, 40) } else { 1 + below(&mut run.rng, 12) };
-    let mut keys = inputs::sorted_keys(&mut run.rng, count);
-    if one_in(&mut run.rng, 5) {
-        let (a, b) = (below(&mut run.rng, count), below(&mut run.rng, count));
-        keys.swap(a, b);
+/// The same rows as the builder lays them and as others may, then with damage, with another number for one of them, and with
+/// varints that may be padded.
+fn blocks(run: &mut Run) {
+    let rows = rows(run);
+    let keys = keys_of(&rows);
+    for block in [built(run, &rows), inputs::crafted_block(&mut run.rng, &rows, false)] {
+        good_block(run, &block, &keys);
+        damaged_blocks(run, &block, &keys, 2);
     }
-    keys
+    if let Some(rows) = inputs::renumbered(&mut run.rng, &rows) {
+        let block = built(run, &rows);
+        good_block(run, &block, &keys);
+    }
+    let padded = inputs::crafted_block(&mut run.rng, &rows, true);
+    any_block(run, &padded, &keys);
+    damaged_blocks(run, &padded, &keys, 1);
 }
 
-fn built(run: &mut Run, keys: &[Vec<u8>]) -> Vec<u8> {
-    let rows: Vec<Row> = keys.iter().map(|key| good_row(&mut run.rng, key.clone())).collect();
+/// Rows as the check wants them; seldom with any numbers, or with two of them swapped.
+fn rows(run: &mut Run) -> Vec<Row> {
+    let count = if one_in(&mut run.rng, 10) { 30 + below(&mut run.rng, 40) } else { 1 + below(&mut run.rng, 12) };
+    let mut rows = inputs::sorted_rows(&mut run.rng, count);
+    if !one_in(&mut run.rng, 8) {
+        inputs::newest_first(&mut run.rng, &mut rows);
+    }
+    if one_in(&mut run.rng, 8) {
+        let (a, b) = (below(&mut run.rng, count), below(&mut run.rng, count));
+        rows.swap(a, b);
+    }
+    rows
+}
+
+fn keys_of(rows: &[Row]) -> Vec<Vec<u8>> {
+    rows.iter().map(|row| row.key.clone()).collect()
+}
+
+fn built(run: &mut Run, rows: &[Row]) -> Vec<u8> {
     let interval = pick(&mut run.rng, &[1, 2, 3, 4, 16, INTERVAL_LIMIT]);
     let mut builder = direct::Builder::new(131_072, interval);
-    for row in &rows {
+    for row in rows {
         builder.add(row).expect("a good row");
     }
     builder.build().expect("a good block")
@@ -165,28 +185,32 @@ fn forge(run: &mut Run, block: &[u8], keys: &[Vec<u8>], times: usize) {
     forged::cursors(run, block, &starts, &targets, times);
 }
 
-fn damaged_block(run: &mut Run, block: &[u8], keys: &[Vec<u8>]) {
-    for _ in 0..4 {
+fn damaged_blocks(run: &mut Run, block: &[u8], keys: &[Vec<u8>], times: usize) {
+    for _ in 0..times {
         let mut damaged = inputs::damaged(&mut run.rng, block);
         if one_in(&mut run.rng, 4) {
             damaged = inputs::damaged(&mut run.rng, &damaged);
         }
-        let accepted = reading::check(run, &damaged) == 0;
-        let targets = targets(run, keys, 3);
-        for order in [0, 1] {
-            let mixed = ops(run, keys, 8);
-            if accepted {
-                reading::walk_accepted(run, "damage that is accepted (Rust)", &damaged, order, &mixed);
-                reading::walks_accepted(run, &damaged, order, &[u64::MAX]);
-            } else {
-                reading::walk_any(run, &damaged, order, &mixed, KEY_LIMIT);
-            }
-        }
-        if !accepted {
-            refused::compare(run, &damaged, &targets);
-        }
-        forge(run, &damaged, keys, 4);
+        any_block(run, &damaged, keys);
     }
+}
+
+fn any_block(run: &mut Run, block: &[u8], keys: &[Vec<u8>]) {
+    let accepted = reading::check(run, block) == 0;
+    let targets = targets(run, keys, 3);
+    for order in [0, 1] {
+        let mixed = ops(run, keys, 8);
+        if accepted {
+            reading::walk_accepted(run, "damage that is accepted (Rust)", block, order, &mixed);
+            reading::walks_accepted(run, block, order, &[u64::MAX]);
+        } else {
+            reading::walk_any(run, block, order, &mixed, KEY_LIMIT);
+        }
+    }
+    if !accepted {
+        refused::compare(run, block, &targets);
+    }
+    forge(run, block, keys, 4);
 }
 
 // ---- edges by name
@@ -227,8 +251,7 @@ fn case_11(run: &mut Run) {
         let rows = [row, plain(b"b", 0), plain(b"c", 1)];
         for interval in [1, 2] {
             if let Some(block) = building::fill(run, 131_072, interval, &rows, 70_000, 4) {
-                let keys: Vec<Vec<u8>> = rows.iter().map(|row| row.key.clone()).collect();
-                good_block(run, &block, &keys);
+                good_block(run, &block, &keys_of(&rows));
             }
         }
     }
@@ -259,10 +282,11 @@ fn settings(run: &mut Run) {
     }
 }
 
-/// As many restarts as a block can have: 13 bytes each up to 65,535, and one of them past.
+/// As many restarts as a block can have: 13 bytes each up to 65,535, and one of them past. Twenty rows have one key.
 fn most_restarts(run: &mut Run) {
     let mut builder = direct::Builder::new(131_072, 1);
-    let rows: Vec<Row> = (0..MOST_RESTARTS).map(|i| plain(&[(i / 20) as u8], 0)).collect();
+    let row = |i: usize| Row { seq: (MOST_RESTARTS - i) as u64, ..plain(&[(i / 20) as u8], 0) };
+    let rows: Vec<Row> = (0..MOST_RESTARTS).map(row).collect();
     for row in &rows {
         builder.add(row).expect("13 bytes each");
     }

@@ -7,6 +7,9 @@ pub struct Tally {
     /// how often each code was answered, of calls of the library
     codes: BTreeMap<&'static str, BTreeMap<u8, u64>>,
     listed: BTreeMap<&'static str, Listed>,
+    /// blocks that were checked, and of these the accepted ones, on which nothing may differ from the Rust
+    checked: u64,
+    accepted: u64,
     differ: u64,
     /// the smallest input of each kind that differs
     smallest: BTreeMap<&'static str, (usize, String)>,
@@ -26,6 +29,11 @@ impl Tally {
     pub fn answered(&mut self, kind: &'static str, code: u8) {
         self.same(kind);
         *self.codes.entry(kind).or_default().entry(code).or_default() += 1;
+    }
+
+    pub fn checked(&mut self, accepted: bool) {
+        self.checked += 1;
+        self.accepted += accepted as u64;
     }
 
     pub fn differs(&mut self, kind: &'static str, size: usize, what: impl FnOnce() -> String) {
@@ -52,7 +60,8 @@ impl Tally {
         format!(": {}", codes.join(", "))
     }
 
-    /// Prints all, and says whether nothing differs.
+    /// Prints all, and says whether nothing differs and over a third of the blocks were accepted: a comparison of blocks that the
+    /// check refuses tells little.
     pub fn report(&self) -> bool {
         for (kind, times) in &self.same {
             println!("{times:>10} same    {kind}{}", self.codes_of(kind));
@@ -66,8 +75,10 @@ impl Tally {
         }
         let listed: u64 = self.listed.values().map(|listed| listed.times).sum();
         let compared = self.same.values().sum::<u64>() + listed + self.differ;
+        let enough = 3 * self.accepted > self.checked;
+        println!("{} of {} blocks accepted{}", self.accepted, self.checked, if enough { "" } else { ": TOO FEW" });
         println!("{compared} compared, {} differ, {listed} listed differences", self.differ);
-        self.differ == 0
+        self.differ == 0 && enough
     }
 }
 
