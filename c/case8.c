@@ -15,6 +15,7 @@ enum { CURSOR = SLATEDB_CURSOR_WORDS, BUILDER = SLATEDB_BUILDER_WORDS, KEY = SLA
 enum { FIELDS = SLATEDB_FIELDS_WORDS, ROW = SLATEDB_ROW_WORDS };
 
 static const char *const KEYS[ROWS] = {"a", "b", "b", "b", "c"};
+static const uint64_t NUMBERS[ROWS] = {0, 3, 2, 1, 4}; /* of equal keys the newest first */
 static const uint64_t STARTS[ROWS] = {0, 13, 26, 39, 51};
 
 static uint8_t block[BLOCK];
@@ -81,7 +82,7 @@ static struct desk new_desk(size_t data_len, size_t restarts_len) {
 static uint8_t add(struct desk *d, size_t row) {
     size_t mark = used_pieces;
     slatedb_fields *fields = lend(sizeof *fields);
-    *fields = (slatedb_fields){.kind = SLATEDB_VALUE, .seq = row + 1};
+    *fields = (slatedb_fields){.kind = SLATEDB_VALUE, .seq = NUMBERS[row]};
     uint8_t *key = lend_copy(KEYS[row], 1);
     uint8_t code = slatedb_builder_add(slatedb_builder_words(d->builder), BUILDER, d->last_key, KEY, d->data, d->data_len,
                                        d->restarts, d->restarts_len, key, 1, lend(0), 0, slatedb_fields_words(fields), FIELDS);
@@ -241,10 +242,17 @@ static const char *name_of(uint64_t order) {
     return order == SLATEDB_ASCENDING ? "ascending" : "descending";
 }
 
+/* The number in the block of the row that starts there; ROWS if none does. */
+static size_t number_of(uint64_t start) {
+    size_t row = 0;
+    while (row < ROWS && STARTS[row] != start) row++;
+    return row;
+}
+
 static void expect_row(const struct reader *r, size_t row) {
-    printf(" row %llu", (unsigned long long)r->row->seq - 1);
+    printf(" row %zu", number_of(r->row->start));
     expect("the row's start", r->row->start, STARTS[row]);
-    expect("the row's number", r->row->seq, row + 1);
+    expect("the row's sequence number", r->row->seq, NUMBERS[row]);
     expect("the row's kind", r->row->kind, SLATEDB_VALUE);
     expect("the row's value", r->row->value_len, 0);
     expect("the row's key length", r->row->shared + r->row->suffix_len, 1);

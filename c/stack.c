@@ -253,8 +253,8 @@ static void over_keys_of(size_t len, unsigned rows) {
 
 /* ---- blocks of many restarts, made by hand */
 
-static size_t put_row(size_t at, unsigned letter) {
-    const uint8_t least[ROW] = {0, 1, 0, (uint8_t)letter, [ROW - 2] = 1};
+static size_t put_row(size_t at, unsigned letter, unsigned number) {
+    const uint8_t least[ROW] = {0, 1, 0, (uint8_t)letter, [ROW - 2] = (uint8_t)number};
     memcpy(data + at, least, ROW);
     return at + ROW;
 }
@@ -265,11 +265,11 @@ static size_t put_half(size_t at, size_t number) {
     return at + 2;
 }
 
-/* Every row a restart, twenty with one key after another. */
+/* Every row a restart, twenty with one key after another, the newest first. */
 static void make_most_restarts(void) {
     size_t at = 0;
     for (unsigned i = 0; i < MOST_RESTARTS; i++) {
-        at = put_row(at, i / 20);
+        at = put_row(at, i / 20, 19 - i % 20);
     }
     for (size_t i = 0; i < MOST_RESTARTS; i++) {
         at = put_half(at, i * ROW);
@@ -293,7 +293,7 @@ static void make_deepest_search(void) {
     for (size_t i = 0; i < DEEP_RESTARTS; i++) {
         offsets[i] = (uint16_t)at;
         if (is_read(i)) {
-            put_row(at, 'z');
+            put_row(at, 'z', 1);
             at += i == 0 ? ROW : KEY_END;
         } else {
             data[at++] = 0;

@@ -46,10 +46,14 @@ fn key(rng: &mut Rng) -> Vec<u8> {
     (0..length).map(|_| pick(rng, &[b'a', b'b', 0, 255])).collect()
 }
 
+/// Rows that the check accepts: of equal keys the larger number first, and none twice.
 fn sorted_rows(rng: &mut Rng, count: usize) -> Vec<Row> {
     let mut keys: Vec<Vec<u8>> = (0..count).map(|_| key(rng)).collect();
     keys.sort();
-    keys.into_iter().map(|k| row(rng, k)).collect()
+    let mut rows: Vec<Row> = keys.into_iter().map(|k| row(rng, k)).collect();
+    rows.sort_by(|a, b| a.key.cmp(&b.key).then(b.seq.cmp(&a.seq)));
+    rows.dedup_by(|a, b| a.key == b.key && a.seq == b.seq);
+    rows
 }
 
 fn joined(rows: &[Row]) -> String {
@@ -120,14 +124,15 @@ fn builds(rng: &mut Rng) {
 }
 
 fn reads(rng: &mut Rng) {
-    let keys = ["61", "62", "62", "62", "63"].map(|k| format!("{k}:v:-:1:-:-")).join(" ");
-    let answer = command(&format!("build2 4096 2 {keys}")).expect("a good command");
+    // equal keys, the newest first
+    let rows = ["61:v:-:0:-:-", "62:v:-:3:-:-", "62:v:-:2:-:-", "62:v:-:1:-:-", "63:v:-:4:-:-"].join(" ");
+    let answer = command(&format!("build2 4096 2 {rows}")).expect("a good command");
     read_block(rng, answer.split(' ').next_back().expect("a block"), &["62".into(), "6262".into(), "64".into(), "-".into()]);
     for _ in 0..16 {
         let count = 1 + (rng.next() % 9) as usize;
         let rows = sorted_rows(rng, count);
         let interval = pick(rng, &[1, 1, 2, 2, 3, 16]);
-        let mut targets: Vec<String> = (0..2).map(|_| word(&rows[(rng.next() % count as u64) as usize].key)).collect();
+        let mut targets: Vec<String> = (0..2).map(|_| word(&rows[(rng.next() % rows.len() as u64) as usize].key)).collect();
         targets.push(word(&key(rng)));
         read_block(rng, &block(interval, &rows), &targets);
     }
