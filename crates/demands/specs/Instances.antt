@@ -151,7 +151,7 @@ case-8-has-rows = has-rows block8 5 case-8-accepted
 abbrev t8 : Trailer
 t8 = record { count = 3; size = 64 }
 
-abbrev unlessRefused : Res (List (List Keyed)) → List (List Keyed)
+abbrev pub unlessRefused : Res (List (List Keyed)) → List (List Keyed)
 unlessRefused (ok regions) = regions
 unlessRefused (refuse n) = []
 
@@ -213,11 +213,11 @@ case-8-retry =
     (omega (arith, reads8 .many))
     refl
 
-abbrev areBytes : List ℕ → Bool
+abbrev pub areBytes : List ℕ → Bool
 areBytes [] = true
 areBytes (x ∷ xs) = cond (ltb x 256) (areBytes xs) false
 
-are-bytes : (xs : List ℕ) → areBytes xs ≡ true → (i : ℕ) → getD xs i 0 < 256
+pub are-bytes : (xs : List ℕ) → areBytes xs ≡ true → (i : ℕ) → getD xs i 0 < 256
 are-bytes [] h i = omega arith
 are-bytes (x ∷ xs) h zero = ⊎-elim (λ u. u .1) (λ u. absurd (clash (rw (u .0) at h) refl)) (ltb-cases x 256)
 are-bytes (x ∷ xs) h (suc i) = ⊎-elim (λ u. are-bytes xs (rw (u .0) at h) i) (λ u. absurd (clash (rw (u .0) at h) refl)) (ltb-cases x 256)

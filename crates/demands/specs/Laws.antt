@@ -12,4 +12,6 @@ pub mod Split
 pub mod LandsUp
 pub mod LandsDown
 pub mod AnyOrder
+pub mod Reach
+pub mod Places
 pub mod Laid

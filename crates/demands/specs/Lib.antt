@@ -10,6 +10,13 @@ pub mod Proof2
 pub mod Demand1
 pub mod Demand2
 pub mod Demand3
+pub mod Walked
+pub mod CostBlocks
+pub mod CostProof
+pub mod NoGapProof
+pub mod Cost
+pub mod NoGap
 pub mod OldBlocks
 pub mod DoubleDebit
 pub mod Instances
+pub mod CostInstances

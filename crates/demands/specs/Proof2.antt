@@ -241,7 +241,7 @@ module _ (b : List ℕ) (n : ℕ) (t : Trailer) (rows : List Keyed) (q : Rows b 
 -- ---- at most 5,042 restarts
 
 -- two bytes spell less than 65,536
-short-small : (b : List ℕ) (at : ℕ) → ((i : ℕ) → getD b i 0 < 256) → shortAt b at < 65536
+pub short-small : (b : List ℕ) (at : ℕ) → ((i : ℕ) → getD b i 0 < 256) → shortAt b at < 65536
 unfolding shortAt
 short-small b at h = two (drop at b) (λ i. rw (← getD-drop at b i 0) at (h (at + i)))
   where

@@ -48,7 +48,7 @@ unfolding walkRegion
 walk-over zero d g target at before h = refl
 walk-over (suc fuel) d g target at before h = rw (le-ltb at (g .end) h)
 
-walk-here : (fuel : ℕ) (d : List ℕ) (g : Region) (target : Key) (at : ℕ) (before : Key) (r : RowRead) → at < g .end → rowIn d g at (length before) ≡ ok r
+pub walk-here : (fuel : ℕ) (d : List ℕ) (g : Region) (target : Key) (at : ℕ) (before : Key) (r : RowRead) → at < g .end → rowIn d g at (length before) ≡ ok r
     → below (keyOf d before r) target ≡ false → walkRegion (suc fuel) d g target at before ≡ ok (stopIs at before)
 unfolding walkRegion
 walk-here fuel d g target at before r h p b = rw (lt-ltb at (g .end) h, p, b)
@@ -123,7 +123,7 @@ up-on : (left : ℕ) (b : List ℕ) (t : Trailer) (target : Key) (region : ℕ) 
 unfolding walkUp
 up-on left b t target region g s u w h = rw (u, w, le-ltb (s .at) (g .end) h)
 
-up-here : (left : ℕ) (b : List ℕ) (t : Trailer) (target : Key) (region : ℕ) (g : Region) (s : Stop) → regionOf b t region ≡ ok g
+pub up-here : (left : ℕ) (b : List ℕ) (t : Trailer) (target : Key) (region : ℕ) (g : Region) (s : Stop) → regionOf b t region ≡ ok g
     → walkRegion (t .size) (dataOf b t) g target (g .start) [] ≡ ok s → s .at < g .end → walkUp (suc left) b t target region ≡ ok (cursorIs ascending region (s .at) (s .before) false)
 unfolding walkUp
 up-here left b t target region g s u w h = rw (u, w, lt-ltb (s .at) (g .end) h)
