@@ -33,7 +33,7 @@ pub fn all(run: &mut Run) {
             }
         }
     }
-    equal_keys(run, &targets);
+    equal_keys(run);
 }
 
 fn plain(key: &[u8], seq: u64) -> Row {
@@ -52,17 +52,16 @@ fn numbered(keys: &[Vec<u8>]) -> Vec<Vec<Row>> {
 }
 
 /// Up to three rows over two keys that never fall, with all of these numbers, with a restart at each place and at none.
-fn equal_keys(run: &mut Run, targets: &[Vec<u8>]) {
+fn equal_keys(run: &mut Run) {
     const NUMBERS: [u64; 4] = [0, 1, 1 << 63, u64::MAX];
-    let choices = LETTERS.iter().flat_map(|letter| NUMBERS.map(|number| plain(&[*letter], number)));
-    let choices: Vec<Row> = choices.collect();
-    let mut blocks = vec![Vec::new()];
+    let choices: Vec<Row> = LETTERS.iter().flat_map(|letter| NUMBERS.map(|number| plain(&[*letter], number))).collect();
+    let targets = words(1);
+    let mut blocks: Vec<Vec<Row>> = vec![Vec::new()];
     for _ in 0..3 {
-        let follow = |rows: &Vec<Row>, row: &Row| rows.last().is_none_or(|last: &Row| last.key <= row.key);
-        let longer = |rows: &Vec<Row>| choices.iter().filter(|row| follow(rows, row)).map(|row| [&rows[..], &[row.clone()]].concat()).collect::<Vec<_>>();
-        blocks = blocks.iter().flat_map(longer).collect();
+        let longer = blocks.iter().flat_map(|rows| choices.iter().map(|row| [&rows[..], &[row.clone()]].concat()));
+        blocks = longer.filter(|rows| rows.is_sorted_by_key(|row| row.key[0])).collect();
         for rows in &blocks {
-            INTERVALS.iter().for_each(|interval| one_block(run, *interval, rows, targets));
+            INTERVALS.iter().for_each(|interval| one_block(run, *interval, rows, &targets));
         }
     }
 }
