@@ -150,6 +150,15 @@ impl Call {
         words_of(self.bytes(i))
     }
 
+    /// Of a seek that answers: how many restarts its block has, and how many of their keys the search read.
+    pub fn searched(&self, expected: &Expected) -> Option<(u64, u64)> {
+        if !matches!(self.function, Function::Seek) || !matches!(expected.code, GOOD | DONE) {
+            return None;
+        }
+        let count = self.bytes(0).last_chunk::<2>()?;
+        Some((u16::from_be_bytes(*count) as u64, words_of(&expected.memory[2])[0]))
+    }
+
     /// The lent arrays that may be written, as they came.
     fn memory(&self) -> Vec<Vec<u8>> {
         self.args.iter().filter_map(|arg| if let Arg::Written(bytes) = arg { Some(bytes.clone()) } else { None }).collect()

@@ -32,6 +32,9 @@ impl Run {
     pub fn call(&mut self, kind: &'static str, function: Function, args: Vec<Arg>) -> Expected {
         let call = Call { function, args };
         let expected = call.expected();
+        if let Some((restarts, reads)) = call.searched(&expected) {
+            self.tally.sought(restarts, reads);
+        }
         if let Some(guest) = &mut self.guest {
             guest.ask(kind, call, expected.clone(), &mut self.tally);
         }

@@ -10,6 +10,8 @@ pub struct Tally {
     /// blocks that were checked, and of these the accepted ones, on which nothing may differ from the Rust
     checked: u64,
     accepted: u64,
+    /// the most restart keys that a seek's search read, for each count of restarts
+    reads: BTreeMap<u64, u64>,
     differ: u64,
     /// the smallest input of each kind that differs
     smallest: BTreeMap<&'static str, (usize, String)>,
@@ -36,6 +38,11 @@ impl Tally {
         self.accepted += accepted as u64;
     }
 
+    pub fn sought(&mut self, restarts: u64, reads: u64) {
+        let most = self.reads.entry(restarts).or_default();
+        *most = reads.max(*most);
+    }
+
     pub fn differs(&mut self, kind: &'static str, size: usize, what: impl FnOnce() -> String) {
         self.differ += 1;
         if self.smallest.get(kind).is_none_or(|known| size < known.0) {
@@ -60,8 +67,16 @@ impl Tally {
         format!(": {}", codes.join(", "))
     }
 
-    /// Prints all, and says whether nothing differs and over a third of the blocks were accepted: a comparison of blocks that the
-    /// check refuses tells little.
+    /// As "restarts: most reads, ..", one restart count with each: and the counts whose search read more keys than the count has
+    /// significant bits, of which there may be none.
+    fn reads_of(&self) -> (String, Vec<u64>) {
+        let bits = |count: u64| (u64::BITS - count.leading_zeros()) as u64;
+        let all: Vec<String> = self.reads.iter().map(|(restarts, most)| format!("{restarts}: {most}")).collect();
+        (all.join(", "), self.reads.iter().filter(|(restarts, most)| **most > bits(**restarts)).map(|(restarts, _)| *restarts).collect())
+    }
+
+    /// Prints all, and says whether nothing differs, no search read more keys than it may, and over a third of the blocks were
+    /// accepted: a comparison of blocks that the check refuses tells little.
     pub fn report(&self) -> bool {
         for (kind, times) in &self.same {
             println!("{times:>10} same    {kind}{}", self.codes_of(kind));
@@ -73,12 +88,17 @@ impl Tally {
         for (kind, (_, what)) in &self.smallest {
             println!("DIFFERS  {kind}: {what}");
         }
+        let (reads, beyond) = self.reads_of();
+        println!("the most restart keys that a search read, by the count of restarts: {reads}");
+        if !beyond.is_empty() {
+            println!("MORE READS than significant bits, of these counts: {beyond:?}");
+        }
         let listed: u64 = self.listed.values().map(|listed| listed.times).sum();
         let compared = self.same.values().sum::<u64>() + listed + self.differ;
         let enough = 3 * self.accepted > self.checked;
         println!("{} of {} blocks accepted{}", self.accepted, self.checked, if enough { "" } else { ": TOO FEW" });
         println!("{compared} compared, {} differ, {listed} listed differences", self.differ);
-        self.differ == 0 && enough
+        self.differ == 0 && enough && beyond.is_empty()
     }
 }
 
