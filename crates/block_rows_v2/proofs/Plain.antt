@@ -1,14 +1,14 @@
 -- A plain row given: its key, put together where it is carried and at the start of the lent rest, and what a run over the plain rows of a region has given with it.
 -- Wide copies lay down more than the row's own bytes, where these tell nothing or are written over.
 use Prim.Native.Nat.{ℕ, _+_, _-_, _*_, _<_, _≤_}
-use mathlib.Core.Path.{_≡_, refl, ap, sym, _∙_}
-use mathlib.Core.Bool.{Bool, true, false, _&&_, _||_}
+use mathlib.Core.Path.{_≡_, ap, sym, _∙_}
+use mathlib.Core.Bool.{false, _||_}
 use mathlib.Core.List.{List, _++_, append-assoc}
 use native.Mathlib.Omega.{arith}
 use lib.Dec.{ltb, eqb}
 use lib.ListN.{length, take, drop, length-append, length-drop}
 use lib.Seq.{take-add, take-take, take-append-le, drop-drop, length-take-le}
-use borrow.Author.Tests.{ltb-false, eqb-true}
+use borrow.Author.Tests.{ltb-false}
 use borrow.Rule.Slice.PartMut.{midOf, putMid, mid-len}
 use Rattle.layout.specs.Res.{ok}
 use Rattle.layout.specs.Limits.{maxKey}
@@ -16,8 +16,7 @@ use Rattle.layout.specs.Place.{splice}
 use Rattle.layout.specs.Plain.{plainAt}
 use Rattle.layout.specs.RowRead.{mayShare, RowRead}
 use Rattle.layout.specs.Trailer.{Region}
-use Rattle.layout.specs.Cursor.{Cursor, done, found, stepIs, pastRow, next}
-use Rattle.layout.specs.Laws.Cursor.{next-up, up-done}
+use Rattle.layout.specs.Cursor.{Cursor, found, stepIs, pastRow, next}
 use Rattle.layout.specs.Laws.Splice.{Wrote, take-splice, drop-splice, drop-past-splice, take-past-splice, length-splice, splice-splice, wrote-rest, wrote-length}
 use Rattle.layout.specs.Laws.Plain.{or-false}
 use Rattle.buf_mut.specs.Promise.{Puts}
@@ -32,7 +31,7 @@ use Rattle.region_rows_v2.specs.Bounds.{Inside}
 use Rattle.region_rows_v2.specs.Region.{PlainFits, movedTo, rowHere, keyHere, here-step, here-parts, here-long, here-over, here-stays, here-inside}
 use Rattle.block_rows_v2.specs.Chain.{Gone, gone-more}
 use Rattle.block_rows_v2.specs.declared.Ran.{Ran}
-use Rattle.block_rows_v2.specs.Says.{keyAt, Carried, markedAt, ranTo, RunsOn}
+use Rattle.block_rows_v2.specs.Says.{keyAt, Carried, ranTo, RunsOn}
 
 -- ---- wide copies
 
@@ -164,21 +163,6 @@ module _ (b : List ℕ) (size : ℕ) (g : Region) (p : Place) (key : List ℕ) (
 
       pub given-inside : Inside b size g (viewIn (movedTo p (p .region) (r .next) (r .shared + r .unshared)) key′)
       given-inside = here-inside b size g p key i (plainFrom r) m e h whole key′ carried k
-
--- ---- no row left
-
-both : {x y : Bool} → (x && y) ≡ true → (x ≡ true) × (y ≡ true)
-both {x = true} {y} e = (refl, e)
-both {x = false} {y} e = let z : _≡_ {A = ℕ} 0 1 = cc in absurd (omega arith)
-
-pub ends-here : (b : List ℕ) (size : ℕ) (g : Region) (p : Place) (key : List ℕ) → Inside b size g (viewIn p key) → (eqb (g .reach) (p .at) && eqb (g .end) (p .at)) ≡ true → (room : ℕ)
-    → next (viewIn p key) b room ≡ ok (stepIs (viewIn (markedAt p) key) done)
-ends-here b size g p key i e room =
-    let t = both {x = eqb (g .reach) (p .at)} {y = eqb (g .end) (p .at)} e in
-    let reach = eqb-true (g .reach) (p .at) (t .0) in
-    let end = eqb-true (g .end) (p .at) (t .1) in
-    next-up (viewIn p key) b room _ (i .read) (i .counted) (i .few) (i .unmarked) (i .heads)
-    ∙ up-done (viewIn p key) b _ room g (i .bounds) (i .from) (omega arith) (sym end)
 
 -- ---- the exits of a run
 

@@ -1,7 +1,7 @@
 -- The loop of a walk, whatever carries the cursor: the walk from here on, with what is left of the limit, put upon the rows and the sum so far, is the whole.
 -- And what each exit of an export answers and stores.
 use Prim.Native.Nat.{ℕ, suc, _+_, _-_, _%_, _^_, _<_, _≤_}
-use mathlib.Core.Path.{_≡_, refl, ap, ap₂, sym, _∙_}
+use mathlib.Core.Path.{_≡_, refl, ap, ap₂, sym, _∙_, subst}
 use mathlib.Core.Bool.{Bool, true, false, cond}
 use mathlib.Core.List.{List, [], _∷_}
 use native.Mathlib.Omega.{arith}
@@ -19,15 +19,18 @@ use Rattle.basics.specs.Number.{number}
 use Rattle.basics.specs.Says.{saysOrder}
 use Rattle.basics.specs.declared.Refusal.{Refusal}
 use Rattle.basics.specs.declared.IterationOrder.{IterationOrder}
-use Rattle.block_iterator_v2.specs.Promise.{Opens}
+use Rattle.place_v2.specs.Promise.{OpensPlace}
 use Rattle.place_v2.specs.Says.{viewIn}
-use Rattle.block_iterator_v2.specs.Says.{viewOf}
-use Rattle.block_iterator_v2.specs.declared.Opened.{Opened}
+use Rattle.place_v2.specs.declared.OpenedPlace.{OpenedPlace}
 use Rattle.basics.specs.declared.Verdict.the-variants.{Good as GoodOpen, Refused as OpenRefused}
 use Rattle.row_words.specs.Words.{badWords, doneCode, orderIn}
 use Rattle.row_words.proofs.Stores.{all-stored}
+use Rattle.compare_walks.specs.declared.Ran.{Ran}
+use Rattle.compare_walks.specs.declared.Walked.{Walked}
+use Rattle.compare_walks.specs.declared.Went.{Went}
+use Rattle.compare_walks.specs.declared.Went.the-variants.{On, Over}
 use Rattle.compare_walks.specs.Walk.{amount, Walk, walkIs, withRow, walk, wrapped}
-use Rattle.compare_walks.specs.Loop.{onto, Walking, added}
+use Rattle.compare_walks.specs.Loop.{onto, Walking, added, RunsOn, Ends, Goes, OneMore, Stops}
 use Rattle.compare_walks.specs.Promise.{Tells, WalksFlat}
 
 -- ---- the loop
@@ -71,6 +74,33 @@ module _ {want : Res Walk} (b : List ℕ) (limit : ℕ) (c : Cursor) (rows sum :
         go a p (ok w) = alike (omega arith) (omega (arith, p))
         go a p (refuse n) = refl
 
+-- ---- one way after another
+
+module _ {b : List ℕ} {limit : ℕ} {a q : Ran} {k k′ : List ℕ} (x : RunsOn b limit a k q k′) where
+  pub ends-then : (w : Walked) → Ends b limit q k′ w → Ends b limit a k w
+  ends-then w y want u = y want (x .on want u)
+
+  pub runs-then : {r : Ran} {k″ : List ℕ} → RunsOn b limit q k′ r k″ → RunsOn b limit a k r k″
+  runs-then y = record { most = omega (arith, x .most, y .most); on = λ want w. y .on want (x .on want w) }
+
+  -- and what more was gone, by how it went
+  module _ (g : Went) (k″ : List ℕ) (y : Goes b limit q k′ g k″) where
+    pub went-on : {r : Ran} → g ≡ On r → RunsOn b limit a k r k″
+    went-on e = runs-then (subst (λ (z : Went). Goes b limit q k′ z k″) e y)
+
+    pub went-over : (room : ℕ) {w : Walked} → g ≡ Over w → Goes b limit a k g k″ × Stops limit room g
+    went-over room {w} e = subst (λ (z : Went). Goes b limit a k z k″ × Stops limit room z) (sym e) (ends-then w (subst (λ (z : Went). Goes b limit q k′ z k″) e y), tt)
+
+-- the case of an answer is known, so what it tells is
+pub goes-as : (b : List ℕ) (limit : ℕ) (a : Ran) (k : List ℕ) {g h : Went} (k′ : List ℕ) → Goes b limit a k g k′ → g ≡ h → Goes b limit a k h k′
+goes-as b limit a k k′ y e = subst (λ (z : Went). Goes b limit a k z k′) e y
+
+pub stops-on : (limit room : ℕ) {g : Went} {r : Ran} → Stops limit room g → g ≡ On r → (r .rows < limit) × (room ≡ maxKey → ⊥)
+stops-on limit room y e = subst (λ (z : Went). Stops limit room z) e y
+
+pub one-more : (here : Ran) {g : Went} {r : Ran} → OneMore here g → g ≡ On r → r .rows ≡ here .rows + 1
+one-more here o e = subst (λ (z : Went). OneMore here z) e o
+
 -- ---- what a row adds, summed piece by piece
 
 pub row-added : (sum seq held : ℕ) (key : List ℕ) (n : ℕ) {last lengths named both r : ℕ} → 1 ≤ n → n ≤ length key
@@ -99,21 +129,14 @@ module _ (b : List ℕ) (order limit : ℕ) (sums : List ℕ) where
   pub walks-no-order : length sums ≡ 2 → orderIn order ≡ refuse badWords → WalksFlat b order limit sums badWords sums
   walks-no-order h o = rw (eq-eqb (length sums) 2 h, o) (record { answer = refl; words = refl })
 
-  module _ (r : Opened) (o : IterationOrder) (h : length sums ≡ 2) (is : orderIn order ≡ ok (saysOrder o)) (opens : Opens b o r) where
-    opened-so : r .answer ≡ GoodOpen → openBlock b (saysOrder o) ≡ ok (viewOf (r .iterator))
-    opened-so e = whether-good (openBlock b (saysOrder o)) (viewOf (r .iterator)) (yes saysVerdict (opens .answer) e) (λ a z. opens .view ∙ ap (cursorOr (saysOrder o)) z)
+  module _ (r : OpenedPlace) (o : IterationOrder) (h : length sums ≡ 2) (is : orderIn order ≡ ok (saysOrder o)) (opens : OpensPlace b o r) where
+    opened-so : r .answer ≡ GoodOpen → (key : List ℕ) → openBlock b (saysOrder o) ≡ ok (viewIn (r .place) key)
+    opened-so e key = whether-good (openBlock b (saysOrder o)) (viewIn (r .place) key) (yes saysVerdict (opens .answer) e) (λ a z. opens .view key ∙ ap (cursorOr (saysOrder o)) z)
 
-    -- what the walk from the opened cursor answers is what is told
-    pub walks-told : {want : Res Walk} {code : ℕ} {sums′ : List ℕ} → r .answer ≡ GoodOpen → want ≡ bind (walk limit (viewOf (r .iterator)) b) wrapped → Tells want sums code sums′
+    -- what the walk from the opened cursor answers is what is told; it carries no key, so that zeros do for its bytes
+    pub walks-told : {want : Res Walk} {code : ℕ} {sums′ : List ℕ} → r .answer ≡ GoodOpen → want ≡ bind (walk limit (viewIn (r .place) (replicate maxKey 0)) b) wrapped → Tells want sums code sums′
         → WalksFlat b order limit sums code sums′
-    walks-told e w t = rw (eq-eqb (length sums) 2 h, is, opened-so e, ← w) t
-
-    -- the same from its place and as many zeros
-    pub walks-told-in-place : {want : Res Walk} {code : ℕ} {sums′ : List ℕ} → r .answer ≡ GoodOpen
-        → want ≡ bind (walk limit (viewIn (r .iterator .place) (replicate maxKey 0)) b) wrapped → Tells want sums code sums′ → WalksFlat b order limit sums code sums′
-    walks-told-in-place e w t =
-        let same : viewIn (r .iterator .place) (replicate maxKey 0) ≡ viewOf (r .iterator) = ap (viewIn (r .iterator .place)) (sym (opens .bytes)) in
-        walks-told e (w ∙ ap (λ (c : Cursor). bind (walk limit c b) wrapped) same) t
+    walks-told e w t = rw (eq-eqb (length sums) 2 h, is, opened-so e (replicate maxKey 0), ← w) t
 
     pub walks-not-opened : {x : Refusal} {code : ℕ} → r .answer ≡ OpenRefused x → code ≡ number x → WalksFlat b order limit sums code sums
     walks-not-opened {x} e q = rw (eq-eqb (length sums) 2 h, is, whether-refused (openBlock b (saysOrder o)) (number x) (yes saysVerdict (opens .answer) e), q) (record { answer = refl; words = refl })

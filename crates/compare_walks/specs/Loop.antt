@@ -2,16 +2,23 @@
 -- over plain rows ask and leave.
 use Prim.Native.Nat.{ℕ, _+_, _-_, _%_, _^_, _<_, _≤_}
 use mathlib.Core.Path.{_≡_}
+use mathlib.Core.Bool.{Bool, true}
 use mathlib.Core.List.{List}
 use lib.ListN.{length, take, drop}
 use Rattle.layout.specs.Res.{Res, ok, bind}
-use Rattle.layout.specs.Cursor.{Cursor}
+use Rattle.layout.specs.Cursor.{Cursor, marked, done, stepIs, next}
 use Rattle.layout.specs.Fixed.{unbig}
 use Rattle.layout.specs.Key.{Key}
+use Rattle.layout.specs.Limits.{maxKey}
 use Rattle.layout.specs.Place.{splice}
 use Rattle.row_plain_v2.specs.declared.PlainRow.{PlainRow}
 use Rattle.place_v2.specs.Says.{viewIn}
+use Rattle.place_v2.specs.declared.Place.{Place}
 use Rattle.compare_walks.specs.declared.Ran.{Ran}
+use Rattle.compare_walks.specs.declared.Walked.{Walked}
+use Rattle.compare_walks.specs.declared.Went.{Went}
+use Rattle.compare_walks.specs.declared.Went.the-variants.{On, Over}
+use Rattle.compare_walks.specs.Says.{saysWalked}
 use Rattle.compare_walks.specs.Walk.{lastByte, Walk, walkIs, walk}
 
 -- a walk put upon n rows with the sum s
@@ -37,3 +44,28 @@ pub record PassesPlain (key d : List ℕ) (at : ℕ) (r : PlainRow) (sum sum′ 
 pub record RunsOn (b : List ℕ) (limit : ℕ) (came : Ran) (key : List ℕ) (r : Ran) (key′ : List ℕ) : Type 0 where
   pub most : came .rows ≤ r .rows
   pub on : (want : Res Walk) → Walking want b limit (viewIn (came .place) key) (came .rows) (came .sum) → Walking want b limit (viewIn (r .place) key′) (r .rows) (r .sum)
+
+-- the end of whatever walk was under way
+abbrev pub Ends : List ℕ → ℕ → Ran → List ℕ → Walked → Type 0
+Ends b limit came key w = (want : Res Walk) → Walking want b limit (viewIn (came .place) key) (came .rows) (came .sum) → saysWalked w ≡ want
+
+abbrev pub Goes : List ℕ → ℕ → Ran → List ℕ → Went → List ℕ → Type 0
+Goes b limit came key (On r) key′ = RunsOn b limit came key r key′
+Goes b limit came key (Over w) key′ = Ends b limit came key w
+
+abbrev pub OneMore : Ran → Went → Type 0
+OneMore here (On r) = r .rows ≡ here .rows + 1
+OneMore here (Over w) = Unit {0}
+
+-- a step finds one row, if the limit leaves any
+abbrev pub StepsOn : List ℕ → Ran → List ℕ → Went → List ℕ → Type 0
+StepsOn b here key r key′ = ((limit : ℕ) → here .rows < limit → Goes b limit here key r key′) × OneMore here r
+
+-- where a walk stops that is still under way: before a row whose key has no room
+abbrev pub Stops : ℕ → ℕ → Went → Type 0
+Stops limit room (On r) = (r .rows < limit) × (room ≡ maxKey → ⊥)
+Stops limit room (Over w) = Unit {0}
+
+-- at the end of the last region a step says "done"
+abbrev pub TellsOver : Place → List ℕ → Bool → Type 0
+TellsOver p b r = r ≡ true → (key : List ℕ) → next (viewIn p key) b maxKey ≡ ok (stepIs (marked (viewIn p key)) done)

@@ -3,7 +3,7 @@
 // Follows the loop over next of slatedb 0.16.0's BlockIteratorV2 (Apache License 2.0), and is changed: each answers a code, 0 for good, the number of a refusal, 254
 // for words that mean nothing, which is tested first, and 255 for "done"; what else it answers goes to lent words.
 ghost use mathlib.Core.Path.{_≡_};
-ghost use Prim.Native.Nat.{_≤_, _+_, _%_, _^_};
+ghost use Prim.Native.Nat.{_<_, _≤_, _+_, _%_, _^_};
 ghost use lib.ListN.{length, take, replicate};
 ghost use Rattle.layout.specs.Res.{bind};
 ghost use Rattle.layout.specs.Limits.{maxKey};
@@ -11,11 +11,10 @@ ghost use Rattle.basics.specs.Says.{saysHeld};
 ghost use Rattle.row_decode_v2.specs.Says.{rowFrom};
 ghost use Rattle.trailer.specs.Says.{regionFrom};
 ghost use Rattle.place_v2.specs.Says.{viewIn};
-ghost use Rattle.block_iterator_v2.specs.Says.{viewOf};
 ghost use Rattle.region_rows_v2.specs.Bounds.{Inside};
 ghost use Rattle.region_rows_v2.specs.Region.{PlainFits};
 ghost use Rattle.compare_walks.specs.Walk.{heldLength, amount, walk, wrapped};
-ghost use Rattle.compare_walks.specs.Loop.{added, PassesPlain, RunsOn};
+ghost use Rattle.compare_walks.specs.Loop.{added, PassesPlain, RunsOn, Ends, Goes, StepsOn, Stops, TellsOver};
 ghost use Rattle.compare_walks.specs.Says.{saysWalked};
 ghost use Rattle.compare_walks.specs.Promise.{Tells, WalksFlat};
 use basics::Refusal;
@@ -103,10 +102,13 @@ fn with_row(sum: u64, row: Row, key: &[u8]) -> u64
 
 // ---- by value
 
-fn by_value(block: &[u8], start: BlockIteratorV2, limit: u64) -> Walked
-    ensures { λ r. ⌜ saysWalked r ≡ bind (walk limit (viewOf start) (now (block .entry))) wrapped ⌝ }
+fn by_value(block: &[u8], start: Place, limit: u64) -> Walked
+    ensures { λ r. ⌜ saysWalked r ≡ bind (walk limit (viewIn start (replicate maxKey 0)) (now (block .entry))) wrapped ⌝ }
 {
-    let mut c = start;
+    let mut c = BlockIteratorV2 {
+        place: start,
+        key: [0; basics::MAX_KEY],
+    };
     let mut key = [0; basics::MAX_KEY];
     let mut rows = 0;
     let mut sum = 0;
@@ -222,51 +224,110 @@ fn run_here(block: &[u8], key: &mut [u8], came: Ran, limit: u64) -> Ran
     run(block, b, key, came, limit)
 }
 
-// Plain rows a region at a time, any other row by a step of its own.
+// Where a walk has come to, still under way; or how it ended.
+enum Went {
+    On(Ran),
+    Over(Walked),
+}
+
+// One more step, with its row added.
+fn step_row(block: &[u8], carried: &mut [u8], out: &mut [u8], here: Ran) -> Went
+    requires { ⌜ (length (now carried) ≡ maxKey) × (length (now out) ≡ maxKey) × (here .rows + 1 < 2 ^ 64) ⌝ }
+    ensures { λ r. ⌜ StepsOn (now (block .entry)) here (now (carried .entry)) r (now (carried .exit)) ⌝ }
+{
+    let rows = here.rows;
+    let sum = here.sum;
+    let moved = step_in_place_v2::next_in_place(carried, here.place, block, out);
+    match moved {
+        Moved::Found { place, row } => Went::On(Ran {
+            place,
+            rows: rows + 1,
+            sum: with_row(sum, row, out),
+        }),
+        Moved::Done(_) => Went::Over(Walked::Ended {
+            over: true,
+            rows,
+            sum,
+        }),
+        Moved::Refused(refusal) => Went::Over(Walked::Refused(refusal)),
+    }
+}
+
+// Plain rows a region at a time, any other row by a step of its own; to the first of these, unless `out` has room for every key.
+fn walk_rows(block: &[u8], carried: &mut [u8], out: &mut [u8], came: Ran, limit: u64) -> Went
+    requires { ⌜ length (now carried) ≡ maxKey ⌝ }
+    ensures { λ r. ⌜ Goes (now (block .entry)) limit came (now (carried .entry)) r (now (carried .exit)) × Stops limit (length (now (out .entry))) r ⌝ }
+{
+    let mut here = came;
+    while here.rows < limit {
+        let before = here.rows;
+        here = run_here(block, carried, here, limit);
+        if here.rows == before {
+            if out.len() != basics::MAX_KEY {
+                return Went::On(here);
+            }
+            let went = step_row(block, carried, out, here);
+            let Went::On(next) = went else {
+                return went;
+            };
+            here = next;
+        }
+    }
+    Went::Over(Walked::Ended {
+        over: false,
+        rows: here.rows,
+        sum: here.sum,
+    })
+}
+
+// Whether an ascending cursor stands at the end of the last region, where a step says "done".
+fn is_over(block: &[u8], p: Place) -> bool
+    ensures { λ r. ⌜ TellsOver p (now (block .entry)) r ⌝ }
+{
+    let b = region_rows_v2::bounds_of(block, p);
+    let g = b.region;
+    if g.end == 0 {
+        return false;
+    }
+    (g.reach == p.at) & (g.end == p.at)
+}
+
+// The rest of a walk that came to no plain row. The bytes for a key that a step gives are made, and cleared, only here.
+fn walk_rest(block: &[u8], carried: &mut [u8], here: Ran, limit: u64) -> Walked
+    requires { ⌜ (length (now carried) ≡ maxKey) × (here .rows < limit) ⌝ }
+    ensures { λ r. ⌜ Ends (now (block .entry)) limit here (now (carried .entry)) r ⌝ }
+{
+    if is_over(block, here.place) {
+        return Walked::Ended {
+            over: true,
+            rows: here.rows,
+            sum: here.sum,
+        };
+    }
+    let mut out = [0; basics::MAX_KEY];
+    let went = walk_rows(block, carried, &mut out, here, limit);
+    // Never on: every key has room.
+    let Went::Over(walked) = went else {
+        return Walked::Refused(Refusal::BadState);
+    };
+    walked
+}
+
+// Plain rows alone, as long as there are some: their keys go from the block to the carried one, so that nothing is lent for them.
 fn in_place(block: &[u8], start: Place, limit: u64) -> Walked
     ensures { λ r. ⌜ saysWalked r ≡ bind (walk limit (viewIn start (replicate maxKey 0)) (now (block .entry))) wrapped ⌝ }
 {
-    let mut p = start;
     let mut carried = [0; basics::MAX_KEY];
-    let mut key = [0; basics::MAX_KEY];
-    let mut rows = 0;
-    let mut sum = 0;
-    while rows < limit {
-        let came = Ran {
-            place: p,
-            rows,
-            sum,
-        };
-        let ran = run_here(block, &mut carried, came, limit);
-        let before = rows;
-        p = ran.place;
-        rows = ran.rows;
-        sum = ran.sum;
-        if rows == before {
-            let moved = step_in_place_v2::next_in_place(&mut carried, p, block, &mut key);
-            match moved {
-                Moved::Found { place, row } => {
-                    sum = with_row(sum, row, &key);
-                    rows += 1;
-                    p = place;
-                }
-                Moved::Done(_) => {
-                    return Walked::Ended {
-                        over: true,
-                        rows,
-                        sum,
-                    };
-                }
-                Moved::Refused(refusal) => {
-                    return Walked::Refused(refusal);
-                }
-            }
-        }
-    }
-    Walked::Ended {
-        over: false,
-        rows,
-        sum,
+    let mut none = [0; 1];
+    let came = Ran {
+        place: start,
+        rows: 0,
+        sum: 0,
+    };
+    let went = walk_rows(block, &mut carried, &mut none, came, limit);
+    match went {
+        Went::On(here) => walk_rest(block, &mut carried, here, limit),
+        Went::Over(walked) => walked,
     }
 }
 
@@ -283,15 +344,16 @@ fn walk_flat(block: &[u8], order: u64, limit: u64, sums: &mut [u64], moves: bool
     let OrderRead::Is(o) = ordered else {
         return block_words::BAD_WORDS;
     };
-    let opened = BlockIteratorV2::new(block, o);
+    let opened = place_v2::open_place(block, o);
+    let place = opened.place;
     let answer = opened.answer;
     match answer {
         Verdict::Good => {
             if moves {
-                let walked = by_value(block, opened.iterator, limit);
+                let walked = by_value(block, place, limit);
                 return tell(walked, sums);
             }
-            let walked = in_place(block, opened.iterator.place, limit);
+            let walked = in_place(block, place, limit);
             tell(walked, sums)
         }
         Verdict::Refused(refusal) => basics::number(refusal),

@@ -1,13 +1,14 @@
 -- A plain row of the region in which a cursor goes on: the step past it, whatever room there is for its key, and the cursor that it leaves, which goes on in the
 -- region or is handed over to the next.
 use Prim.Native.Nat.{ℕ, _+_, _-_, _<_, _≤_}
-use mathlib.Core.Path.{_≡_, refl, ap, _∙_}
+use mathlib.Core.Path.{_≡_, refl, ap, sym, _∙_}
+use mathlib.Core.Bool.{Bool, true, false, _&&_}
 use mathlib.Core.List.{List, [], _++_}
 use native.Mathlib.Omega.{arith}
 use lib.Dec.{eqb}
 use lib.ListN.{length, take, drop}
 use lib.Seq.{length-take-le}
-use borrow.Author.Tests.{lt-ltb, le-ltb, eq-eqb, ne-eqb}
+use borrow.Author.Tests.{lt-ltb, le-ltb, eq-eqb, ne-eqb, eqb-true}
 use Rattle.layout.specs.Res.{ok}
 use Rattle.layout.specs.Fixed.{unbig}
 use Rattle.layout.specs.Limits.{maxKey}
@@ -16,8 +17,9 @@ use Rattle.layout.specs.Place.{splice}
 use Rattle.layout.specs.Plain.{Plain, plainAt, plainRead}
 use Rattle.layout.specs.RowRead.{mayShare, RowRead, keyOf}
 use Rattle.layout.specs.Trailer.{trailerIs, Region, rowIn}
-use Rattle.layout.specs.Cursor.{Cursor, found, stepIs, pastRow, next}
+use Rattle.layout.specs.Cursor.{Cursor, marked, found, done, stepIs, pastRow, next}
 use Rattle.layout.specs.Laws.Carry.{Carries, read-carried, keyOf-length, suffixOf, key-parts, key-new}
+use Rattle.layout.specs.Laws.Cursor.{next-up, up-done}
 use Rattle.layout.specs.Laws.Plain.{PlainTells, plainAt-tells, fixedAt-is}
 use Rattle.layout.specs.Laws.PlainStep.{plain-reads, plain-step}
 use Rattle.layout.specs.Laws.Trailer.{trailerOf-tells}
@@ -132,3 +134,19 @@ pub bounds-inside : (p : Place) (key b : List ℕ) {r : Bounds} → BoundsOf p b
 bounds-inside p key b e h =
     let i = stretch-inside (viewIn p []) b e h in
     record { count = i .count; heads = i .heads; unmarked = i .unmarked; read = i .read; counted = i .counted; few = i .few; bounds = i .bounds; from = i .from }
+
+-- ---- no row left
+
+both : {x y : Bool} → (x && y) ≡ true → (x ≡ true) × (y ≡ true)
+both {x = true} {y} e = (refl, e)
+both {x = false} {y} e = let z : _≡_ {A = ℕ} 0 1 = cc in absurd (omega arith)
+
+-- at the end of the last region
+pub ends-here : (b : List ℕ) (size : ℕ) (g : Region) (p : Place) (key : List ℕ) → Inside b size g (viewIn p key) → (eqb (g .reach) (p .at) && eqb (g .end) (p .at)) ≡ true → (room : ℕ)
+    → next (viewIn p key) b room ≡ ok (stepIs (marked (viewIn p key)) done)
+ends-here b size g p key i e room =
+    let t = both {x = eqb (g .reach) (p .at)} {y = eqb (g .end) (p .at)} e in
+    let reach = eqb-true (g .reach) (p .at) (t .0) in
+    let end = eqb-true (g .end) (p .at) (t .1) in
+    next-up (viewIn p key) b room _ (i .read) (i .counted) (i .few) (i .unmarked) (i .heads)
+    ∙ up-done (viewIn p key) b _ room g (i .bounds) (i .from) (omega arith) (sym end)

@@ -3,8 +3,7 @@ use mathlib.Core.Path.{refl}
 use native.Mathlib.Omega.{arith}
 use Rattle.layout.specs.Laws.Res.{clash}
 use Rattle.trailer.specs.Says.{regionFrom}
-use Rattle.region_rows_v2.specs.Region.{bounds-inside}
-use Rattle.block_rows_v2.proofs.Plain.{ends-here}
+use Rattle.region_rows_v2.specs.Region.{bounds-inside, ends-here}
 use borrow.Author.Needs.{needs}
 use Rattle.block_rows_v2.proofs.run_here.Statement.{statement}
 use Rattle.block_rows_v2.proofs.run_here.Tie as tie
