@@ -70,11 +70,12 @@ struct desk {
     uint8_t *last_key, *data;
     uint16_t *restarts;
     size_t data_len, restarts_len;
+    const uint64_t *numbers;
 };
 
 static struct desk new_desk(size_t data_len, size_t restarts_len) {
     struct desk d = {lend(sizeof(slatedb_builder)), lend(KEY), lend(data_len),
-                     lend(restarts_len * sizeof(uint16_t)), data_len, restarts_len};
+                     lend(restarts_len * sizeof(uint16_t)), data_len, restarts_len, NUMBERS};
     expect("a new builder", slatedb_builder_new(slatedb_builder_words(d.builder), BUILDER, 4096, INTERVAL), SLATEDB_GOOD);
     return d;
 }
@@ -82,7 +83,7 @@ static struct desk new_desk(size_t data_len, size_t restarts_len) {
 static uint8_t add(struct desk *d, size_t row) {
     size_t mark = used_pieces;
     slatedb_fields *fields = lend(sizeof *fields);
-    *fields = (slatedb_fields){.kind = SLATEDB_VALUE, .seq = NUMBERS[row]};
+    *fields = (slatedb_fields){.kind = SLATEDB_VALUE, .seq = d->numbers[row]};
     uint8_t *key = lend_copy(KEYS[row], 1);
     uint8_t code = slatedb_builder_add(slatedb_builder_words(d->builder), BUILDER, d->last_key, KEY, d->data, d->data_len,
                                        d->restarts, d->restarts_len, key, 1, lend(0), 0, slatedb_fields_words(fields), FIELDS);
@@ -310,6 +311,33 @@ static void read_case(void) {
     find(&r, SLATEDB_DESCENDING, "", ROWS);
     find(&r, SLATEDB_ASCENDING, "", 0);
     take_back(0);
+}
+
+/* The same keys with other numbers, of which those of the three rows "b" count: the check asks that they fall. */
+static void newest_first(void) {
+    static const struct {
+        uint64_t numbers[ROWS];
+        uint8_t code;
+    } tries[] = {
+        {{9, 3, 2, 1, 0}, SLATEDB_GOOD},
+        {{0, UINT64_MAX, 1, 0, 4}, SLATEDB_GOOD},
+        {{0, 1, 2, 3, 4}, SLATEDB_KEY_FALLS},
+        {{1, 1, 1, 1, 1}, SLATEDB_KEY_FALLS},
+        {{0, 2, 3, 1, 4}, SLATEDB_KEY_FALLS}, /* only on both sides of a restart */
+        {{0, 2, 2, 1, 4}, SLATEDB_KEY_FALLS},
+        {{0, 3, 1, 2, 4}, SLATEDB_KEY_FALLS}, /* only in one region */
+        {{0, 3, 1, 1, 4}, SLATEDB_KEY_FALLS},
+        {{0, 3, 0, UINT64_MAX, 4}, SLATEDB_KEY_FALLS},
+    };
+    for (size_t i = 0; i < sizeof tries / sizeof *tries; i++) {
+        struct desk d = new_desk(BLOCK, RESTARTS);
+        uint64_t *count = lend(sizeof *count);
+        d.numbers = tries[i].numbers;
+        expect("the rows added", add_rows(&d), SLATEDB_GOOD);
+        expect("the building", build(&d, count), SLATEDB_GOOD);
+        expect("the check of numbers", slatedb_check(d.data, BLOCK, count), tries[i].code);
+        take_back(0);
+    }
 }
 
 /* ---- one row */
@@ -547,6 +575,7 @@ static void damage(size_t out_len) {
 int main(void) {
     build_case();
     read_case();
+    newest_first();
     largest_row();
     most_restarts();
     for (at_start = 0; at_start <= 1; at_start++) {

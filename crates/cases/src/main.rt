@@ -1,6 +1,5 @@
-// The desk's cases on rows, numbers and builders, and the slips this trade knows, through the code. It prints the bytes and numbers that the code answered; what
+// The desk's cases on what is written, rows, numbers and blocks, and the slips this trade knows, through the code. It prints the bytes and numbers that the code answered; what
 // they should be stands in the file `stdout` alone.
-mod building;
 mod say;
 mod show;
 mod writing;
@@ -9,8 +8,7 @@ fn main() {
     writing::rows();
     writing::blocks();
     writing::numbers();
-    writing::spellings();
-    writing::flags();
     writing::far_restarts();
     writing::slips();
+    writing::five_rows();
 }

@@ -1,18 +1,23 @@
-// Cases 1 to 7 and 11, the spellings of a number, and the slips on writing.
-use crate::building::add;
-use crate::building::built;
-use crate::building::fields;
+// Cases 1 to 5 and 11, and the slips on writing.
 use crate::say;
 use crate::show;
 use basics::Kind;
 use basics::Time;
+use basics::Verdict;
 use block_v2::BlockBuilderV2;
 use buf_mut::Put;
-use row_decode_v2::KeyRead;
-use row_decode_v2::RowRead;
+use build_in_place_v2::BuildAnswer;
 use row_encode_v2::Encoded;
 use row_flags::RowFields;
-use utils::VarintRead;
+
+fn fields(seq: u64) -> RowFields {
+    RowFields {
+        kind: Kind::Value,
+        seq,
+        expire: Time::Absent,
+        create: Time::Absent,
+    }
+}
 
 fn row(previous_len: usize, shared: usize, suffix: &[u8], value: &[u8], held: RowFields) {
     let mut out = [0u8; 64];
@@ -25,6 +30,37 @@ fn row(previous_len: usize, shared: usize, suffix: &[u8], value: &[u8], held: Ro
 pub fn rows() {
     say::text(b"case 1: ");
     row(0, 0, b"a", b"", fields(1));
+}
+
+fn added(answer: Verdict) {
+    match answer {
+        Verdict::Good => say::text(b"taken\n"),
+        Verdict::Refused(r) => say::refusal(r),
+    }
+}
+
+// Offers a row to the builder, and says whether it was taken.
+fn add(
+    builder: BlockBuilderV2,
+    data: &mut [u8],
+    restarts: &mut [u16],
+    key: &[u8],
+    value: &[u8],
+    seq: u64,
+) -> BlockBuilderV2 {
+    let r = builder.add(data, restarts, key, value, fields(seq));
+    let answer = r.answer;
+    added(answer);
+    r.builder
+}
+
+fn built(builder: BlockBuilderV2, data: &mut [u8], restarts: &[u16]) {
+    let b = builder.build(data, restarts);
+    let answer = b.answer;
+    match answer {
+        BuildAnswer::Block(n) => show::bytes(data, n),
+        BuildAnswer::Refused(r) => say::refusal(r),
+    }
 }
 
 // Case 2's two rows, and the block of those that were taken.
@@ -48,21 +84,25 @@ pub fn blocks() {
     two_rows(4096, 1);
 }
 
+// The block that `cases_reads` is about.
+pub fn five_rows() {
+    say::text(b"keys a, b, b, b, c\n");
+    let mut data = [0u8; 72];
+    let mut restarts = [0u16; 3];
+    let fresh = BlockBuilderV2::new_with_restart_interval(4096, 2).builder;
+    let one = add(fresh, &mut data, &mut restarts, b"a", b"", 0);
+    let two = add(one, &mut data, &mut restarts, b"b", b"", 3);
+    let three = add(two, &mut data, &mut restarts, b"b", b"", 2);
+    let four = add(three, &mut data, &mut restarts, b"b", b"", 1);
+    let five = add(four, &mut data, &mut restarts, b"c", b"", 4);
+    built(five, &mut data, &restarts);
+}
+
 fn varint(v: u32) {
     let mut out = [0u8; 5];
     match utils::encode_varint(&mut out, 0, v) {
         Put::At(n) => show::bytes(&out, n),
         Put::Refused(r) => say::refusal(r),
-    }
-}
-
-fn number(s: &[u8]) {
-    match utils::decode_varint(s, 0) {
-        VarintRead::Number { value, next: _ } => {
-            say::number(value as u64);
-            say::text(b"\n");
-        }
-        VarintRead::Refused(r) => say::refusal(r),
     }
 }
 
@@ -72,47 +112,6 @@ pub fn numbers() {
     varint(128);
     varint(16383);
     varint(16384);
-    say::text(b"case 6\n");
-    number(b"\xFF\xFF\xFF\xFF\x0F");
-    number(b"\xFF\xFF\xFF\xFF\x10");
-}
-
-fn key(s: &[u8]) {
-    match row_decode_v2::decode_key_only(s, 0, s.len(), 0, false) {
-        KeyRead::Read(_) => say::text(b"a key\n"),
-        KeyRead::Refused(r) => say::refusal(r),
-    }
-}
-
-// A number's bytes are those that are written for it: any other spelling is refused, in every length of a row.
-pub fn spellings() {
-    say::text(b"one spelling for a number\n");
-    number(b"\x00");
-    number(b"\x80\x00");
-    number(b"\x80\x80\x80\x80\x00");
-    number(b"\xFF\x80\x00");
-    number(b"\xFF\xFF\xFF\xFF\x00");
-    number(b"\x80");
-    number(b"\x80\x80");
-    key(b"\x00\x01\x80\x00a");
-    read(b"\x85\x00\x01\x00a\x00\x00\x00\x00\x00\x00\x00\x01\x00");
-}
-
-fn read(s: &[u8]) {
-    match row_decode_v2::decode(s, 0) {
-        RowRead::Read(found) => {
-            say::text(b"a row up to ");
-            say::number(found.next as u64);
-            say::text(b"\n");
-        }
-        RowRead::Refused(r) => say::refusal(r),
-    }
-}
-
-pub fn flags() {
-    say::text(b"case 7\n");
-    read(b"\x00\x01\x00a\x00\x00\x00\x00\x00\x00\x00\x01\x09");
-    read(b"\x00\x01\x00a\x00\x00\x00\x00\x00\x00\x00\x01\x10");
 }
 
 // A first row with this value, then one more, both restarts. The first takes 15 bytes beside its value.

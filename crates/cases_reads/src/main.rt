@@ -1,10 +1,15 @@
-// The desk's cases on a block that is checked, walked and sought in, through the code, as `cases` has those on rows and builders. What should be printed stands in
-// the file `stdout` alone.
-mod building;
+// The desk's cases on what is read, numbers, rows and blocks, through the code, as `cases` has those on what is written. What should be printed stands in the file
+// `stdout` alone.
+mod newest;
 mod reading;
+mod rows;
 mod say;
-mod show;
 
 fn main() {
+    rows::numbers();
+    rows::spellings();
+    rows::flags();
     reading::seeks();
+    newest::among_three();
+    newest::largest();
 }

@@ -1,15 +1,12 @@
 // Cases 8 to 10, and the walks both ways, on the block of keys a, b, b, b, c with interval 2. A row is known by where it starts.
-use crate::building::add;
-use crate::building::built;
 use crate::say;
 use basics::IterationOrder;
 use block_check_v2::Checked;
 use block_iterator_v2::BlockIteratorV2;
 use block_iterator_v2::NextAnswer;
 use block_iterator_v2::SeekAnswer;
-use block_v2::BlockBuilderV2;
 
-fn checked(block: &[u8]) {
+pub fn checked(block: &[u8]) {
     match block_check_v2::check(block) {
         Checked::Rows(n) => {
             say::text(b"accepted, rows: ");
@@ -102,30 +99,18 @@ fn all_seeks(block: &[u8]) {
     both_ways(block, b"");
 }
 
-// Two of the five rows: one with this key, then one with the key b.
-fn row_then_b(
-    builder: BlockBuilderV2,
-    data: &mut [u8],
-    restarts: &mut [u16],
-    key: &[u8],
-    seq: u64,
-    next: u64,
-) -> BlockBuilderV2 {
-    let one = add(builder, data, restarts, key, b"", seq);
-    add(one, data, restarts, b"b", b"", next)
+// The block of the five rows, as `cases` builds it, with these numbers of the rows of key b.
+pub fn five_rows(first: u8, second: u8, third: u8) -> [u8; 72] {
+    let mut block =
+        *b"\x00\x01\x00a\x00\x00\x00\x00\x00\x00\x00\x00\x00\x00\x01\x00b\x00\x00\x00\x00\x00\x00\x00\x00\x00\x00\x01\x00b\x00\x00\x00\x00\x00\x00\x00\x00\x00\x01\x00\x00\x00\x00\x00\x00\x00\x00\x00\x00\x00\x00\x01\x00c\x00\x00\x00\x00\x00\x00\x00\x04\x00\x00\x00\x00\x1A\x00\x33\x00\x03";
+    block[24] = first;
+    block[37] = second;
+    block[49] = third;
+    block
 }
 
 pub fn seeks() {
-    say::text(b"keys a, b, b, b, c\n");
-    // The block fills the buffer.
-    let mut data = [0u8; 72];
-    let mut restarts = [0u16; 3];
-    let fresh = BlockBuilderV2::new_with_restart_interval(4096, 2).builder;
-    // Of equal keys the newest first.
-    let two = row_then_b(fresh, &mut data, &mut restarts, b"a", 0, 3);
-    let four = row_then_b(two, &mut data, &mut restarts, b"b", 2, 1);
-    let five = add(four, &mut data, &mut restarts, b"c", b"", 4);
-    built(five, &mut data, &restarts);
-    checked(&data);
-    all_seeks(&data);
+    let block = five_rows(3, 2, 1);
+    checked(&block);
+    all_seeks(&block);
 }
