@@ -22,8 +22,6 @@ use Rattle.layout.specs.Laws.Check.{Checking, checking-start, checking-over, ch
 use Rattle.layout.specs.Laws.Order.{mayBy}
 use Rattle.layout.specs.Laws.Tells.{RowEnds, row-shares, rowIn-ends}
 use Rattle.layout.specs.Laws.Trailer.{RegionTells, regionOf-tells, trailerOf-tells, allOffsets-tell}
-use Rattle.trailer.specs.Laws.{region-used}
-use Rattle.trailer.specs.Plain.{regionOr, regionBy, region-is, region-not}
 use Rattle.block_check_v2.specs.declared.Passed.{Passed}
 use Rattle.block_check_v2.specs.declared.Tried.{Tried}
 use Rattle.block_check_v2.specs.declared.Walked.{Walked}
@@ -83,17 +81,6 @@ module _ (b : List ℕ) (t : Trailer) where
   -- what holds of the trailer that was read holds of every trailer that the block has
   pub the-trailer : (P : Trailer → Type 0) → trailerOf b ≡ ok t → P t → (u : Trailer) → trailerOf b ≡ ok u → P u
   the-trailer P e h u f = subst P (ok-inj (sym e ∙ f)) h
-
-  -- a region's bounds as numbers: those of the trailer that was read
-  module _ (read : trailerOf b ≡ ok t) (r : ℕ) (h : r < t .count) (g : Region) (e : g ≡ regionOr (regionBy b r)) where
-    here-is : g ≡ regionOr (regionOf b t r)
-    here-is = e ∙ rw read (ap regionOr (region-used b t read r h))
-
-    pub bounds-known : (g .end ≡ 0 → ⊥) → regionOf b t r ≡ ok g
-    bounds-known z = region-is (regionOf b t r) g here-is z
-
-    pub bounds-none : g .end ≡ 0 → refuse 15 ≡ regionOf b t r
-    bounds-none z = region-not b t r g here-is z
 
   module _ (p : Passed) (key : List ℕ) (s : Stands b t p key) where
     now-goes : Checking b t (p .at) (p .region) (p .rows) (p .seq) (s .goes .long) (p .«key_len»)

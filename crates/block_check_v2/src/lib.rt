@@ -70,7 +70,7 @@ fn check_region(block: &[u8], t: Trailer, key: &mut [u8], p: Passed) -> Walked
     requires { ⌜ Stands (now block) (trailerFrom t) p (now key) ⌝ }
     ensures { λ r. ⌜ Leaves (now (block .entry)) (trailerFrom t) p r (now (key .exit)) ⌝ }
 {
-    let g = trailer::plain_region_at(block, p.region);
+    let g = trailer::plain_region(block, t, p.region);
     if g.end == 0 {
         return Walked::Refused(Refusal::BadOffset);
     }

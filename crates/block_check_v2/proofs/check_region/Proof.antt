@@ -1,7 +1,7 @@
 -- `check_region` leaves the walk before the next region, or the check's refusal.
 -- The loop's invariant: the rest of the check, from the row at `at` on, answers what the whole does. The loop does not hold the trailer, so it is said of
 -- every trailer that the block has. Each exit is a law of the walk, over the region and the row that were read on the way to it.
-use Prim.Native.Nat.{ℕ, _-_, _^_, _≤_, _<_}
+use Prim.Native.Nat.{ℕ, _+_, _-_, _*_, _^_, _≤_, _<_}
 use mathlib.Core.Path.{_≡_, refl, ap, sym, _∙_}
 use mathlib.Core.List.{List}
 use native.Mathlib.Omega.{arith}
@@ -19,10 +19,11 @@ use Rattle.layout.specs.Laws.Tells.{RowEnds, readRow-ends, row-shares}
 use Rattle.layout.specs.Laws.Trailer.{trailerOf-tells}
 use Rattle.buf_mut.proofs.Laws.{copied}
 use Rattle.trailer.specs.declared.Region.{Region}
+use Rattle.trailer.specs.Plain.{known-is, known-not}
 use Rattle.trailer.specs.Says.{trailerFrom, regionFrom}
 use Rattle.row_span_v2.specs.Laws.{spanned, span-known, span-refusal}
 use Rattle.row_span_v2.specs.Promise.{spanFrom}
-use Rattle.block_check_v2.specs.Laws.{Walks, bounds-known, bounds-none, stands-no, stands-inside, stands-walks, walks-over, walks-no, walks-room, walks-falls, walks-narrow, walks-more, may-told, the-trailer}
+use Rattle.block_check_v2.specs.Laws.{Walks, stands-no, stands-inside, stands-walks, walks-over, walks-no, walks-room, walks-falls, walks-narrow, walks-more, may-told, the-trailer}
 use Rattle.block_check_v2.proofs.check_region.Statement.{statement}
 use Rattle.block_check_v2.proofs.check_region.Tie as tie
 
@@ -41,12 +42,16 @@ short s = search needs
 inside : (s : tie.Start Inv-loop μ-loop) → s .args .p .region < s .args .t .count
 inside s = s .pre .1 .1 .starts (s .pre .1 .0) .0
 
+-- and its numbers are the block's
+its : (s : tie.Start Inv-loop μ-loop) → (s .args .t .size + (2 + 2 * s .args .t .count) ≡ length (s .args .block .now)) × (s .args .p .region < s .args .t .count)
+its s = (trailerOf-tells _ _ (s .pre .0) .0, inside s)
+
 -- the region that was read
 module _ (k : tie.Else1 Inv-loop μ-loop) where
-  used : let a = k .before .before .before .before .before .args in regionOf (a .block .now) (trailerFrom (a .t)) (a .p .region) ≡ ok (regionFrom (k .before .before .plain-region-at .result))
+  used : let a = k .before .before .before .before .before .args in regionOf (a .block .now) (trailerFrom (a .t)) (a .p .region) ≡ ok (regionFrom (k .before .before .plain-region .result))
   used =
       let s = k .before .before .before .before .before in
-      bounds-known _ _ (s .pre .0) _ (inside s) _ (k .before .before .plain-region-at .ensures) (k .if1 .left)
+      known-is _ _ _ (its s) _ (k .before .before .plain-region .ensures) (k .if1 .left)
 
 -- a turn of the loop: how the walk stands
 module _ (l : tie.At-loop Inv-loop μ-loop) where
@@ -54,7 +59,7 @@ module _ (l : tie.At-loop Inv-loop μ-loop) where
   began = l .before .before .before .before .before .before .before
 
   abbrev g : Region
-  g = l .before .before .before .before .plain-region-at .result
+  g = l .before .before .before .before .plain-region .result
 
   walk : Walks (began .args .block .now) (trailerFrom (began .args .t)) (began .args .p .region) (regionFrom g) (l .loop .at) (l .loop .rows) (l .loop .seq) (l .loop .key) (l .loop .key-len)
   walk = l .loop .inv .1 _ (began .pre .0)
@@ -89,7 +94,7 @@ returns : tie.Need-returns Inv-loop μ-loop
 returns c =
     let s = c .before .before .before .before .before in
     stands-no _ _ _ _ (s .pre .1 .1) (s .pre .1 .0)
-    (sym (bounds-none _ _ (s .pre .0) _ (inside s) _ (c .before .before .plain-region-at .ensures) (c .if1 .taken)))
+    (known-not _ _ _ (its s) _ (c .before .before .plain-region .ensures) (c .if1 .taken))
 
 slice-aggregate-data : tie.Need-slice-aggregate-data Inv-loop μ-loop
 slice-aggregate-data c = sym (length-take-le _ _ (omega (arith, trailerOf-tells _ _ (c .before .before .before .before .before .before .pre .0) .0)))
