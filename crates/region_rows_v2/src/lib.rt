@@ -6,8 +6,6 @@ ghost use Rattle.region_rows_v2.specs.Promise.{BoundsOf};
 use basics::IterationOrder;
 use place_v2::Place;
 use trailer::Region;
-use trailer::RegionRead;
-use trailer::TrailerRead;
 
 // How many bytes of rows a block has, and the bounds of one of its regions.
 pub struct Bounds {
@@ -37,25 +35,25 @@ pub fn bounds_of(block: &[u8], p: Place) -> Bounds
     if p.done {
         return no_bounds();
     }
-    let read = trailer::trailer_of(block);
-    let TrailerRead::Good(trailer) = read else {
+    let t = trailer::plain_trailer(block);
+    if t.count == 0 {
         return no_bounds();
-    };
-    if trailer.count <= p.region {
+    }
+    if t.count <= p.region {
         return no_bounds();
     }
     if basics::MAX_KEY < p.key_len {
         return no_bounds();
     }
-    let bounds = trailer::region_of(block, trailer, p.region);
-    let RegionRead::Good(region) = bounds else {
+    let region = trailer::plain_region(block, t, p.region);
+    if region.end == 0 {
         return no_bounds();
-    };
+    }
     if p.at < region.start {
         return no_bounds();
     }
     Bounds {
-        size: trailer.size,
+        size: t.size,
         region,
     }
 }
