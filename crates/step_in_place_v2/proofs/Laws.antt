@@ -1,6 +1,6 @@
 -- A promise from what was met: one law for each exit of a step, of the two looks, of the writes past a row and of the way back before one.
 -- The looks hold whatever the key's bytes are. Past a row these bytes carry the row's key, which goes to the lent buffer; on the way back they stay, and the region's read gives the key.
-use Prim.Native.Nat.{ℕ, _+_, _-_, _≤_, _<_}
+use Prim.Native.Nat.{ℕ, _+_, _-_, _*_, _≤_, _<_}
 use mathlib.Core.Path.{_≡_, refl, ap, sym, _∙_, subst}
 use mathlib.Core.Bool.{false}
 use mathlib.Core.List.{List}
@@ -16,7 +16,7 @@ use Rattle.layout.specs.RowRead.{RowRead, keyOf}
 use Rattle.layout.specs.Trailer.{Trailer, dataOf, offsetAt, Region, regionOf}
 use Rattle.layout.specs.Cursor.{Direction, ascending, Cursor, cursorIs, marked, found, done, Step, stepIs, stepUp, Keyed, backPast, stepBackIn, stepDown, next}
 use Rattle.layout.specs.Laws.Carry.{Carries, read-carried, keyOf-length, suffixOf, key-new, carries-on}
-use Rattle.layout.specs.Laws.Trailer.{regionOf-tells}
+use Rattle.layout.specs.Laws.Trailer.{trailerOf-tells, regionOf-tells}
 use Rattle.basics.specs.Answers.{yes}
 use Rattle.basics.specs.Number.{number}
 use Rattle.basics.specs.Says.{saysOrder}
@@ -80,6 +80,14 @@ pub heads-on : (p : Place) (b : List ℕ) {d : Direction} {t : Trailer} → Goin
 heads-on p b g h = record { read = g .read; inside = g .inside; few = g .few; unmarked = g .unmarked; heads = h }
 
 -- ---- what the two looks find
+
+-- the trailer is the block's, and has the cursor's region and the one before
+module _ {d : Direction} {p : Place} {b : List ℕ} {t : Trailer} (s : Stands d p b t) where
+  pub stands-has : (t .size + (2 + 2 * t .count) ≡ length b) × (p .region < t .count)
+  stands-has = (trailerOf-tells b t (s .read) .0, s .inside)
+
+  pub before-has : (t .size + (2 + 2 * t .count) ≡ length b) × (p .region - 1 < t .count)
+  before-has = (stands-has .0, omega (arith, s .inside))
 
 module _ (p : Place) (b : List ℕ) (t : Trailer) (room : ℕ) where
   pub ahead-not : {x : Refusal} → ((k : List ℕ) → stepUp (viewIn p k) b t room ≡ refuse (number x)) → LooksAhead p b t room (AheadRefused x)

@@ -25,7 +25,6 @@ use place_v2::Place;
 use row_decode_v2::Row;
 use row_decode_v2::RowRead;
 use trailer::Region;
-use trailer::RegionRead;
 use trailer::Trailer;
 
 // What a step answers, with the place past the row. A refusal moves nothing.
@@ -99,17 +98,17 @@ fn finished(p: Place) -> Moved
 // ---- ascending
 
 // All that an ascending step tests once the mark is tested, with nothing written: 15 for the region, 18 for the position, the row, 19.
-// (`decode_entry_at_current_offset` in the Rust.)
+// The trailer has the region, so that one that is all 0 is refused with 15. (`decode_entry_at_current_offset` in the Rust.)
 fn look_ahead(p: Place, block: &[u8], t: Trailer, room: usize) -> Ahead
     requires { ⌜ Stands ascending p (now block) (trailerFrom t) ⌝ }
     ensures { λ r. ⌜ LooksAhead p (now (block .entry)) (trailerFrom t) room r ⌝ }
 {
     let at = p.at;
     let size = t.size;
-    let read = trailer::region_of(block, t, p.region);
-    let RegionRead::Good(region) = read else {
-        return Ahead::Refused(trailer::region_refusal(read));
-    };
+    let region = trailer::plain_region(block, t, p.region);
+    if region.end == 0 {
+        return Ahead::Refused(Refusal::BadOffset);
+    }
     if at < region.start {
         return Ahead::Refused(Refusal::BadState);
     }
@@ -175,17 +174,17 @@ fn next_ascending(key: &mut [u8], p: Place, block: &[u8], t: Trailer, out: &mut 
 // ---- descending: the key is neither used nor changed, whatever its bytes are
 
 // The region that a descending step reads once the mark is tested: 15 for the cursor's region, 18 for the position unless a row can end there; at the
-// region's start the region before, and 15 for it. (`move_to_previous_region` in the Rust.)
+// region's start the region before, and 15 for it. The trailer has both regions. (`move_to_previous_region` in the Rust.)
 fn look_behind(p: Place, block: &[u8], t: Trailer) -> Behind
     requires { ⌜ Stands descending p (now block) (trailerFrom t) ⌝ }
     ensures { λ r. ⌜ LooksBehind p (now (block .entry)) (trailerFrom t) r ⌝ }
 {
     let at = p.at;
     let number = p.region;
-    let read = trailer::region_of(block, t, number);
-    let RegionRead::Good(region) = read else {
-        return Behind::Refused(trailer::region_refusal(read));
-    };
+    let region = trailer::plain_region(block, t, number);
+    if region.end == 0 {
+        return Behind::Refused(Refusal::BadOffset);
+    }
     if at < region.start {
         return Behind::Refused(Refusal::BadState);
     }
@@ -198,10 +197,10 @@ fn look_behind(p: Place, block: &[u8], t: Trailer) -> Behind
     if number == 0 {
         return Behind::Start;
     }
-    let before = trailer::region_of(block, t, number - 1);
-    let RegionRead::Good(region) = before else {
-        return Behind::Refused(trailer::region_refusal(before));
-    };
+    let region = trailer::plain_region(block, t, number - 1);
+    if region.end == 0 {
+        return Behind::Refused(Refusal::BadOffset);
+    }
     Behind::In {
         number: number - 1,
         region,
