@@ -23,7 +23,6 @@ use block_restarts_v2::Start;
 use block_restarts_v2::StartRead;
 use place_v2::Place;
 use trailer::Trailer;
-use trailer::TrailerRead;
 
 // What a seek answers, with the place where it left the cursor, and how many restart keys the search read. A refusal moves nothing.
 pub enum Found {
@@ -176,10 +175,10 @@ pub fn seek_in_place(key: &mut [u8], p: Place, block: &[u8], target: &[u8]) -> F
     if key.len() != basics::MAX_KEY {
         return Found::Refused(Refusal::BadState);
     }
-    let read = trailer::trailer_of(block);
-    let TrailerRead::Good(t) = read else {
-        return Found::Refused(trailer::trailer_refusal(read));
-    };
+    let t = trailer::plain_trailer(block);
+    if t.count == 0 {
+        return Found::Refused(Refusal::BadTrailer);
+    }
     let order = p.order;
     match order {
         IterationOrder::Ascending => seek_ascending(key, block, t, target),
