@@ -17,7 +17,6 @@ use basics::Refusal;
 use basics::Verdict;
 use keys::Ordering;
 use trailer::Trailer;
-use trailer::TrailerRead;
 
 // Few keys are longer. An array of so many bytes is cleared for each block; one for the longest key only where it is needed.
 const SHORT_KEY: usize = 256;
@@ -162,10 +161,10 @@ fn check_long(block: &[u8], t: Trailer) -> Checked
 pub fn check(block: &[u8]) -> Checked
     ensures { λ r. ⌜ Checks (now (block .entry)) r ⌝ }
 {
-    let trailer = trailer::trailer_of(block);
-    let TrailerRead::Good(t) = trailer else {
-        return Checked::Refused(trailer::trailer_refusal(trailer));
-    };
+    let t = trailer::plain_trailer(block);
+    if t.count == 0 {
+        return Checked::Refused(Refusal::BadTrailer);
+    }
     let tested = trailer::all_offsets(block, t);
     if let Verdict::Refused(refusal) = tested {
         return Checked::Refused(refusal);

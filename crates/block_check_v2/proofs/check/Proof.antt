@@ -1,28 +1,29 @@
 -- `check` keeps its promise: 14, all of 15, then the rows, whose check is known from the short key bytes, or else from the long.
-use mathlib.Core.Path.{_≡_, refl, sym, _∙_}
+use mathlib.Core.Path.{_≡_, sym, _∙_}
 use borrow.Author.Needs.{needs}
 use Rattle.layout.specs.Res.{ok}
 use Rattle.layout.specs.Trailer.{trailerOf, allOffsets}
 use Rattle.layout.specs.Laws.Check.{check-trailer, check-offsets, check-rows}
-use Rattle.basics.specs.Answers.{yes, no, saysVerdict}
+use Rattle.basics.specs.Answers.{yes, saysVerdict}
 use Rattle.trailer.specs.Laws.{offsets-used}
-use Rattle.trailer.specs.Says.{trailerFrom, saysTrailer, refusalOfTrailer}
+use Rattle.trailer.specs.Plain.{trailer-is, trailer-not}
+use Rattle.trailer.specs.Says.{trailerFrom}
 use Rattle.block_check_v2.specs.Laws.{tries-as}
 use Rattle.block_check_v2.proofs.check.Statement.{statement}
 use Rattle.block_check_v2.proofs.check.Tie as tie
 
 -- the trailer that was read
-module _ (k : tie.After-known-told) where
-  read : trailerOf (k .before .before .before .before .before .args .block .now) ≡ ok (trailerFrom (k .before .trailer .given .0 .0))
-  read = yes saysTrailer (k .before .before .before .trailer-of .ensures) (k .before .trailer .given .1)
+module _ (k : tie.Else1) where
+  read : trailerOf (k .before .before .before .before .args .block .now) ≡ ok (trailerFrom (k .before .before .plain-trailer .result))
+  read = trailer-is _ _ (k .before .before .plain-trailer .ensures) (k .if1 .left)
 
 -- the offsets that were tested
-module _ (o : tie.After-enum-told2) where
-  rises : allOffsets (o .before .before .before .before .before .before .before .before .args .block .now) (trailerFrom (o .before .before .before .before .trailer .given .0 .0)) ≡ ok tt
-  rises = sym (offsets-used _ _ (read (o .before .before .before))) ∙ yes saysVerdict (o .before .before .all-offsets .ensures) (o .enum-told2 .given .1)
+module _ (o : tie.After-enum-told) where
+  rises : allOffsets (o .before .before .before .before .before .before .before .args .block .now) (trailerFrom (o .before .before .before .before .before .plain-trailer .result)) ≡ ok tt
+  rises = sym (offsets-used _ _ (read (o .before .before .before))) ∙ yes saysVerdict (o .before .before .all-offsets .ensures) (o .enum-told .given .1)
 
 returns : tie.Need-returns
-returns c = check-trailer _ (no saysTrailer refusalOfTrailer (c .before .before .before .trailer-of .ensures) (c .before .enum-told .given .1) refl (c .trailer-refusal .ensures))
+returns c = check-trailer _ (sym (trailer-not _ (trailerFrom (c .before .before .plain-trailer .result)) (c .before .before .plain-trailer .ensures) (c .if1 .taken)))
 
 returns-2 : tie.Need-returns-2
 returns-2 c =
@@ -45,5 +46,5 @@ pub check-spec : {M : Type 1} → statement M
 check-spec =
     tie.close
     (tie.spec
-    (search needs) (search needs) (search needs) (search needs) returns (search needs) (search needs) returns-2 (search needs)
+    (search needs) returns (search needs) (search needs) returns-2 (search needs)
     (search needs) check-rows-requires (search needs) (search needs) check-long-requires returns-3 returns-4)
