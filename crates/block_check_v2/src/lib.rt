@@ -80,7 +80,7 @@ fn check_region(block: &[u8], t: Trailer, key: &mut [u8], p: Passed) -> Walked
     let mut seq = p.seq;
     let mut rows = p.rows;
     while at < g.end {
-        let row = row_span_v2::span_in(data, at, g.start, g.end, key_len);
+        let row = row_span_v2::numbered_in(data, at, g.start, g.end, key_len);
         if row.next == 0 {
             let refusal = row_span_v2::refusal_in(data, at, g.start, g.end, key_len);
             return Walked::Refused(refusal);

@@ -171,7 +171,7 @@ module _ (d : List ℕ) (g : Region) (stop : ℕ) (wanted : Key) where
 
     module _ (h : at < stop) (p : RowSpan) (e : p ≡ spanOf (rowIn d g at len)) where
       first : {A : Type 0} → ((r : RowRead) (more : List RowRead) → rowIn d g at (length (s .before)) ≡ ok r
-          → rowIn d g at len ≡ ok r → p ≡ spanIs (r .next) (r .shared) (r .suffixAt) (r .suffixLen) (r .seq)
+          → rowIn d g at len ≡ ok r → p ≡ spanIs (r .next) (r .shared) (r .suffixAt) (r .suffixLen)
           → Rows d g (r .next) (keyOf d (s .before) r) more stop wanted → A) → A
       first f =
           rows-first d g at (s .before) (s .rows) stop wanted (s .leads) h λ r more q w.

@@ -1,4 +1,4 @@
--- A plain row whole, and its span: what is made of its numbers, and of the eight bytes of seq as they were read, is of the row that the rules read.
+-- A plain row whole: the row that is made of its numbers, and of the eight bytes of seq as they were read, is the one that the rules read.
 use Prim.Native.Nat.{ℕ, _+_, _-_, _≤_}
 use mathlib.Core.Bool.{Bool}
 use mathlib.Core.Path.{_≡_, ap, sym, _∙_}
@@ -8,12 +8,13 @@ use lib.ListN.{length, take, drop}
 use Rattle.layout.specs.Res.{ok}
 use Rattle.layout.specs.Fixed.{unbig}
 use Rattle.layout.specs.Place.{NumAt, numAt, fixedAt}
-use Rattle.layout.specs.Plain.{Plain, plainAt, spanIs, spanOf}
+use Rattle.layout.specs.Plain.{Plain, plainAt}
 use Rattle.layout.specs.Row.{Absent}
 use Rattle.layout.specs.RowRead.{RowRead, readRow, mayShare, holds}
 use Rattle.layout.specs.Laws.Res.{ok-inj}
-use Rattle.layout.specs.Laws.Plain.{PlainTells, plainAt-tells, plain-seq, plain-read, span-plain}
+use Rattle.layout.specs.Laws.Plain.{PlainTells, plainAt-tells, plain-seq, plain-read}
 use Rattle.buf.specs.Promise.{orZero}
+use Rattle.row_span_v2.specs.Promise.{seqOf}
 
 -- a plain row with this seq
 abbrev pub plainAs : List ℕ → ℕ → Plain → ℕ → RowRead
@@ -44,10 +45,10 @@ plain-row d at end prevLen restart {most} {v} {n} p m e h w =
     let same : v ≡ unbig (take 8 (drop (p .next - 9) d)) = ap (λ (x : NumAt). x .val) (ok-inj (sym w ∙ plain-seq d at end prevLen restart p t)) in
     ap (λ (x : ℕ). ok (plainAs d at p x)) same ∙ plain-read d at end prevLen restart p t
 
--- its span, likewise
-pub plain-span : (d : List ℕ) (at end prevLen : ℕ) (restart : Bool) {most v : ℕ} (p : Plain) → most ≡ mayShare restart prevLen → p ≡ plainAt d at end most → (p .next ≡ 0 → ⊥)
-    → v ≡ orZero (fixedAt 8 d (p .next - 9)) → spanIs (p .next) (p .shared) (at + 3) (p .unshared) v ≡ spanOf (readRow d at end prevLen restart)
-plain-span d at end prevLen restart {most} {v} p m e h w =
+-- and its number alone
+pub plain-number : (d : List ℕ) (at end prevLen : ℕ) (restart : Bool) {most v : ℕ} (p : Plain) → most ≡ mayShare restart prevLen → p ≡ plainAt d at end most → (p .next ≡ 0 → ⊥)
+    → v ≡ orZero (fixedAt 8 d (p .next - 9)) → v ≡ seqOf (readRow d at end prevLen restart)
+plain-number d at end prevLen restart p m e h w =
     let e′ : p ≡ plainAt d at end (mayShare restart prevLen) = rw m at e in
     let t : PlainTells d at end (mayShare restart prevLen) p = rw (← e′) at (plainAt-tells d at end (mayShare restart prevLen) (rw (← e′) (omega arith))) in
-    ap (spanIs (p .next) (p .shared) (at + 3) (p .unshared)) (w ∙ ap orZero (plain-seq d at end prevLen restart p t)) ∙ span-plain d at end prevLen restart p m e h
+    w ∙ ap orZero (plain-seq d at end prevLen restart p t) ∙ ap seqOf (plain-read d at end prevLen restart p t)

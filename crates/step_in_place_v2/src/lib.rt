@@ -118,7 +118,7 @@ fn look_ahead(p: Place, block: &[u8], t: Trailer, room: usize) -> Ahead
     if at == region.end {
         return Ahead::End;
     }
-    let a = row_span_v2::row_in(&block[..size], at, region.start, region.end, p.key_len);
+    let a = row_span_v2::decoded_in(&block[..size], at, region.start, region.end, p.key_len);
     let RowRead::Read(row) = a else {
         return Ahead::Refused(row_decode_v2::row_refusal(a));
     };

@@ -8,10 +8,9 @@ use Rattle.basics.specs.declared.Refusal.{Refusal}
 use Rattle.trailer.specs.declared.Trailer.{Trailer}
 use Rattle.trailer.specs.declared.TrailerRead.{TrailerRead}
 use Rattle.trailer.specs.declared.Region.{Region}
-use Rattle.trailer.specs.declared.RegionRead.{RegionRead}
 use Rattle.basics.specs.declared.Verdict.{Verdict}
-use Rattle.trailer.specs.Promise.{PlainTrailer, ReadsTrailer, TestsTrailer, TrailerRefusal, PlainRegion, PlainRegionAt, ReadsRegion, RegionRefusal, TestsOffsets}
-use Rattle.trailer.specs.Says.{trailerFrom-one, saysTrailer-one, regionFrom-one, saysRegion-one}
+use Rattle.trailer.specs.Promise.{PlainTrailer, ReadsTrailer, TestsTrailer, TrailerRefusal, PlainRegion, PlainRegionAt, TestsOffsets}
+use Rattle.trailer.specs.Says.{trailerFrom-one, saysTrailer-one, regionFrom-one}
 
 pub plain-trailer-settled : (b : List ℕ) (r q : Trailer) → PlainTrailer b r → PlainTrailer b q → r ≡ q
 plain-trailer-settled b r q m n = trailerFrom-one r q (m ∙ sym n)
@@ -30,12 +29,6 @@ plain-region-settled b t i r q m n = regionFrom-one r q (m ∙ sym n)
 
 pub plain-region-at-settled : (b : List ℕ) (i : ℕ) (r q : Region) → PlainRegionAt b i r → PlainRegionAt b i q → r ≡ q
 plain-region-at-settled b i r q m n = regionFrom-one r q (m ∙ sym n)
-
-pub region-of-settled : (b : List ℕ) (t : Trailer) (i : ℕ) (r q : RegionRead) → ReadsRegion b t i r → ReadsRegion b t i q → r ≡ q
-region-of-settled b t i r q m n = saysRegion-one r q (m ∙ sym n)
-
-pub region-refusal-settled : (a : RegionRead) (r q : Refusal) → RegionRefusal a r → RegionRefusal a q → r ≡ q
-region-refusal-settled a r q m n = m ∙ sym n
 
 pub all-offsets-settled : (b : List ℕ) (t : Trailer) (r q : Verdict) → TestsOffsets b t r → TestsOffsets b t q → r ≡ q
 all-offsets-settled b t r q m n = saysVerdict-one r q (m ∙ sym n)

@@ -9,11 +9,10 @@ use Rattle.basics.specs.declared.Refusal.{Refusal}
 use Rattle.trailer.specs.declared.Trailer.{Trailer}
 use Rattle.trailer.specs.declared.TrailerRead.{TrailerRead}
 use Rattle.trailer.specs.declared.Region.{Region}
-use Rattle.trailer.specs.declared.RegionRead.{RegionRead}
 use Rattle.basics.specs.declared.Verdict.{Verdict}
 use Rattle.trailer.specs.Handed.{hasRegion, regionAt, offsetsAt}
 use Rattle.trailer.specs.Plain.{trailerOr, regionOr, regionBy}
-use Rattle.trailer.specs.Says.{trailerFrom, saysTrailer, regionFrom, saysRegion, refusalOfTrailer, refusalOfRegion}
+use Rattle.trailer.specs.Says.{trailerFrom, saysTrailer, regionFrom, refusalOfTrailer}
 
 abbrev pub PlainTrailer : List ℕ → Trailer → Type 0
 PlainTrailer b t = trailerFrom t ≡ trailerOr (trailerOf b)
@@ -34,12 +33,6 @@ PlainRegion b t r g = regionFrom g ≡ regionOr (regionAt b (trailerFrom t) r)
 
 abbrev pub PlainRegionAt : List ℕ → ℕ → Region → Type 0
 PlainRegionAt b r g = regionFrom g ≡ regionOr (regionBy b r)
-
-abbrev pub ReadsRegion : List ℕ → Trailer → ℕ → RegionRead → Type 0
-ReadsRegion b t r a = saysRegion a ≡ regionAt b (trailerFrom t) r
-
-abbrev pub RegionRefusal : RegionRead → Refusal → Type 0
-RegionRefusal a r = r ≡ refusalOfRegion a
 
 abbrev pub TestsOffsets : List ℕ → Trailer → Verdict → Type 0
 TestsOffsets b t a = saysVerdict a ≡ offsetsAt b (trailerFrom t)

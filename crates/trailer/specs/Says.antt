@@ -11,8 +11,6 @@ use Rattle.trailer.specs.declared.Trailer.{Trailer}
 use Rattle.trailer.specs.declared.TrailerRead.{TrailerRead}
 use Rattle.trailer.specs.declared.TrailerRead.the-variants.{Good as GoodTrailer, Refused as TrailerRefused}
 use Rattle.trailer.specs.declared.Region.{Region}
-use Rattle.trailer.specs.declared.RegionRead.{RegionRead}
-use Rattle.trailer.specs.declared.RegionRead.the-variants.{Good as GoodRegion, Refused as RegionRefused}
 
 abbrev pub trailerFrom : Trailer → TrailerL
 trailerFrom t = record { count = t .count; size = t .size }
@@ -24,19 +22,11 @@ saysTrailer (TrailerRefused r) = refuse (number r)
 abbrev pub regionFrom : Region → RegionL
 regionFrom g = record { start = g .start; end = g .end; reach = g .reach }
 
-abbrev pub saysRegion : RegionRead → Res RegionL
-saysRegion (GoodRegion g) = ok (regionFrom g)
-saysRegion (RegionRefused r) = refuse (number r)
-
 -- ---- the refusal that is taken out of an answer; the other case is never asked
 
 abbrev pub refusalOfTrailer : TrailerRead → Refusal
 refusalOfTrailer (GoodTrailer t) = BadState
 refusalOfTrailer (TrailerRefused r) = r
-
-abbrev pub refusalOfRegion : RegionRead → Refusal
-refusalOfRegion (GoodRegion g) = BadState
-refusalOfRegion (RegionRefused r) = r
 
 -- ---- one to one
 
@@ -51,9 +41,3 @@ saysTrailer-one (GoodTrailer t) (GoodTrailer u) e = ap GoodTrailer (trailerFrom-
 saysTrailer-one (GoodTrailer t) (TrailerRefused r) e = absurd (apart e)
 saysTrailer-one (TrailerRefused r) (GoodTrailer t) e = absurd (apart (sym e))
 saysTrailer-one (TrailerRefused r) (TrailerRefused q) e = ap TrailerRefused (refused-one e)
-
-pub saysRegion-one : (a b : RegionRead) → saysRegion a ≡ saysRegion b → a ≡ b
-saysRegion-one (GoodRegion g) (GoodRegion h) e = ap GoodRegion (regionFrom-one g h (ok-inj e))
-saysRegion-one (GoodRegion g) (RegionRefused r) e = absurd (apart e)
-saysRegion-one (RegionRefused r) (GoodRegion g) e = absurd (apart (sym e))
-saysRegion-one (RegionRefused r) (RegionRefused q) e = ap RegionRefused (refused-one e)

@@ -9,7 +9,7 @@ ghost use Rattle.layout.specs.Trailer.{shortAt, firstOf, regionOf, allOffsets};
 ghost use Rattle.basics.specs.Answers.{saysVerdict};
 ghost use Rattle.trailer.specs.Plain.{noTrailer, noRegion, regionOr};
 ghost use Rattle.trailer.specs.Says.{trailerFrom, regionFrom};
-ghost use Rattle.trailer.specs.Promise.{PlainTrailer, ReadsTrailer, TestsTrailer, TrailerRefusal, PlainRegion, PlainRegionAt, ReadsRegion, RegionRefusal, TestsOffsets};
+ghost use Rattle.trailer.specs.Promise.{PlainTrailer, ReadsTrailer, TestsTrailer, TrailerRefusal, PlainRegion, PlainRegionAt, TestsOffsets};
 use basics::Refusal;
 use basics::Verdict;
 
@@ -30,11 +30,6 @@ pub struct Region {
     pub start: usize,
     pub end: usize,
     pub reach: usize,
-}
-
-pub enum RegionRead {
-    Good(Region),
-    Refused(Refusal),
 }
 
 // A byte as a wider number, with its bound said once for all sums of bytes.
@@ -151,7 +146,9 @@ fn region_in(block: &[u8], t: Trailer, r: usize) -> Region
     }
 }
 
-// Region `r` of a trailer that is handed in, as numbers: all 0 where `region_of` refuses. A good one ends past 0.
+// Region `r` of a trailer that is handed in, as numbers: all 0 where it is refused, with 18 for numbers that are not the
+// block's or no region's, with 15 for its offset and the next. No other offset is looked at. A good one ends past 0.
+// (`restart_region_end` in the Rust.)
 pub fn plain_region(block: &[u8], t: Trailer, r: usize) -> Region
     ensures { λ g. ⌜ PlainRegion (now (block .entry)) t r g ⌝ }
 {
@@ -180,21 +177,6 @@ pub fn plain_region_at(block: &[u8], r: usize) -> Region
         size: len - taken,
     };
     region_in(block, t, r)
-}
-
-// Region `r`, with its offset and the next tested: 15. No other offset is looked at. Numbers that are not the block's, or no
-// region's, are 18. (`restart_region_end` in the Rust.)
-pub fn region_of(block: &[u8], t: Trailer, r: usize) -> RegionRead
-    ensures { λ a. ⌜ ReadsRegion (now (block .entry)) t r a ⌝ }
-{
-    if !has_region(t, block.len(), r) {
-        return RegionRead::Refused(Refusal::BadState);
-    }
-    let region = region_in(block, t, r);
-    if region.end == 0 {
-        return RegionRead::Refused(Refusal::BadOffset);
-    }
-    RegionRead::Good(region)
 }
 
 fn offsets_rise(block: &[u8], t: Trailer) -> Verdict
@@ -237,22 +219,13 @@ pub fn all_offsets(block: &[u8], t: Trailer) -> Verdict
     offsets_rise(block, t)
 }
 
-// A read that is refused ends its caller's call with its refusal, which a `let .. else` can't bind: these take it out of the
-// answer. Their other case is not met there.
+// A read that is refused ends its caller's call with its refusal, which a `let .. else` can't bind: this takes it out of the
+// answer. Its other case is not met there.
 pub fn trailer_refusal(a: TrailerRead) -> Refusal
     ensures { λ r. ⌜ TrailerRefusal a r ⌝ }
 {
     match a {
         TrailerRead::Refused(refusal) => refusal,
         TrailerRead::Good(_) => Refusal::BadState,
-    }
-}
-
-pub fn region_refusal(a: RegionRead) -> Refusal
-    ensures { λ r. ⌜ RegionRefusal a r ⌝ }
-{
-    match a {
-        RegionRead::Refused(refusal) => refusal,
-        RegionRead::Good(_) => Refusal::BadState,
     }
 }

@@ -21,8 +21,8 @@ use Rattle.buf_mut.proofs.Laws.{copied}
 use Rattle.trailer.specs.declared.Region.{Region}
 use Rattle.trailer.specs.Plain.{known-is, known-not}
 use Rattle.trailer.specs.Says.{trailerFrom, regionFrom}
-use Rattle.row_span_v2.specs.Laws.{spanned, span-known, span-refusal}
-use Rattle.row_span_v2.specs.Promise.{spanFrom}
+use Rattle.row_span_v2.specs.Laws.{numbered, numbered-known, span-refusal}
+use Rattle.row_span_v2.specs.Promise.{numberedFrom}
 use Rattle.block_check_v2.specs.Laws.{Walks, stands-no, stands-inside, stands-walks, walks-over, walks-no, walks-room, walks-falls, walks-narrow, walks-more, may-told, the-trailer}
 use Rattle.block_check_v2.proofs.check_region.Statement.{statement}
 use Rattle.block_check_v2.proofs.check_region.Tie as tie
@@ -73,13 +73,13 @@ module _ (n : tie.Else3 Inv-loop μ-loop) where
   rows = dataOf (began turn .args .block .now) (trailerFrom (began turn .args .t))
 
   abbrev span : RowSpan
-  span = spanFrom (n .before .before .span-in .result)
+  span = numberedFrom (n .before .before .numbered-in .result)
 
-  known : (r : RowReadL) × (rowIn rows (regionFrom (g turn)) (turn .loop .at) (turn .loop .key-len) ≡ ok (spanned r span))
-  known = span-known _ _ _ _ _ span (n .before .before .span-in .ensures) (n .if3 .left)
+  known : (r : RowReadL) × (rowIn rows (regionFrom (g turn)) (turn .loop .at) (turn .loop .key-len) ≡ ok (numbered r span (n .before .before .numbered-in .result .seq)))
+  known = numbered-known _ _ _ _ _ span (n .before .before .numbered-in .ensures .0) (n .if3 .left) (n .before .before .numbered-in .ensures .1)
 
   abbrev row : RowReadL
-  row = spanned (known .0) span
+  row = numbered (known .0) span (n .before .before .numbered-in .result .seq)
 
   read : rowIn rows (regionFrom (g turn)) (turn .loop .at) (turn .loop .key-len) ≡ ok row
   read = known .1
@@ -111,7 +111,7 @@ returns-2 : tie.Need-returns-2 Inv-loop μ-loop
 returns-2 c =
     let l = c .before .before .before .before .before .before in
     walks-no _ _ _ _ (used (l .before .before)) _ _ _ _ _ (walk l) (c .before .before .before .before .if2 .taken)
-    (span-refusal _ _ _ _ _ (spanFrom (c .before .before .before .span-in .result)) (c .before .before .before .span-in .ensures) (c .before .if3 .taken) (c .refusal-in .ensures))
+    (span-refusal _ _ _ _ _ (numberedFrom (c .before .before .before .numbered-in .result)) (c .before .before .before .numbered-in .ensures .0) (c .before .if3 .taken) (c .refusal-in .ensures))
 
 add-to : tie.Need-add-to Inv-loop μ-loop
 add-to c =

@@ -6,7 +6,7 @@ use Rattle.row_span_v2.proofs.refusal_in.Statement.{statement}
 use Rattle.row_span_v2.proofs.refusal_in.Tie as tie
 
 returns : tie.Need-returns
-returns c = refusal-taken (c .before .decoded .result) (c .before .decoded .ensures) (c .row-refusal .ensures)
+returns c = refusal-taken (c .before .decoded-in .result) (c .before .decoded-in .ensures) (c .row-refusal .ensures)
 
 pub refusal-in-spec : {M : Type 1} → statement M
 refusal-in-spec = tie.close (tie.spec (search needs) (search needs) returns)

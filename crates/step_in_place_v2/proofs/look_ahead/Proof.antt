@@ -25,7 +25,7 @@ module _ (k : tie.Else1) where
 module _ (m : tie.After-known-told) where
   row-read : let k = m .before .before .before .before .before .before .before .before .before .before .before in let s = k .before .before .before .before .args in let g = k .before .before .plain-region .result in
       rowIn (take (s .t .size) (s .block .now)) (regionFrom g) (s .p .at) (s .p .«key_len») ≡ ok (rowFrom (m .before .a .given .0 .0))
-  row-read = yes saysRow (m .before .before .before .row-in .ensures) (m .before .a .given .1)
+  row-read = yes saysRow (m .before .before .before .decoded-in .ensures) (m .before .a .given .1)
 
 returns : tie.Need-returns
 returns c =
@@ -41,8 +41,8 @@ returns-3 c = ahead-not _ _ _ _ λ key. up-past _ _ _ _ _ (region-read (c .befor
 returns-4 : tie.Need-returns-4
 returns-4 c = ahead-end _ _ _ _ λ key. up-done _ _ _ _ _ (region-read (c .before .before .before .before .before .before)) (c .before .before .before .before .if2 .left) (c .before .before .if3 .left) (c .if4 .taken)
 
-slice-aggregate-row-in : tie.Need-slice-aggregate-row-in
-slice-aggregate-row-in c =
+slice-aggregate-decoded-in : tie.Need-slice-aggregate-decoded-in
+slice-aggregate-decoded-in c =
     let s = c .before .before .before .before .before .before .before .before .before .before .before in
     sym (length-take-le _ _ (omega (arith, trailerOf-tells _ _ (s .pre .read) .0)))
 
@@ -50,7 +50,7 @@ returns-5 : tie.Need-returns-5
 returns-5 c =
     let k = c .before .before .before .before .before .before .before .before .before .before .before in
     ahead-not _ _ _ _ λ key.
-    up-row _ _ _ _ _ (region-read k) (c .before .before .before .before .before .before .before .before .before .if2 .left) (c .before .before .before .before .before .before .before .if3 .left) (c .before .before .before .before .before .if4 .left) (no saysRow refusalOfRow (c .before .before .before .row-in .ensures) (c .before .enum-told .given .1) refl (c .row-refusal .ensures))
+    up-row _ _ _ _ _ (region-read k) (c .before .before .before .before .before .before .before .before .before .if2 .left) (c .before .before .before .before .before .before .before .if3 .left) (c .before .before .before .before .before .if4 .left) (no saysRow refusalOfRow (c .before .before .before .decoded-in .ensures) (c .before .enum-told .given .1) refl (c .row-refusal .ensures))
 
 add-if5 : tie.Need-add-if5
 add-if5 c = omega (arith, readRow-ends _ _ _ _ _ _ (row-read (c .before)) .fits)
@@ -70,5 +70,5 @@ look-ahead-spec =
     tie.close
     (tie.spec
     (λ c κs. search needs) returns returns-2 returns-3
-    returns-4 slice-aggregate-row-in (λ c κs. search needs) (search needs) (search needs)
+    returns-4 slice-aggregate-decoded-in (λ c κs. search needs) (search needs) (search needs)
     (λ c κs. search needs) returns-5 add-if5 returns-6 returns-7)
