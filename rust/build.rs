@@ -1,4 +1,4 @@
-//! Finds libslatedb_block.a, or says how to make it.
+//! Finds libslatedb_block.a and libslatedb_journal.a, or says how to make them.
 
 use std::env;
 use std::path::{Path, PathBuf};
@@ -28,14 +28,16 @@ fn main() {
         }
     }
     let folder = folder();
-    let library = folder.join("libslatedb_block.a");
-    if !library.is_file() {
-        fail(format!(
-            "{} is missing: run `rt staticlib slatedb_block` in the project's folder, or name the library's folder in {FOLDER}",
-            library.display()
-        ));
+    for name in ["slatedb_block", "slatedb_journal"] {
+        let library = folder.join(format!("lib{name}.a"));
+        if !library.is_file() {
+            fail(format!(
+                "{} is missing: run `rt staticlib {name}` in the project's folder, or name the libraries' folder in {FOLDER}",
+                library.display()
+            ));
+        }
+        println!("cargo:rerun-if-changed={}", library.display());
+        println!("cargo:rustc-link-lib=static={name}");
     }
-    println!("cargo:rerun-if-changed={}", library.display());
     println!("cargo:rustc-link-search=native={}", folder.display());
-    println!("cargo:rustc-link-lib=static=slatedb_block");
 }

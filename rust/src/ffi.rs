@@ -136,3 +136,64 @@ pub(crate) fn is_empty(block: &[u8], cursor: &[u64], empty: &mut u64) -> u8 {
 #[cfg(test)]
 #[path = "ffi_tests.rs"]
 mod tests;
+
+// ---- the journal (`include/slatedb_journal.h`): nothing is lent for writing but an append's buffer, and answers come by value
+
+#[derive(Clone, Copy)]
+#[repr(C)]
+pub(crate) struct JournalRecord {
+    pub code: u64,
+    pub kind: u64,
+    pub card: u64,
+    pub retry: u64,
+    pub amount: u64,
+    pub next: u64,
+}
+
+#[derive(Clone, Copy)]
+#[repr(C)]
+pub(crate) struct JournalReading {
+    pub code: u64,
+    pub records: u64,
+    pub place: u64,
+}
+
+#[derive(Clone, Copy)]
+#[repr(C)]
+pub(crate) struct JournalBalanced {
+    pub code: u64,
+    pub balance: i64,
+    pub place: u64,
+}
+
+#[derive(Clone, Copy)]
+#[repr(C)]
+pub(crate) struct JournalAppended {
+    pub code: u64,
+    pub place: u64,
+}
+
+#[rustfmt::skip]
+extern "C" {
+    fn slatedb_journal_record_at(journal: *const u8, journal_len: usize, at: usize) -> JournalRecord;
+    fn slatedb_journal_read(journal: *const u8, journal_len: usize) -> JournalReading;
+    fn slatedb_journal_balance(journal: *const u8, journal_len: usize, card: u64) -> JournalBalanced;
+    fn slatedb_journal_append(buffer: *mut u8, buffer_len: usize, used: usize, kind: u64, card: u64, retry: u64, amount: u32)
+        -> JournalAppended;
+}
+
+pub(crate) fn journal_record_at(journal: &[u8], at: usize) -> JournalRecord {
+    unsafe { slatedb_journal_record_at(journal.as_ptr(), journal.len(), at) }
+}
+
+pub(crate) fn journal_read(journal: &[u8]) -> JournalReading {
+    unsafe { slatedb_journal_read(journal.as_ptr(), journal.len()) }
+}
+
+pub(crate) fn journal_balance(journal: &[u8], card: u64) -> JournalBalanced {
+    unsafe { slatedb_journal_balance(journal.as_ptr(), journal.len(), card) }
+}
+
+pub(crate) fn journal_append(buffer: &mut [u8], used: usize, kind: u64, card: u64, retry: u64, amount: u32) -> JournalAppended {
+    unsafe { slatedb_journal_append(buffer.as_mut_ptr(), buffer.len(), used, kind, card, retry, amount) }
+}

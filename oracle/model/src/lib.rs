@@ -7,6 +7,7 @@ pub mod builder;
 mod cases;
 pub mod check;
 pub mod cursor;
+pub mod journal;
 pub mod row;
 pub mod seek;
 pub mod varint;
