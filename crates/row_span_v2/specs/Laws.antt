@@ -9,22 +9,7 @@ use Rattle.layout.specs.RowRead.{RowRead, readRow}
 use Rattle.layout.specs.Laws.Plain.{span-row, span-no}
 use Rattle.row_span_v2.specs.Promise.{seqOf, refusedWith}
 
--- a row with the numbers of a span
-abbrev pub spanned : RowRead → RowSpan → RowRead
-spanned r p =
-    record {
-      start = r .start;
-      next = p .next;
-      shared = p .shared;
-      suffixAt = p .suffixAt;
-      suffixLen = p .suffixLen;
-      held = r .held;
-      seq = r .seq;
-      expire = r .expire;
-      create = r .create;
-    }
-
--- and with this sequence number
+-- a row with the numbers of a span, and with this sequence number
 abbrev pub numbered : RowRead → RowSpan → ℕ → RowRead
 numbered r p n =
     record {
@@ -38,6 +23,10 @@ numbered r p n =
       expire = r .expire;
       create = r .create;
     }
+
+-- and with its own
+abbrev pub spanned : RowRead → RowSpan → RowRead
+spanned r p = numbered r p (r .seq)
 
 module _ (d : List ℕ) (at end prevLen : ℕ) (restart : Bool) (p : RowSpan) (e : p ≡ spanOf (readRow d at end prevLen restart)) where
   pub span-known : (p .next ≡ 0 → ⊥) → (r : RowRead) × (readRow d at end prevLen restart ≡ ok (spanned r p))
