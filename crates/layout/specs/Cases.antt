@@ -17,7 +17,8 @@ use Rattle.layout.specs.RowRead.{decodeRow, lengthsAt, headTests, headAt
 use Rattle.layout.specs.Block.{isRestart, shareOf, laidRow, rowsFrom, offsetsFrom, blockRows, offsets, offsetBytes, trailer, blockBytes}
 use Rattle.layout.specs.Trailer.{shortAt, trailerOf, risingFrom, allOffsets, regionOf}
 use Rattle.layout.specs.Builder.{Builder, fresh, stateTests, fits, wouldFit, add, stateAfter, dataAfter, placesAfter, build, blockAfter}
-use Rattle.layout.specs.Cursor.{Direction, ascending, descending, Cursor, keptCursor, cursorIs, opened, Answer, found, done, Step, rowEndingAt, stepUp, stepBackIn, stepDown, next}
+use Rattle.layout.specs.Number.{endedFrom, endedBy, numberAt}
+use Rattle.layout.specs.Cursor.{Direction, ascending, descending, Cursor, keptCursor, cursorIs, openedUp, Answer, found, done, Step, rowEndingAt, stepUp, stepBackIn, stepDown, next}
 use Rattle.layout.specs.Check.{check, checkFrom, checkRow}
 use Rattle.layout.specs.Seek.{middle, searchIn, search, restartKey, restartBelow, searchRestarts, walkRegion, walkUp, seekUp, lastEqual, startDown, lastAtOrBelow, walkDown, seekDown, seek}
 
@@ -70,7 +71,7 @@ blockFor size interval rows = finished (offered (started size interval) rows)
 
 -- where the rows start, by steps from an opened cursor
 abbrev pub follow : Answer → List ℕ → List ℕ
-follow (found r key) more = r .start ∷ more
+follow (found region number r key) more = r .start ∷ more
 follow done more = []
 
 abbrev pub stepped : Res Step → (Cursor → List ℕ) → List ℕ
@@ -92,7 +93,7 @@ pub data Landed : Type 0 where
 -- "done" by the seek's own mark, else the row after it; and how many restart keys the search read. A seek that is not marked is never followed by "done"
 abbrev pub landedBy : List ℕ → ℕ → Bool → Answer → Res Landed
 landedBy starts reads true answer = ok (none reads)
-landedBy starts reads false (found r key) = ok (row (numberIn starts (r .start)) reads)
+landedBy starts reads false (found region number r key) = ok (row (numberIn starts (r .start)) reads)
 landedBy starts reads false done = refuse 0
 
 unfoldable pub landed : Direction → List ℕ → Key → Res Landed
@@ -100,7 +101,7 @@ landed d b target =
     bind (trailerOf b) λ t.
     bind (seek d b target) λ s.
     bind (next (s .cursor) b maxKey) λ a.
-    landedBy (rowStarts 9 (opened ascending t) b) (s .reads) (s .cursor .done) (a .answer)
+    landedBy (rowStarts 9 openedUp b) (s .reads) (s .cursor .done) (a .answer)
 
 abbrev pub rowWith : Key → List ℕ → ℕ → Row
 rowWith key val seq = record { key = key; fields = record { kind = value; val = val; seq = seq; expire = Absent; create = Absent } }
@@ -123,11 +124,11 @@ edgeAnswers r =
     ∷ numberOf (add (fresh 8192 16) 8192 1 (r .key) (r .fields))
     ∷ numberOf (build (stateAfter (add (fresh 8192 16) 8192 1 (r .key) (r .fields)) (fresh 8192 16)) 8192 1)
     ∷ numberOf (check (laidAlone r))
-    ∷ numberOf (next (cursorIs ascending 0 0 [] false) (laidAlone r) 8192)
-    ∷ numberOf (next (cursorIs descending 0 (length (rowBytes 0 (r .key) (r .fields))) [] false) (laidAlone r) 8192)
+    ∷ numberOf (next (cursorIs ascending 0 0 0 [] false) (laidAlone r) 8192)
+    ∷ numberOf (next (cursorIs descending 0 (length (rowBytes 0 (r .key) (r .fields))) 1 [] false) (laidAlone r) 8192)
     ∷ numberOf (seek ascending (laidAlone r) (r .key))
     ∷ numberOf (seek descending (laidAlone r) (r .key))
-    ∷ numberOf (next (keptCursor ascending 0 0 (length (r .key)) [] true) (laidAlone r) 0)
+    ∷ numberOf (next (keptCursor ascending 0 0 0 (length (r .key)) [] true) (laidAlone r) 0)
     ∷ numberOf (stateTests (record { blockSize = 8192; restartInterval = 16; used = 12; restarts = 1; counter = 1; lastKeyLen = length (r .key); lastKey = r .key }) 8192 1)
     ∷ []
 
@@ -285,6 +286,6 @@ cases =
     ∷ []
 
 pub cases-hold : AllHold cases
-unfolding leadingZeros answers offered finished blockFor rowStarts numberIn landed varint varintIn varintLength readVarint readVarintIn big unbig bits unbits varintAt fixedAt splice below common timeBytes rowBytes rowSize sizeAlone keyLengthTests lengthTests decodeRow lengthsAt headTests headAt flagsAt bodyTests bodyAt timeAt timesAt rowAt readRow readKey isRestart shareOf laidRow offsetBytes trailer shortAt trailerOf risingFrom allOffsets regionOf stateTests fits wouldFit add build rowEndingAt stepUp stepBackIn stepDown next middle searchIn search restartKey restartBelow searchRestarts walkRegion walkUp seekUp lastEqual startDown lastAtOrBelow walkDown seekDown seek edgeAnswers encodeRow restoreKey check checkFrom checkRow mayFollow blockBytes blockRows offsets rowsFrom offsetsFrom
+unfolding endedFrom endedBy numberAt leadingZeros answers offered finished blockFor rowStarts numberIn landed varint varintIn varintLength readVarint readVarintIn big unbig bits unbits varintAt fixedAt splice below common timeBytes rowBytes rowSize sizeAlone keyLengthTests lengthTests decodeRow lengthsAt headTests headAt flagsAt bodyTests bodyAt timeAt timesAt rowAt readRow readKey isRestart shareOf laidRow offsetBytes trailer shortAt trailerOf risingFrom allOffsets regionOf stateTests fits wouldFit add build rowEndingAt stepUp stepBackIn stepDown next middle searchIn search restartKey restartBelow searchRestarts walkRegion walkUp seekUp lastEqual startDown lastAtOrBelow walkDown seekDown seek edgeAnswers encodeRow restoreKey check checkFrom checkRow mayFollow blockBytes blockRows offsets rowsFrom offsetsFrom
 cases-hold =
     ((refl, refl, refl), ((refl, refl), ((refl, refl), ((refl, refl), ((refl, refl, refl), ((refl, refl), ((refl, refl), ((refl, refl), ((refl, refl), ((refl, refl), (refl, (refl, (refl, (refl, (refl, (refl, (refl, (refl, (refl, (refl, (refl, (refl, (refl, (refl, (refl, (refl, (refl, (refl, (refl, (refl, (refl, (refl, (refl, (refl, (refl, (refl, (refl, (refl, (refl, (refl, (refl, (refl, (refl, (refl, (refl, (refl, (refl, (refl, ((refl, refl), tt)))))))))))))))))))))))))))))))))))))))))))))))))

@@ -1,6 +1,6 @@
--- "How a cursor travels": opening, a step in both directions, `is_empty`; what each gives back, and the key buffer after.
+-- "How a cursor travels": a step in both directions, opening, `is_empty`; what each gives back, and the key buffer after.
 use Prim.Native.Nat.{ℕ, zero, suc, _+_, _-_}
-use mathlib.Core.Bool.{Bool, true, false, cond, _||_}
+use mathlib.Core.Bool.{Bool, true, false, cond, not, _||_}
 use mathlib.Core.List.{[]}
 use lib.Dec.{ltb, leb, eqb}
 use lib.ListN.{length, take}
@@ -11,6 +11,7 @@ use Rattle.layout.specs.Place.{splice}
 use Rattle.layout.specs.Key.{Key}
 use Rattle.layout.specs.RowRead.{RowRead, keyLength, keyOf}
 use Rattle.layout.specs.Trailer.{Trailer, trailerOf, dataOf, Region, regionOf, allOffsets, rowIn}
+use Rattle.layout.specs.Number.{numberAt, wrongAfter}
 
 pub data Direction : Type 0 where
   ascending descending : Direction
@@ -19,42 +20,30 @@ pub record Cursor : Type 0 where
   pub order : Direction
   pub region : ℕ
   pub at : ℕ
+  pub number : ℕ
   pub keyLen : ℕ
   pub key : Key
   pub done : Bool
 
 -- a cursor as it is kept, its key at the start of an array: the bytes past the key's length tell nothing, and are cut off here
-abbrev pub keptCursor : Direction → ℕ → ℕ → ℕ → Bytes → Bool → Cursor
-keptCursor d region at keyLen array mark = record { order = d; region = region; at = at; keyLen = keyLen; key = take keyLen array; done = mark }
+abbrev pub keptCursor : Direction → ℕ → ℕ → ℕ → ℕ → Bytes → Bool → Cursor
+keptCursor d region at number keyLen array mark = record { order = d; region = region; at = at; number = number; keyLen = keyLen; key = take keyLen array; done = mark }
 
-abbrev pub cursorIs : Direction → ℕ → ℕ → Key → Bool → Cursor
-cursorIs d region at key mark = record { order = d; region = region; at = at; keyLen = length key; key = key; done = mark }
+abbrev pub cursorIs : Direction → ℕ → ℕ → ℕ → Key → Bool → Cursor
+cursorIs d region at number key mark = record { order = d; region = region; at = at; number = number; keyLen = length key; key = key; done = mark }
+
+-- at a position of a block, with the true number
+abbrev pub cursorAt : Bytes → Trailer → Direction → ℕ → ℕ → Key → Bool → Cursor
+cursorAt b t d region at key mark = cursorIs d region at (numberAt b t region at) key mark
 
 abbrev pub marked : Cursor → Cursor
-marked c = record { order = c .order; region = c .region; at = c .at; keyLen = c .keyLen; key = c .key; done = true }
-
--- ---- opening tests 14 and all of 15
-
-abbrev pub opened : Direction → Trailer → Cursor
-opened ascending t = cursorIs ascending 0 0 [] false
-opened descending t = cursorIs descending (t .count - 1) (t .size) [] false
-
-unfoldable pub openBlock : Bytes → Direction → Res Cursor
-openBlock b d =
-    bind (trailerOf b) λ t.
-    bind (allOffsets b t) λ _.
-    ok (opened d t)
-
--- what a refused opening gives
-abbrev pub cursorOr : Direction → Res Cursor → Cursor
-cursorOr d (ok c) = c
-cursorOr d (refuse n) = cursorIs d 0 0 [] false
+marked c = record { order = c .order; region = c .region; at = c .at; number = c .number; keyLen = c .keyLen; key = c .key; done = true }
 
 -- ---- one step
 
--- the row's place and fields, and its full key, for the lent buffer
+-- the row's region, its number there, its place and fields, and its full key, for the lent buffer
 pub data Answer : Type 0 where
-  found : RowRead → Key → Answer
+  found : ℕ → ℕ → RowRead → Key → Answer
   done : Answer
 
 pub record Step : Type 0 where
@@ -65,21 +54,25 @@ abbrev pub stepIs : Cursor → Answer → Step
 stepIs c a = record { cursor = c; answer = a }
 
 -- 19 only for the key that is given
-abbrev pub give : ℕ → RowRead → Key → Cursor → Res Step
-give room r key c = 19 when ltb room (keyLength r) else ok (stepIs c (found r key))
+abbrev pub give : ℕ → ℕ → ℕ → RowRead → Key → Cursor → Res Step
+give room region number r key c = 19 when ltb room (keyLength r) else ok (stepIs c (found region number r key))
 
--- ascending, past a row: a finished region hands over to the next at once, then with no key
+-- ascending, past a row: it is counted on from the number that came; a finished region hands over to the next at once, then with no row passed and no key
 abbrev pub pastRow : Cursor → Region → RowRead → Key → Cursor
-pastRow c g r key = cond (ltb (g .reach) (r .next)) (cursorIs ascending (c .region + 1) (r .next) [] false) (cursorIs ascending (c .region) (r .next) key false)
+pastRow c g r key =
+    cond (ltb (g .reach) (r .next))
+    (cursorIs ascending (c .region + 1) (r .next) 0 [] false)
+    (cursorIs ascending (c .region) (r .next) (c .number + 1) key false)
 
 unfoldable pub stepUp : Cursor → Bytes → Trailer → ℕ → Res Step
 stepUp c b t room =
     bind (regionOf b t (c .region)) λ g.
     18 when ltb (c .at) (g .start) else
     18 when ltb (g .reach) (c .at) else
+    18 when wrongAfter (c .at - g .start) (c .number) else
     cond (eqb (c .at) (g .end)) (ok (stepIs (marked c) done))
     (bind (rowIn (dataOf b t) g (c .at) (c .keyLen)) λ r.
-    give room r (keyOf (dataOf b t) (c .key) r) (pastRow c g r (keyOf (dataOf b t) (c .key) r)))
+    give room (c .region) (c .number) r (keyOf (dataOf b t) (c .key) r) (pastRow c g r (keyOf (dataOf b t) (c .key) r)))
 
 -- a row that was read, and its full key
 pub record Keyed : Type 0 where
@@ -100,24 +93,27 @@ rowEndingAt (suc left) d g stop at before =
     ok (keyed r (keyOf d before r)))
 
 -- back past a row: the key is neither used nor changed
-abbrev pub backPast : Cursor → ℕ → RowRead → Cursor
-backPast c region r = record { order = c .order; region = region; at = r .start; keyLen = c .keyLen; key = c .key; done = c .done }
+abbrev pub backPast : Cursor → ℕ → ℕ → RowRead → Cursor
+backPast c region number r = record { order = c .order; region = region; at = r .start; number = number; keyLen = c .keyLen; key = c .key; done = c .done }
 
-unfoldable pub stepBackIn : Cursor → Bytes → Trailer → ℕ → ℕ → Region → Res Step
-stepBackIn c b t room region g =
+-- in region number `region`, of whose rows n are said to end at or before the position
+unfoldable pub stepBackIn : Cursor → Bytes → Trailer → ℕ → ℕ → Region → ℕ → Res Step
+stepBackIn c b t room region g n =
     bind (rowEndingAt (c .at) (dataOf b t) g (c .at) (g .start) []) λ k.
-    give room (k .row) (k .key) (backPast c region (k .row))
+    18 when not (eqb n (numberAt b t region (c .at))) else
+    give room region (numberAt b t region (k .row .start)) (k .row) (k .key) (backPast c region (numberAt b t region (k .row .start)) (k .row))
 
--- at a region's start the region before is next
+-- at a region's start no row is passed, and the region before is next, all of it
 unfoldable pub stepDown : Cursor → Bytes → Trailer → ℕ → Res Step
 stepDown c b t room =
     bind (regionOf b t (c .region)) λ g.
     18 when ltb (c .at) (g .start) else
     18 when ltb (g .end) (c .at) else
     cond (eqb (c .at) (g .start))
-    (cond (eqb (c .region) 0) (ok (stepIs (marked c) done))
-    (bind (regionOf b t (c .region - 1)) λ h. stepBackIn c b t room (c .region - 1) h))
-    (stepBackIn c b t room (c .region) g)
+    (18 when ltb 0 (c .number) else
+    cond (eqb (c .region) 0) (ok (stepIs (marked c) done))
+    (bind (regionOf b t (c .region - 1)) λ h. stepBackIn c b t room (c .region - 1) h (numberAt b t (c .region - 1) (c .at))))
+    (stepBackIn c b t room (c .region) g (c .number))
 
 abbrev pub stepAlong : Direction → Cursor → Bytes → Trailer → ℕ → Res Step
 stepAlong ascending c b t room = stepUp c b t room
@@ -138,12 +134,38 @@ cursorAfter (ok s) c = s .cursor
 cursorAfter (refuse n) c = c
 
 abbrev pub keyGiven : Answer → Bytes → Bytes
-keyGiven (found r key) out = splice out 0 key
+keyGiven (found region number r key) out = splice out 0 key
 keyGiven done out = out
 
 abbrev pub keyAfter : Res Step → Bytes → Bytes
 keyAfter (ok s) out = keyGiven (s .answer) out
 keyAfter (refuse n) out = out
+
+-- ---- opening tests 14 and all of 15; backwards it then reads the last region, up to the data's end
+
+abbrev pub openedUp : Cursor
+openedUp = cursorIs ascending 0 0 0 [] false
+
+abbrev pub openedDown : Bytes → Trailer → Cursor
+openedDown b t = cursorAt b t descending (t .count - 1) (t .size) [] false
+
+unfoldable pub openAlong : Direction → Bytes → Trailer → Res Cursor
+openAlong ascending b t = ok openedUp
+openAlong descending b t =
+    bind (regionOf b t (t .count - 1)) λ g.
+    bind (rowEndingAt (t .size) (dataOf b t) g (t .size) (g .start) []) λ _.
+    ok (openedDown b t)
+
+unfoldable pub openBlock : Bytes → Direction → Res Cursor
+openBlock b d =
+    bind (trailerOf b) λ t.
+    bind (allOffsets b t) λ _.
+    openAlong d b t
+
+-- what a refused opening gives
+abbrev pub cursorOr : Direction → Res Cursor → Cursor
+cursorOr d (ok c) = c
+cursorOr d (refuse n) = cursorIs d 0 0 0 [] false
 
 -- ---- `is_empty`: 14 only
 

@@ -24,6 +24,7 @@ pub mod Building
 pub mod Made
 pub mod Carry
 pub mod Check
+pub mod Number
 pub mod Cursor
 pub mod Step
 pub mod PlainStep

@@ -12,6 +12,7 @@ pub mod Block
 pub mod Trailer
 pub mod Builder
 pub mod Check
+pub mod Number
 pub mod Cursor
 pub mod Seek
 pub mod Cases

@@ -9,7 +9,7 @@ use Rattle.layout.specs.Res.{Res, ok, refuse, bind}
 use Rattle.layout.specs.Key.{Key, below, same}
 use Rattle.layout.specs.RowRead.{readKey, keyOf, joined}
 use Rattle.layout.specs.Trailer.{Trailer, trailerOf, dataOf, Region, regionOf, rowIn}
-use Rattle.layout.specs.Cursor.{Direction, ascending, descending, Cursor, cursorIs}
+use Rattle.layout.specs.Cursor.{Direction, ascending, descending, Cursor, cursorIs, cursorAt}
 
 -- ---- the search
 
@@ -73,16 +73,16 @@ walkRegion (suc left) d g target at before =
     (ok (stopIs at before))
 
 -- a "done" leaves the cursor marked, at the data's end in the last region, with no key
-abbrev pub doneUp : Trailer → Cursor
-doneUp t = cursorIs ascending (t .count - 1) (t .size) [] true
+abbrev pub doneUp : Bytes → Trailer → Cursor
+doneUp b t = cursorAt b t ascending (t .count - 1) (t .size) [] true
 
 -- over `left` regions; past the last one there is no row
 unfoldable pub walkUp : ℕ → Bytes → Trailer → Key → ℕ → Res Cursor
-walkUp zero b t target region = ok (doneUp t)
+walkUp zero b t target region = ok (doneUp b t)
 walkUp (suc left) b t target region =
     bind (regionOf b t region) λ g.
     bind (walkRegion (t .size) (dataOf b t) g target (g .start) []) λ s.
-    cond (ltb (s .at) (g .end)) (ok (cursorIs ascending region (s .at) (s .before) false))
+    cond (ltb (s .at) (g .end)) (ok (cursorAt b t ascending region (s .at) (s .before) false))
     (walkUp left b t target (suc region))
 
 unfoldable pub seekUp : Bytes → Trailer → Key → ℕ → Res Cursor
@@ -117,7 +117,7 @@ lastAtOrBelow (suc left) d g target at before best =
 
 -- if none, the region before, and so on, else "done": marked, at 0 in region 0, with no key
 abbrev pub doneDown : Cursor
-doneDown = cursorIs descending 0 0 [] true
+doneDown = cursorIs descending 0 0 0 [] true
 
 -- over `left` regions; before region 0 there is no row
 unfoldable pub walkDown : ℕ → Bytes → Trailer → Key → ℕ → Res Cursor
@@ -125,7 +125,7 @@ walkDown zero b t target region = ok doneDown
 walkDown (suc left) b t target region =
     bind (regionOf b t region) λ g.
     bind (lastAtOrBelow (t .size) (dataOf b t) g target (g .start) [] (g .start)) λ best.
-    cond (ltb (g .start) best) (ok (cursorIs descending region best [] false))
+    cond (ltb (g .start) best) (ok (cursorAt b t descending region best [] false))
     (walkDown left b t target (region - 1))
 
 unfoldable pub seekDown : Bytes → Trailer → Key → ℕ → Res Cursor

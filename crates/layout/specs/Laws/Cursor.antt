@@ -1,7 +1,7 @@
 -- Each way through opening, a step and `is_empty`, by what was met on it: one law for each exit of the code. And what is known of the row that a
 -- step back finds.
 use Prim.Native.Nat.{ℕ, zero, suc, _+_, _-_, _<_, _≤_}
-use mathlib.Core.Path.{_≡_, subst}
+use mathlib.Core.Path.{_≡_, refl, subst}
 use mathlib.Core.Bool.{true, false}
 use mathlib.Core.List.{List, []}
 use mathlib.Core.Logic.{⊎-elim}
@@ -15,7 +15,8 @@ use Rattle.layout.specs.Limits.{maxKey}
 use Rattle.layout.specs.Key.{Key}
 use Rattle.layout.specs.RowRead.{RowRead, keyLength, keyOf}
 use Rattle.layout.specs.Trailer.{Trailer, trailerOf, dataOf, Region, regionOf, allOffsets, rowIn}
-use Rattle.layout.specs.Cursor.{Direction, ascending, descending, Cursor, marked, opened, openBlock, found, done, stepIs, pastRow, stepUp, Keyed, keyed, rowEndingAt, backPast, stepBackIn, stepDown, next, exhausted, isEmpty}
+use Rattle.layout.specs.Number.{numberAt, wrongAfter}
+use Rattle.layout.specs.Cursor.{Direction, ascending, descending, Cursor, marked, found, done, stepIs, pastRow, stepUp, Keyed, keyed, rowEndingAt, backPast, stepBackIn, stepDown, next, openedUp, openedDown, openAlong, openBlock, exhausted, isEmpty}
 use Rattle.layout.specs.Laws.Res.{bind-then, guard-then, cond-ok, ok-inj}
 use Rattle.layout.specs.Laws.Carry.{keyOf-length}
 use Rattle.layout.specs.Laws.Tells.{rowIn-ends}
@@ -32,9 +33,29 @@ module _ (b : List ℕ) (d : Direction) where
     unfolding openBlock
     open-offsets o = rw (e, o)
 
-    pub open-good : allOffsets b t ≡ ok tt → openBlock b d ≡ ok (opened d t)
-    unfolding openBlock
-    open-good o = rw (e, o)
+    module _ (o : allOffsets b t ≡ ok tt) where
+      pub open-along : openBlock b d ≡ openAlong d b t
+      unfolding openBlock
+      open-along = rw (e, o)
+
+pub along-up : (b : List ℕ) (t : Trailer) → openAlong ascending b t ≡ ok openedUp
+unfolding openAlong
+along-up b t = refl
+
+-- backwards
+module _ (b : List ℕ) (t : Trailer) where
+  pub along-region : {n : ℕ} → regionOf b t (t .count - 1) ≡ refuse n → openAlong descending b t ≡ refuse n
+  unfolding openAlong
+  along-region u = rw u
+
+  module _ (g : Region) (u : regionOf b t (t .count - 1) ≡ ok g) where
+    pub along-no : {n : ℕ} → rowEndingAt (t .size) (dataOf b t) g (t .size) (g .start) [] ≡ refuse n → openAlong descending b t ≡ refuse n
+    unfolding openAlong
+    along-no w = rw (u, w)
+
+    pub along-down : (k : Keyed) → rowEndingAt (t .size) (dataOf b t) g (t .size) (g .start) [] ≡ ok k → openAlong descending b t ≡ ok (openedDown b t)
+    unfolding openAlong
+    along-down k w = rw (u, w)
 
 -- ---- a step, before its direction matters
 
@@ -84,23 +105,28 @@ module _ (c : Cursor) (b : List ℕ) (t : Trailer) (room : ℕ) where
       up-past k = rw (e, le-ltb (c .at) (g .start) h, lt-ltb (g .reach) (c .at) k)
 
       module _ (k : c .at ≤ g .reach) where
+        pub up-wrong : wrongAfter (c .at - g .start) (c .number) ≡ true → stepUp c b t room ≡ refuse 18
+        unfolding stepUp
+        up-wrong w = rw (e, le-ltb (c .at) (g .start) h, le-ltb (g .reach) (c .at) k, w)
+
+      module _ (k : c .at ≤ g .reach) (w : wrongAfter (c .at - g .start) (c .number) ≡ false) where
         pub up-done : c .at ≡ g .end → stepUp c b t room ≡ ok (stepIs (marked c) done)
         unfolding stepUp
-        up-done m = rw (e, le-ltb (c .at) (g .start) h, le-ltb (g .reach) (c .at) k, eq-eqb (c .at) (g .end) m)
+        up-done m = rw (e, le-ltb (c .at) (g .start) h, le-ltb (g .reach) (c .at) k, w, eq-eqb (c .at) (g .end) m)
 
         module _ (m : c .at ≡ g .end → ⊥) where
           pub up-row : {n : ℕ} → rowIn (dataOf b t) g (c .at) (c .keyLen) ≡ refuse n → stepUp c b t room ≡ refuse n
           unfolding stepUp
-          up-row q = rw (e, le-ltb (c .at) (g .start) h, le-ltb (g .reach) (c .at) k, ne-eqb (c .at) (g .end) m, q)
+          up-row q = rw (e, le-ltb (c .at) (g .start) h, le-ltb (g .reach) (c .at) k, w, ne-eqb (c .at) (g .end) m, q)
 
           module _ (r : RowRead) (q : rowIn (dataOf b t) g (c .at) (c .keyLen) ≡ ok r) where
             pub up-short : room < keyLength r → stepUp c b t room ≡ refuse 19
             unfolding stepUp
-            up-short l = rw (e, le-ltb (c .at) (g .start) h, le-ltb (g .reach) (c .at) k, ne-eqb (c .at) (g .end) m, q, lt-ltb room (keyLength r) l)
+            up-short l = rw (e, le-ltb (c .at) (g .start) h, le-ltb (g .reach) (c .at) k, w, ne-eqb (c .at) (g .end) m, q, lt-ltb room (keyLength r) l)
 
-            pub up-found : keyLength r ≤ room → stepUp c b t room ≡ ok (stepIs (pastRow c g r (keyOf (dataOf b t) (c .key) r)) (found r (keyOf (dataOf b t) (c .key) r)))
+            pub up-found : keyLength r ≤ room → stepUp c b t room ≡ ok (stepIs (pastRow c g r (keyOf (dataOf b t) (c .key) r)) (found (c .region) (c .number) r (keyOf (dataOf b t) (c .key) r)))
             unfolding stepUp
-            up-found l = rw (e, le-ltb (c .at) (g .start) h, le-ltb (g .reach) (c .at) k, ne-eqb (c .at) (g .end) m, q, le-ltb room (keyLength r) l)
+            up-found l = rw (e, le-ltb (c .at) (g .start) h, le-ltb (g .reach) (c .at) k, w, ne-eqb (c .at) (g .end) m, q, le-ltb room (keyLength r) l)
 
 -- ---- descending
 
@@ -120,35 +146,48 @@ module _ (c : Cursor) (b : List ℕ) (t : Trailer) (room : ℕ) where
       down-past k = rw (e, le-ltb (c .at) (g .start) h, lt-ltb (g .end) (c .at) k)
 
       module _ (k : c .at ≤ g .end) where
-        pub down-done : c .at ≡ g .start → c .region ≡ 0 → stepDown c b t room ≡ ok (stepIs (marked c) done)
-        unfolding stepDown
-        down-done m z = rw (e, le-ltb (c .at) (g .start) h, le-ltb (g .end) (c .at) k, eq-eqb (c .at) (g .start) m, eq-eqb (c .region) 0 z)
+        module _ (m : c .at ≡ g .start) where
+          pub down-wrong : 0 < c .number → stepDown c b t room ≡ refuse 18
+          unfolding stepDown
+          down-wrong n = rw (e, le-ltb (c .at) (g .start) h, le-ltb (g .end) (c .at) k, eq-eqb (c .at) (g .start) m, lt-ltb 0 (c .number) n)
 
-        pub down-before-no : {n : ℕ} → c .at ≡ g .start → (c .region ≡ 0 → ⊥) → regionOf b t (c .region - 1) ≡ refuse n → stepDown c b t room ≡ refuse n
-        unfolding stepDown
-        down-before-no m z q = rw (e, le-ltb (c .at) (g .start) h, le-ltb (g .end) (c .at) k, eq-eqb (c .at) (g .start) m, ne-eqb (c .region) 0 z, q)
+          module _ (n : c .number ≤ 0) where
+            pub down-done : c .region ≡ 0 → stepDown c b t room ≡ ok (stepIs (marked c) done)
+            unfolding stepDown
+            down-done z = rw (e, le-ltb (c .at) (g .start) h, le-ltb (g .end) (c .at) k, eq-eqb (c .at) (g .start) m, le-ltb 0 (c .number) n, eq-eqb (c .region) 0 z)
 
-        pub down-before-in : {f : Region} → c .at ≡ g .start → (c .region ≡ 0 → ⊥) → regionOf b t (c .region - 1) ≡ ok f → stepDown c b t room ≡ stepBackIn c b t room (c .region - 1) f
-        unfolding stepDown
-        down-before-in m z q = rw (e, le-ltb (c .at) (g .start) h, le-ltb (g .end) (c .at) k, eq-eqb (c .at) (g .start) m, ne-eqb (c .region) 0 z, q)
+            pub down-before-no : {i : ℕ} → (c .region ≡ 0 → ⊥) → regionOf b t (c .region - 1) ≡ refuse i → stepDown c b t room ≡ refuse i
+            unfolding stepDown
+            down-before-no z q = rw (e, le-ltb (c .at) (g .start) h, le-ltb (g .end) (c .at) k, eq-eqb (c .at) (g .start) m, le-ltb 0 (c .number) n, ne-eqb (c .region) 0 z, q)
 
-        pub down-in : (c .at ≡ g .start → ⊥) → stepDown c b t room ≡ stepBackIn c b t room (c .region) g
+            pub down-before-in : {f : Region} → (c .region ≡ 0 → ⊥) → regionOf b t (c .region - 1) ≡ ok f
+                → stepDown c b t room ≡ stepBackIn c b t room (c .region - 1) f (numberAt b t (c .region - 1) (c .at))
+            unfolding stepDown
+            down-before-in z q = rw (e, le-ltb (c .at) (g .start) h, le-ltb (g .end) (c .at) k, eq-eqb (c .at) (g .start) m, le-ltb 0 (c .number) n, ne-eqb (c .region) 0 z, q)
+
+        pub down-in : (c .at ≡ g .start → ⊥) → stepDown c b t room ≡ stepBackIn c b t room (c .region) g (c .number)
         unfolding stepDown
         down-in m = rw (e, le-ltb (c .at) (g .start) h, le-ltb (g .end) (c .at) k, ne-eqb (c .at) (g .start) m)
 
-module _ (c : Cursor) (b : List ℕ) (t : Trailer) (room region : ℕ) (g : Region) where
-  pub back-no : {n : ℕ} → rowEndingAt (c .at) (dataOf b t) g (c .at) (g .start) [] ≡ refuse n → stepBackIn c b t room region g ≡ refuse n
+module _ (c : Cursor) (b : List ℕ) (t : Trailer) (room region : ℕ) (g : Region) (n : ℕ) where
+  pub back-no : {i : ℕ} → rowEndingAt (c .at) (dataOf b t) g (c .at) (g .start) [] ≡ refuse i → stepBackIn c b t room region g n ≡ refuse i
   unfolding stepBackIn
   back-no e = rw e
 
   module _ (k : Keyed) (e : rowEndingAt (c .at) (dataOf b t) g (c .at) (g .start) [] ≡ ok k) where
-    pub back-short : room < keyLength (k .row) → stepBackIn c b t room region g ≡ refuse 19
+    pub back-wrong : (n ≡ numberAt b t region (c .at) → ⊥) → stepBackIn c b t room region g n ≡ refuse 18
     unfolding stepBackIn
-    back-short h = rw (e, lt-ltb room (keyLength (k .row)) h)
+    back-wrong w = rw (e, ne-eqb n (numberAt b t region (c .at)) w)
 
-    pub back-found : keyLength (k .row) ≤ room → stepBackIn c b t room region g ≡ ok (stepIs (backPast c region (k .row)) (found (k .row) (k .key)))
-    unfolding stepBackIn
-    back-found h = rw (e, le-ltb room (keyLength (k .row)) h)
+    module _ (w : n ≡ numberAt b t region (c .at)) where
+      pub back-short : room < keyLength (k .row) → stepBackIn c b t room region g n ≡ refuse 19
+      unfolding stepBackIn
+      back-short h = rw (e, eq-eqb n (numberAt b t region (c .at)) w, lt-ltb room (keyLength (k .row)) h)
+
+      pub back-found : keyLength (k .row) ≤ room
+          → stepBackIn c b t room region g n ≡ ok (stepIs (backPast c region (numberAt b t region (k .row .start)) (k .row)) (found region (numberAt b t region (k .row .start)) (k .row) (k .key)))
+      unfolding stepBackIn
+      back-found h = rw (e, eq-eqb n (numberAt b t region (c .at)) w, le-ltb room (keyLength (k .row)) h)
 
 -- ---- the step back
 

@@ -7,9 +7,9 @@ use lib.ListN.{take}
 use Rattle.layout.specs.Builder.{keptBuilder}
 use Rattle.layout.specs.Cursor.{Direction, keptCursor}
 
-pub kept-cursor : (d : Direction) (region at keyLen : ℕ) (array₁ array₂ : List ℕ) (mark : Bool) → take keyLen array₁ ≡ take keyLen array₂
-    → keptCursor d region at keyLen array₁ mark ≡ keptCursor d region at keyLen array₂ mark
-kept-cursor d region at keyLen array₁ array₂ mark agree = rw agree
+pub kept-cursor : (d : Direction) (region at number keyLen : ℕ) (array₁ array₂ : List ℕ) (mark : Bool) → take keyLen array₁ ≡ take keyLen array₂
+    → keptCursor d region at number keyLen array₁ mark ≡ keptCursor d region at number keyLen array₂ mark
+kept-cursor d region at number keyLen array₁ array₂ mark agree = rw agree
 
 pub kept-builder : (size interval used restarts rows lastLen : ℕ) (array₁ array₂ : List ℕ) → take lastLen array₁ ≡ take lastLen array₂
     → keptBuilder size interval used restarts rows lastLen array₁ ≡ keptBuilder size interval used restarts rows lastLen array₂

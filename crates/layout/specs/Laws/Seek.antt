@@ -11,7 +11,7 @@ use Rattle.layout.specs.Res.{Res, ok, refuse, bind}
 use Rattle.layout.specs.Key.{Key, below, same}
 use Rattle.layout.specs.RowRead.{KeyRead, readKey, joined}
 use Rattle.layout.specs.Trailer.{Trailer, trailerOf, dataOf, Region, regionOf}
-use Rattle.layout.specs.Cursor.{Direction, ascending, descending, Cursor, cursorIs}
+use Rattle.layout.specs.Cursor.{Direction, ascending, descending, Cursor, cursorAt}
 use Rattle.layout.specs.Seek.{Found, foundIs, tick, middle, search, restartKey, restartBelow, searchRestarts, Stop, walkRegion, doneUp, walkUp, seekUp, lastEqual, startDown, lastAtOrBelow, doneDown, walkDown, seekDown, soughtIs, seekAlong, seek}
 use Rattle.layout.specs.Laws.Res.{spend}
 use Rattle.layout.specs.Laws.Search.{search-empty, search-split, search-refuse}
@@ -99,11 +99,11 @@ module _ (b : List ℕ) (t : Trailer) (target : Key) where
         λ more is m. f more (omega (arith, s .regions)) m
 
     module _ (f₀ : first ≤ t .count) where
-      pub climbing-over : t .count ≤ region → ok (doneUp t) ≡ walkUp (t .count - first) b t target first
+      pub climbing-over : t .count ≤ region → ok (doneUp b t) ≡ walkUp (t .count - first) b t target first
       unfolding walkUp
       climbing-over h = go (s .left) (s .regions) (s .makes)
         where
-          go : (left : ℕ) → region + left ≡ first + (t .count - first) → walkUp left b t target region ≡ walkUp (t .count - first) b t target first → ok (doneUp t) ≡ walkUp (t .count - first) b t target first
+          go : (left : ℕ) → region + left ≡ first + (t .count - first) → walkUp left b t target region ≡ walkUp (t .count - first) b t target first → ok (doneUp b t) ≡ walkUp (t .count - first) b t target first
           go zero q m = m
           go (suc left) q m = absurd (omega arith)
 
@@ -118,7 +118,7 @@ module _ (b : List ℕ) (t : Trailer) (target : Key) where
           climbing-no w = climbed h f₀ λ left q m. rw (e, w) at m
 
           module _ (p : Stop) (w : walkRegion (t .size) (dataOf b t) g target (g .start) [] ≡ ok p) where
-            pub climbing-found : p .at < g .end → ok (cursorIs ascending region (p .at) (p .before) false) ≡ walkUp (t .count - first) b t target first
+            pub climbing-found : p .at < g .end → ok (cursorAt b t ascending region (p .at) (p .before) false) ≡ walkUp (t .count - first) b t target first
             unfolding walkUp
             climbing-found k = climbed h f₀ λ left q m. rw (e, w, lt-ltb (p .at) (g .end) k) at m
 
@@ -141,7 +141,7 @@ module _ (b : List ℕ) (t : Trailer) (target : Key) (left region : ℕ) where
     fall-no w = rw (e, w)
 
     module _ (best : ℕ) (w : lastAtOrBelow (t .size) (dataOf b t) g target (g .start) [] (g .start) ≡ ok best) where
-      fall-found : g .start < best → walkDown (suc left) b t target region ≡ ok (cursorIs descending region best [] false)
+      fall-found : g .start < best → walkDown (suc left) b t target region ≡ ok (cursorAt b t descending region best [] false)
       unfolding walkDown
       fall-found k = rw (e, w, lt-ltb (g .start) best k)
 
@@ -169,7 +169,7 @@ module _ (b : List ℕ) (t : Trailer) (target : Key) (first region : ℕ) (s : F
     falling-no w = sym (fall-no b t target region region g e w) ∙ s .makes
 
     module _ (best : ℕ) (w : lastAtOrBelow (t .size) (dataOf b t) g target (g .start) [] (g .start) ≡ ok best) where
-      pub falling-found : g .start < best → ok (cursorIs descending region best [] false) ≡ walkDown (suc first) b t target first
+      pub falling-found : g .start < best → ok (cursorAt b t descending region best [] false) ≡ walkDown (suc first) b t target first
       falling-found k = sym (fall-found b t target region region g e best w k) ∙ s .makes
 
       pub falling-done : best ≤ g .start → region ≡ 0 → ok doneDown ≡ walkDown (suc first) b t target first

@@ -3,6 +3,7 @@
 -- "done" leaves the carried key.
 use Prim.Native.Nat.{ℕ, _-_, _≤_}
 use mathlib.Core.Path.{_≡_, refl, ap, sym, _∙_}
+use mathlib.Core.Bool.{not}
 use mathlib.Core.List.{List, []}
 use mathlib.Core.Logic.{⊎-elim}
 use lib.Dec.{ltb, leb, eqb}
@@ -13,6 +14,7 @@ use Rattle.layout.specs.Limits.{maxKey}
 use Rattle.layout.specs.Key.{Key}
 use Rattle.layout.specs.RowRead.{RowRead, keyLength, keyOf}
 use Rattle.layout.specs.Trailer.{Trailer, trailerOf, dataOf, Region, regionOf, rowIn}
+use Rattle.layout.specs.Number.{numberAt, wrongAfter}
 use Rattle.layout.specs.Cursor.{Direction, ascending, descending, Cursor, marked, Answer, found, done, Step, stepIs, give, pastRow, stepUp, Keyed, rowEndingAt, backPast, stepBackIn, stepDown, stepAlong, next}
 use Rattle.layout.specs.Laws.Res.{bind-then, guard-then, cond-ok, ok-inj}
 use Rattle.layout.specs.Laws.Carry.{keyOf-length}
@@ -25,13 +27,13 @@ pub data Stepped (c : Cursor) (b : List ℕ) : Step → Type 0 where
   stays : Stepped c b (stepIs c done)
   ends : Stepped c b (stepIs (marked c) done)
   goes-up : (t : Trailer) (g : Region) (r : RowRead) → c .order ≡ ascending → rowIn (dataOf b t) g (c .at) (c .keyLen) ≡ ok r
-      → Stepped c b (stepIs (pastRow c g r (keyOf (dataOf b t) (c .key) r)) (found r (keyOf (dataOf b t) (c .key) r)))
-  goes-back : (t : Trailer) (region : ℕ) (g : Region) (k : Keyed) → rowEndingAt (c .at) (dataOf b t) g (c .at) (g .start) [] ≡ ok k
-      → Stepped c b (stepIs (backPast c region (k .row)) (found (k .row) (k .key)))
+      → Stepped c b (stepIs (pastRow c g r (keyOf (dataOf b t) (c .key) r)) (found (c .region) (c .number) r (keyOf (dataOf b t) (c .key) r)))
+  goes-back : (t : Trailer) (region number : ℕ) (g : Region) (k : Keyed) → rowEndingAt (c .at) (dataOf b t) g (c .at) (g .start) [] ≡ ok k
+      → Stepped c b (stepIs (backPast c region number (k .row)) (found region number (k .row) (k .key)))
 
 -- the step s, if what it gives has room
 abbrev given-in : ℕ → Answer → Step → Res Step
-given-in room (found r key) s = guard (ltb room (keyLength r)) 19 (ok s)
+given-in room (found region number r key) s = guard (ltb room (keyLength r)) 19 (ok s)
 given-in room done s = ok s
 
 abbrev pub askedIn : ℕ → Step → Res Step
@@ -43,8 +45,9 @@ record Inverted (c : Cursor) (b : List ℕ) (at : ℕ → Res Step) (s : Step) :
   again : (room : ℕ) → at room ≡ askedIn room s
 
 module _ (c : Cursor) (b : List ℕ) (room : ℕ) (s : Step) where
-  gives : (to : Cursor) (r : RowRead) (key : Key) → Stepped c b (stepIs to (found r key)) → give room r key to ≡ ok s → Inverted c b (λ n. give n r key to) s
-  gives to r key h e = guard-then (ltb room (keyLength r)) 19 _ s e λ t u. rw (← ok-inj u) (record { how = h; again = λ n. refl })
+  gives : (to : Cursor) (region number : ℕ) (r : RowRead) (key : Key) → Stepped c b (stepIs to (found region number r key)) → give room region number r key to ≡ ok s
+      → Inverted c b (λ n. give n region number r key to) s
+  gives to region number r key h e = guard-then (ltb room (keyLength r)) 19 _ s e λ t u. rw (← ok-inj u) (record { how = h; again = λ n. refl })
 
   none : (to : Cursor) → Stepped c b (stepIs to done) → _≡_ {A = Res Step} (ok (stepIs to done)) (ok s) → Inverted c b (λ n. ok (stepIs to done)) s
   none to h e = rw (← ok-inj e) (record { how = h; again = λ n. refl })
@@ -55,20 +58,23 @@ module _ (c : Cursor) (b : List ℕ) (room : ℕ) (s : Step) where
       bind-then (regionOf b t (c .region)) _ s e λ g p₁ e₁.
       guard-then (ltb (c .at) (g .start)) 18 _ s e₁ λ p₂ e₂.
       guard-then (ltb (g .reach) (c .at)) 18 _ s e₂ λ p₃ e₃.
+      guard-then (wrongAfter (c .at - g .start) (c .number)) 18 _ s e₃ λ p₄ e₄.
       ⊎-elim
-      (λ u. let i = none (marked c) ends (u .1) in record { how = i .how; again = λ n. rw (p₁, p₂, p₃, u .0) (i .again n) })
+      (λ u. let i = none (marked c) ends (u .1) in record { how = i .how; again = λ n. rw (p₁, p₂, p₃, p₄, u .0) (i .again n) })
       (λ u.
-      bind-then (rowIn (dataOf b t) g (c .at) (c .keyLen)) _ s (u .1) λ r p₄ q.
-      let i = gives (pastRow c g r (keyOf (dataOf b t) (c .key) r)) r (keyOf (dataOf b t) (c .key) r) (goes-up t g r heads p₄) q in
-      record { how = i .how; again = λ n. rw (p₁, p₂, p₃, u .0, p₄) (i .again n) })
-      (cond-ok (eqb (c .at) (g .end)) _ _ s e₃)
+      bind-then (rowIn (dataOf b t) g (c .at) (c .keyLen)) _ s (u .1) λ r p₅ q.
+      let i = gives (pastRow c g r (keyOf (dataOf b t) (c .key) r)) (c .region) (c .number) r (keyOf (dataOf b t) (c .key) r) (goes-up t g r heads p₅) q in
+      record { how = i .how; again = λ n. rw (p₁, p₂, p₃, p₄, u .0, p₅) (i .again n) })
+      (cond-ok (eqb (c .at) (g .end)) _ _ s e₄)
 
-  back : (t : Trailer) (region : ℕ) (g : Region) → stepBackIn c b t room region g ≡ ok s → Inverted c b (λ n. stepBackIn c b t n region g) s
+  back : (t : Trailer) (region : ℕ) (g : Region) (many : ℕ) → stepBackIn c b t room region g many ≡ ok s → Inverted c b (λ n. stepBackIn c b t n region g many) s
   unfolding stepBackIn
-  back t region g e =
-      bind-then (rowEndingAt (c .at) (dataOf b t) g (c .at) (g .start) []) _ s e λ k p q.
-      let i = gives (backPast c region (k .row)) (k .row) (k .key) (goes-back t region g k p) q in
-      record { how = i .how; again = λ n. rw p (i .again n) }
+  back t region g many e =
+      bind-then (rowEndingAt (c .at) (dataOf b t) g (c .at) (g .start) []) _ s e λ k p₁ e₁.
+      guard-then (not (eqb many (numberAt b t region (c .at)))) 18 _ s e₁ λ p₂ e₂.
+      let number = numberAt b t region (k .row .start) in
+      let i = gives (backPast c region number (k .row)) region number (k .row) (k .key) (goes-back t region number g k p₁) e₂ in
+      record { how = i .how; again = λ n. rw (p₁, p₂) (i .again n) }
 
   down : (t : Trailer) → stepDown c b t room ≡ ok s → Inverted c b (λ n. stepDown c b t n) s
   unfolding stepDown
@@ -78,14 +84,15 @@ module _ (c : Cursor) (b : List ℕ) (room : ℕ) (s : Step) where
       guard-then (ltb (g .end) (c .at)) 18 _ s e₂ λ p₃ e₃.
       ⊎-elim
       (λ u.
+      guard-then (ltb 0 (c .number)) 18 _ s (u .1) λ p₄ e₄.
       ⊎-elim
-      (λ v. let i = none (marked c) ends (v .1) in record { how = i .how; again = λ n. rw (p₁, p₂, p₃, u .0, v .0) (i .again n) })
+      (λ v. let i = none (marked c) ends (v .1) in record { how = i .how; again = λ n. rw (p₁, p₂, p₃, u .0, p₄, v .0) (i .again n) })
       (λ v.
-      bind-then (regionOf b t (c .region - 1)) _ s (v .1) λ h p₄ q.
-      let i = back t (c .region - 1) h q in
-      record { how = i .how; again = λ n. rw (p₁, p₂, p₃, u .0, v .0, p₄) (i .again n) })
-      (cond-ok (eqb (c .region) 0) _ _ s (u .1)))
-      (λ u. let i = back t (c .region) g (u .1) in record { how = i .how; again = λ n. rw (p₁, p₂, p₃, u .0) (i .again n) })
+      bind-then (regionOf b t (c .region - 1)) _ s (v .1) λ h p₅ q.
+      let i = back t (c .region - 1) h (numberAt b t (c .region - 1) (c .at)) q in
+      record { how = i .how; again = λ n. rw (p₁, p₂, p₃, u .0, p₄, v .0, p₅) (i .again n) })
+      (cond-ok (eqb (c .region) 0) _ _ s e₄))
+      (λ u. let i = back t (c .region) g (c .number) (u .1) in record { how = i .how; again = λ n. rw (p₁, p₂, p₃, u .0) (i .again n) })
       (cond-ok (eqb (c .at) (g .start)) _ _ s e₃)
 
 -- ---- the one inversion
@@ -132,7 +139,7 @@ pub record KeyedWell (room : ℕ) (r : RowRead) (key : Key) : Type 0 where
 
 -- of a step from the cursor c to d
 abbrev pub GivenWell : ℕ → Cursor → Cursor → Answer → Type 0
-GivenWell room c d (found r key) = KeyedWell room r key
+GivenWell room c d (found region number r key) = KeyedWell room r key
 GivenWell room c d done = (d .keyLen ≡ c .keyLen) × (d .key ≡ c .key)
 
 -- of a cursor whose key is as long as it says, unless that is too long
@@ -142,8 +149,9 @@ next-given c s b room long e = go s (tells .how) (sym (tells .again room) ∙ e)
     tells : StepTells c b s
     tells = next-tells c b room s e
 
-    held : (r : RowRead) (key : Key) (to : Cursor) → given-in room (found r key) (stepIs to (found r key)) ≡ ok (stepIs to (found r key)) → keyLength r ≤ room
-    held r key to f = guard-then (ltb room (keyLength r)) 19 _ (stepIs to (found r key)) f λ t _. ltb-false room (keyLength r) t
+    held : (region number : ℕ) (r : RowRead) (key : Key) (to : Cursor)
+        → given-in room (found region number r key) (stepIs to (found region number r key)) ≡ ok (stepIs to (found region number r key)) → keyLength r ≤ room
+    held region number r key to f = guard-then (ltb room (keyLength r)) 19 _ (stepIs to (found region number r key)) f λ t _. ltb-false room (keyLength r) t
 
     go : (s : Step) → Stepped c b s → askedIn room s ≡ ok s → GivenWell room c (s .cursor) (s .answer)
     go s stays f = (refl, refl)
@@ -153,9 +161,9 @@ next-given c s b room long e = go s (tells .how) (sym (tells .again room) ∙ e)
         record {
           some = w .some;
           fits = w .fits;
-          held = held r (keyOf (dataOf b t) (c .key) r) (pastRow c g r (keyOf (dataOf b t) (c .key) r)) f;
+          held = held (c .region) (c .number) r (keyOf (dataOf b t) (c .key) r) (pastRow c g r (keyOf (dataOf b t) (c .key) r)) f;
           whole = keyOf-length (dataOf b t) (c .at) (g .end) (c .key) (eqb (c .at) (g .start)) r (ap (λ (n : ℕ). rowIn (dataOf b t) g (c .at) n) (long (tells .few)) ∙ p);
         }
-    go s (goes-back t region g k p) f =
+    go s (goes-back t region number g k p) f =
         let w = ended (c .at) (dataOf b t) g (c .at) (g .start) [] k p in
-        record { some = w .some; fits = w .fits; held = held (k .row) (k .key) (backPast c region (k .row)) f; whole = w .whole }
+        record { some = w .some; fits = w .fits; held = held region number (k .row) (k .key) (backPast c region number (k .row)) f; whole = w .whole }
