@@ -27,6 +27,12 @@ unfoldable pub rowNumber : ℕ → List ℕ → Region → ℕ → Key → Res K
 rowNumber zero d g at before = bind (rowIn d g at (length before)) λ r. ok (keyed r (keyOf d before r))
 rowNumber (suc i) d g at before = bind (rowIn d g at (length before)) λ r. rowNumber i d g (r .next) (keyOf d before r)
 
+-- the pair of region and number names this row of the block
+pub record Names (b : List ℕ) (t : Trailer) (region number : ℕ) (k : Keyed) : Type 0 where
+  pub g : Region
+  pub used : regionOf b t region ≡ ok g
+  pub is : rowNumber number (dataOf b t) g (g .start) [] ≡ ok k
+
 -- the rows of as many regions, from `region` on
 unfoldable pub regionsRows : ℕ → List ℕ → Trailer → ℕ → Res (List (List Keyed))
 regionsRows zero b t region = ok []

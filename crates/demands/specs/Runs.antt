@@ -6,9 +6,10 @@ use lib.ListN.{length, take}
 use Rattle.layout.specs.Res.{Res, ok, refuse}
 use Rattle.layout.specs.Row.{Row, Typed}
 use Rattle.layout.specs.RowRead.{keyLength}
+use Rattle.layout.specs.Trailer.{Trailer, trailerOf}
 use Rattle.layout.specs.Builder.{Builder, newBuilder, add, stateAfter, dataAfter, placesAfter, build, blockAfter}
 use Rattle.layout.specs.Cursor.{Cursor, marked, Keyed, keyed, Answer, found, done, Step, stepIs, next, cursorAfter}
-use Rattle.demands.specs.Reads.{AllOf}
+use Rattle.demands.specs.Reads.{AllOf, Names}
 
 -- ---- a builder, over its two lent buffers
 
@@ -101,9 +102,11 @@ pub record Finishes (h : Lending) (block : List ℕ) : Type 0 where
 
 -- ---- a cursor, handed on from step to step, with a key buffer of `room` bytes
 
+-- each row with the pair of region and number that names it
 pub data Walks (b : List ℕ) (room : ℕ) : Cursor → List Keyed → Cursor → Type 0 where
   stands : (c : Cursor) → Walks b room c [] c
-  gives : (c c′ c″ : Cursor) (k : Keyed) (ks : List Keyed) → next c b room ≡ ok (stepIs c′ (found (k .row) (k .key))) → Walks b room c′ ks c″ → Walks b room c (k ∷ ks) c″
+  gives : (c c′ c″ : Cursor) (k : Keyed) (ks : List Keyed) (t : Trailer) (region number : ℕ) → trailerOf b ≡ ok t → Names b t region number k
+      → next c b room ≡ ok (stepIs c′ (found region number (k .row) (k .key))) → Walks b room c′ ks c″ → Walks b room c (k ∷ ks) c″
 
 -- and then says "done", with only the mark set, and ever after, unchanged
 pub record EndsDone (b : List ℕ) (room : ℕ) (c : Cursor) (marked-one : Cursor) : Type 0 where
@@ -118,7 +121,7 @@ pub record WalksAll (b : List ℕ) (room : ℕ) (c : Cursor) (rows : List Keyed)
 
 -- a run of steps, each with a key buffer of its own: what is given, where a refused step gives nothing and leaves the cursor
 abbrev pub rowIn : Answer → List Keyed
-rowIn (found r key) = keyed r key ∷ []
+rowIn (found region number r key) = keyed r key ∷ []
 rowIn done = []
 
 abbrev pub givenBy : Res Step → List Keyed

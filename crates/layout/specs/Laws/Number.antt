@@ -2,10 +2,11 @@
 -- took 12 bytes or more, and what every later position's number is. One record for all reads of a region.
 use Prim.Native.Nat.{ℕ, zero, suc, _+_, _-_, _*_, _<_, _≤_}
 use mathlib.Core.Path.{_≡_, refl, ap, sym, _∙_}
-use mathlib.Core.Bool.{false}
+use mathlib.Core.Bool.{Bool, true, false, _&&_, _||_}
 use mathlib.Core.List.{List}
 use mathlib.Core.Logic.{⊎-elim}
 use native.Mathlib.Omega.{arith}
+use lib.Dec.{ltb, eqb}
 use borrow.Author.Tests.{lt-ltb, le-ltb, ne-eqb}
 use Rattle.layout.specs.Res.{Res, ok, refuse}
 use Rattle.layout.specs.RowRead.{RowRead, keyLength}
@@ -80,6 +81,20 @@ module _ (d : List ℕ) (g : Region) where
         (λ t. rw (t .0, ne-eqb n 0 (λ z. absurd (omega (arith, t .1, c .none z))), le-ltb (at - g .start) (12 * n) (omega (arith, c .far))))
         (λ t. rw (t .0, le-ltb (at - g .start) (12 * n) (omega (arith, c .far))))
         (ltb-cases 0 (at - g .start))
+
+-- ---- a number that is not wrong, of a cursor that counts on from it
+
+pub right-tells : (passed n : ℕ) → wrongAfter passed n ≡ false → 12 * n ≤ passed
+right-tells passed n e = ⊎-elim (λ t. absurd (no (ltb 0 passed && eqb n 0) (rw (t .0) at e))) (λ t. t .1) (ltb-cases passed (12 * n))
+  where
+    no : (b : Bool) → (b || true) ≡ false → ⊥
+    no true e = let z : _≡_ {A = ℕ} 0 1 = cc in omega arith
+    no false e = let z : _≡_ {A = ℕ} 0 1 = cc in omega arith
+
+pub right-on : (passed n further : ℕ) → wrongAfter passed n ≡ false → passed + 12 ≤ further → wrongAfter further (n + 1) ≡ false
+right-on passed n further e h =
+    let k = right-tells passed n e in
+    rw (lt-ltb 0 further (omega arith), ne-eqb (n + 1) 0 (λ z. absurd (omega arith)), le-ltb further (12 * (n + 1)) (omega arith))
 
 -- ---- in a region of a block
 
