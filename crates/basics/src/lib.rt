@@ -1,7 +1,7 @@
 // What every crate's answers and settings are made of: refusals, kinds of value, times, orders, and the numbers with an edge.
 // Follows slatedb 0.16.0, src/error.rs, src/types.rs and src/iter.rs (Apache License 2.0), and is changed: an answer names the
 // place of a value's bytes and holds none, an absent time is a case of its own, and each refusal has a number.
-ghost use Rattle.basics.specs.Promise.{Numbered};
+ghost use Rattle.basics.specs.Promise.{Numbered, TellsWrong};
 
 pub enum Refusal {
     // 1: the key is empty
@@ -116,3 +116,14 @@ pub const MAX_OFFSET: usize = 65535;
 pub const MAX_RESTARTS: usize = 5042;
 
 pub const LEAST_ROW: usize = 12;
+
+// Whether so many rows can't have been passed in so many bytes of a region: none past its start, or more than a twelfth of them. The product of a number that came
+// from outside may wrap, so it is the bytes that are divided, by a constant: no division is left of it in the code that runs.
+pub fn wrong_after(passed: usize, number: usize) -> bool
+    ensures { λ r. ⌜ TellsWrong passed number r ⌝ }
+{
+    if number == 0 {
+        return 0 < passed;
+    }
+    passed / LEAST_ROW < number
+}
