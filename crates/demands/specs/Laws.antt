@@ -1,5 +1,6 @@
 pub mod Reads
 pub mod Numbered
+pub mod Counted
 pub mod Written
 pub mod Refusals
 pub mod Local

@@ -15,11 +15,11 @@ use Rattle.layout.specs.Laws.Res.{ok-inj}
 use Rattle.demands.specs.Laws.Reads.{RegionIs, over, more, region-is}
 
 module _ (d : List ℕ) (g : Region) where
-  number-first : (at : ℕ) (before : Key) (r : RowRead) → rowIn d g at (length before) ≡ ok r → rowNumber 0 d g at before ≡ ok (keyed r (keyOf d before r))
+  pub number-first : (at : ℕ) (before : Key) (r : RowRead) → rowIn d g at (length before) ≡ ok r → rowNumber 0 d g at before ≡ ok (keyed r (keyOf d before r))
   unfolding rowNumber
   number-first at before r e = rw e
 
-  number-next : (i at : ℕ) (before : Key) (r : RowRead) → rowIn d g at (length before) ≡ ok r → rowNumber (suc i) d g at before ≡ rowNumber i d g (r .next) (keyOf d before r)
+  pub number-next : (i at : ℕ) (before : Key) (r : RowRead) → rowIn d g at (length before) ≡ ok r → rowNumber (suc i) d g at before ≡ rowNumber i d g (r .next) (keyOf d before r)
   unfolding rowNumber
   number-next i at before r e = rw e
 
