@@ -96,7 +96,7 @@ pub record SoughtAmong (b : List ℕ) (t : Trailer) (target : Key) (regions : Li
   pub up : Cursor
   pub sought-up : seek ascending b target ≡ ok (soughtIs up (f .reads))
   pub walked-up : WalksAll b room up (leftUp target regions (f .place))
-  pub over-up : ((0 < length (leftUp target regions (f .place))) × (up .done ≡ false)) ⊎ ((leftUp target regions (f .place) ≡ []) × (up ≡ doneUp t))
+  pub over-up : ((0 < length (leftUp target regions (f .place))) × (up .done ≡ false)) ⊎ ((leftUp target regions (f .place) ≡ []) × (up ≡ doneUp b t))
   pub down : Cursor
   pub sought-down : seek descending b target ≡ ok (soughtIs down (f .reads))
   pub walked-down : WalksAll b room down (backwards (leftDown target regions (startAmong target regions (f .place))))

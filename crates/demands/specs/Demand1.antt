@@ -46,15 +46,15 @@ refused-restore prev shared suffix buf n e = rw e
 
 -- ---- bytes that tell nothing: a cursor's, and a lent key buffer's
 
-module _ (d : Direction) (region at keyLen : ℕ) (mark : Bool) (array₁ array₂ : List ℕ) (agree : take keyLen array₁ ≡ take keyLen array₂) (b : List ℕ) where
+module _ (d : Direction) (region at number keyLen : ℕ) (mark : Bool) (array₁ array₂ : List ℕ) (agree : take keyLen array₁ ≡ take keyLen array₂) (b : List ℕ) where
   abbrev c₁ : Cursor
-  c₁ = keptCursor d region at keyLen array₁ mark
+  c₁ = keptCursor d region at number keyLen array₁ mark
 
   abbrev c₂ : Cursor
-  c₂ = keptCursor d region at keyLen array₂ mark
+  c₂ = keptCursor d region at number keyLen array₂ mark
 
   one : c₁ ≡ c₂
-  one = kept-cursor d region at keyLen array₁ array₂ mark agree
+  one = kept-cursor d region at number keyLen array₁ array₂ mark agree
 
   -- the answer of a step holds the row's places and fields and the key bytes given; so equal answers give equal key bytes
   pub stale-bytes-tell-nothing : (out₁ out₂ : List ℕ) → length out₁ ≡ length out₂
@@ -69,11 +69,11 @@ module _ (d : Direction) (region at keyLen : ℕ) (mark : Bool) (array₁ array�
   stale-bytes-seek target = ap (λ (c : Cursor). soughtAfter (seek (c .order) b target) c) one
 
 -- the key bytes that a step gives stand at the start of the lent buffer, whatever it held; its other bytes stay
-pub given-bytes : (c : Cursor) (b out : List ℕ) (moved : Cursor) (r : RowRead) (key : Key) → length (c .key) ≡ c .keyLen → next c b (length out) ≡ ok (stepIs moved (found r key))
+pub given-bytes : (c : Cursor) (b out : List ℕ) (moved : Cursor) (region number : ℕ) (r : RowRead) (key : Key) → length (c .key) ≡ c .keyLen → next c b (length out) ≡ ok (stepIs moved (found region number r key))
     → let after = keyAfter (next c b (length out)) out in (take (length key) after ≡ key) × (drop (length key) after ≡ drop (length key) out)
-given-bytes c b out moved r key whole e =
+given-bytes c b out moved region number r key whole e =
     let n : 0 + length key ≡ length key = zero-add (length key) in
-    let w = next-given c (stepIs moved (found r key)) b (length out) (λ few. whole) e in
+    let w = next-given c (stepIs moved (found region number r key)) b (length out) (λ few. whole) e in
     let within : length key ≤ length out = omega (arith, w .whole, w .held) in
     let fits : 0 + length key ≤ length out = omega arith in
     rw e (rw n at (take-past-splice out 0 key fits), rw n at (drop-past-splice out 0 key fits))

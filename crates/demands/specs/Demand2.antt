@@ -14,7 +14,7 @@ use Rattle.layout.specs.Key.{Key, below, noRank, Rising, firstAtOrAbove, firstA
 use Rattle.layout.specs.Row.{Fields, Row, encodeRow, Typed}
 use Rattle.layout.specs.Trailer.{Trailer}
 use Rattle.layout.specs.Check.{check}
-use Rattle.layout.specs.Cursor.{ascending, descending, Cursor, opened, Keyed, found, stepIs, next}
+use Rattle.layout.specs.Cursor.{ascending, descending, Cursor, openedUp, openedDown, Keyed, found, stepIs, next}
 use Rattle.layout.specs.Seek.{Sought, soughtIs, seek}
 use Rattle.demands.specs.Reads.{Accepts, keysOf}
 use Rattle.demands.specs.Runs.{Lending, Call, Ran, Finishes, RoomFor, backwards, GivesFirst}
@@ -49,10 +49,10 @@ module _ (b : List ℕ) (n : ℕ) (t : Trailer) (rows : List Keyed) (q : Rows b 
   restarts-at-most bytes = restarts-few b t (q .regions) (q .reads) bytes
 
   -- Steps with key buffers of any lengths, refused ones among them, give its rows in order, or reversed: none twice, and none left out before one that is given.
-  pub walk-any-buffers : (rooms : List ℕ) → GivesFirst b (opened ascending t) rooms rows × GivesFirst b (opened descending t) rooms (backwards rows)
+  pub walk-any-buffers : (rooms : List ℕ) → GivesFirst b openedUp rooms rows × GivesFirst b (openedDown b t) rooms (backwards rows)
   walk-any-buffers rooms =
       let w = rows-walked b n t rows q maxKey room-enough in
-      (walks-first b maxKey rooms (opened ascending t) rows (w .forwards), walks-first b maxKey rooms (opened descending t) (backwards rows) (w .back))
+      (walks-first b maxKey rooms openedUp rows (w .forwards), walks-first b maxKey rooms (openedDown b t) (backwards rows) (w .back))
 
   -- Its keys never fall, so "the first at or above the target" parts its rows: those before it are below the target, and no row from it on is.
   pub first-at-or-above : (target : Key) (i : ℕ) → i < length rows
@@ -80,11 +80,11 @@ module _ (b : List ℕ) (n : ℕ) (t : Trailer) (rows : List Keyed) (q : Rows b 
   -- Some row has the target as its key exactly when the row after the ascending seek has it; and then that is the first such row.
   pub retry-found : (target : Key) (c : Cursor) (reads : ℕ) → seek ascending b target ≡ ok (soughtIs c reads)
       → ((i : ℕ) → i < length rows → getD (keysOf rows) i [] ≡ target → FoundFirst b target rows room c)
-      × ((k : Keyed) (moved : Cursor) → next c b room ≡ ok (stepIs moved (found (k .row) (k .key))) → k .key ≡ target → (i : ℕ) × (i < length rows) × (getD (keysOf rows) i [] ≡ target))
+      × ((k : Keyed) (moved : Cursor) (region number : ℕ) → next c b room ≡ ok (stepIs moved (found region number (k .row) (k .key))) → k .key ≡ target → (i : ℕ) × (i < length rows) × (getD (keysOf rows) i [] ≡ target))
   retry-found target c reads e =
       let s = sought-up b n t rows q target room fits in
       let same : s .c ≡ c = ap (λ (x : Sought). x .cursor) (ok-inj (sym (s .is) ∙ e)) in
-      (λ i h k. rw same at (retry-present b n t rows q target room fits i h k), λ k moved g has. retry-absent b n t rows q target room fits k moved (rw same g) has)
+      (λ i h k. rw same at (retry-present b n t rows q target room fits i h k), λ k moved region number g has. retry-absent b n t rows q target room fits k moved region number (rw same g) has)
 
 -- A finished block is accepted exactly when its rows are in this order: each may follow the one before.
 pub finished-accepted : (size interval : ℕ) (calls : List Call) (rows : List Row) (end : Lending) (block : List ℕ) → Ran size interval calls rows end → Finishes end block

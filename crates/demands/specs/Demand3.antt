@@ -41,22 +41,22 @@ module _ (size interval : ℕ) (calls : List Call) (rows : List Row) (end : Lend
   all-back = laid-reads-back block interval room rows (ran-laid size interval calls rows end ran block f) fits
 
   -- Opened ascending and stepped, with a key buffer no shorter than any key: exactly the accepted rows, then "done" ever after. Keys may have come in any order.
-  pub reads-forwards : (t : Trailer) × (given : List Keyed) × (openBlock block ascending ≡ ok (opened ascending t)) × WalksAll block room (opened ascending t) given
+  pub reads-forwards : (t : Trailer) × (given : List Keyed) × (openBlock block ascending ≡ ok openedUp) × WalksAll block room openedUp given
       × (map (contentOf (dataOf block t)) given ≡ map plainRow rows)
   reads-forwards = (all-back .t, all-back .given, all-back .walks .opens-up, all-back .walks .forwards, all-back .are)
 
   -- Opened descending: the same rows reversed.
-  pub reads-backwards : (t : Trailer) × (given : List Keyed) × (openBlock block descending ≡ ok (opened descending t)) × WalksAll block room (opened descending t) (backwards given)
+  pub reads-backwards : (t : Trailer) × (given : List Keyed) × (openBlock block descending ≡ ok (openedDown block t)) × WalksAll block room (openedDown block t) (backwards given)
       × (map (contentOf (dataOf block t)) given ≡ map plainRow rows)
   reads-backwards = (all-back .t, all-back .given, all-back .walks .opens-down, all-back .walks .back, all-back .are)
 
 -- Whatever key buffers the steps are lent, refused steps among them, they give the accepted rows in order, or reversed: none twice, and none left out before one that is given.
 pub reads-any-buffers : (size interval : ℕ) (calls : List Call) (rows : List Row) (end : Lending) (block : List ℕ) → Ran size interval calls rows end → Finishes end block
-    → (rooms : List ℕ) → (t : Trailer) × (given : List Keyed) × GivesFirst block (opened ascending t) rooms given × GivesFirst block (opened descending t) rooms (backwards given)
+    → (rooms : List ℕ) → (t : Trailer) × (given : List Keyed) × GivesFirst block openedUp rooms given × GivesFirst block (openedDown block t) rooms (backwards given)
     × (map (contentOf (dataOf block t)) given ≡ map plainRow rows)
 reads-any-buffers size interval calls rows end block ran f rooms =
     let r = laid-reads-back block interval maxKey rows (ran-laid size interval calls rows end ran block f) (ran-fits size interval calls rows end ran) in
-    (r .t, r .given, walks-first block maxKey rooms (opened ascending (r .t)) (r .given) (r .walks .forwards), walks-first block maxKey rooms (opened descending (r .t)) (backwards (r .given)) (r .walks .back), r .are)
+    (r .t, r .given, walks-first block maxKey rooms openedUp (r .given) (r .walks .forwards), walks-first block maxKey rooms (openedDown block (r .t)) (backwards (r .given)) (r .walks .back), r .are)
 
 -- After one previous key, of two rows that `encode` accepts: where one's bytes begin the other's, they are one row, and nothing follows.
 pub row-begins-no-other : (prevLen : ℕ) (shared₁ : ℕ) (suffix₁ : List ℕ) (f₁ : Fields) (room₁ : ℕ) (w₁ : List ℕ) (shared₂ : ℕ) (suffix₂ : List ℕ) (f₂ : Fields) (room₂ : ℕ) (w₂ tail : List ℕ)

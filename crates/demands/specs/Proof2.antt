@@ -19,7 +19,7 @@ use Rattle.layout.specs.RowRead.{RowRead, readRow, decodeRow, keyLength}
 use Rattle.layout.specs.Fixed.{unbig}
 use Rattle.layout.specs.Trailer.{shortAt, Trailer, dataOf, offsetAt}
 use Rattle.layout.specs.Check.{check}
-use Rattle.layout.specs.Cursor.{ascending, descending, Cursor, opened, Keyed, found, done, Step, stepIs, next}
+use Rattle.layout.specs.Cursor.{ascending, descending, Cursor, openedUp, openedDown, Keyed, found, done, Step, stepIs, next}
 use Rattle.layout.specs.Seek.{doneUp}
 use Rattle.demands.specs.Reads.{regionsRows, Reads, allRows, ranksOf, verdict, keysOf, contentOf}
 use Rattle.demands.specs.Runs.{RoomFor, Walks, stands, gives, WalksAll}
@@ -32,10 +32,10 @@ use Rattle.layout.specs.Laws.Key.{AtMost, at-most-refl, at-most-trans, at-most-
 use Rattle.layout.specs.Laws.Row.{placesOf, readRow-law, placesOf-fields, placesOf-key}
 use Rattle.layout.specs.Laws.Tells.{readRow-ends, restart-least}
 use Rattle.layout.specs.Laws.Trailer.{regionOf-tells, trailerOf-tells}
-use Rattle.layout.specs.Laws.Cursor.{open-good, next-marked}
+use Rattle.layout.specs.Laws.Cursor.{next-marked}
 use Rattle.demands.specs.Laws.Reads.{region-at, rows-all}
-use Rattle.demands.specs.Laws.Ascend.{opened-before}
-use Rattle.demands.specs.Laws.Descend.{opened-after}
+use Rattle.demands.specs.Laws.Ascend.{opened-before, opens-up}
+use Rattle.demands.specs.Laws.Descend.{opened-after, opens-down}
 use Rattle.demands.specs.Laws.Accept.{check-accepts, accepts-check, check-verdict}
 use Rattle.demands.specs.Laws.Sorted.{NeverFall, rising-never-falls}
 use Rattle.demands.specs.Laws.First.{first-before, first-here, above-before, above-here}
@@ -65,10 +65,10 @@ module _ (b : List ℕ) (n : ℕ) (t : Trailer) (rows : List Keyed) (q : Rows b 
   pub rows-walked : BothWays b t room rows
   rows-walked =
       record {
-        opens-up = open-good b ascending t (q .reads .trailer-good) (q .reads .offsets-good);
-        opens-down = open-good b descending t (q .reads .trailer-good) (q .reads .offsets-good);
-        forwards = walks-before b t room (opened ascending t) rows (rw (q .are) (opened-before b t (q .regions) (q .reads))) f;
-        back = walks-after (length rows) b t room (opened descending t) rows (omega arith) (rw (q .are) (opened-after b t (q .regions) (q .reads))) f;
+        opens-up = opens-up b t (q .regions) (q .reads);
+        opens-down = opens-down b t (q .regions) (q .reads);
+        forwards = walks-before b t room openedUp rows (rw (q .are) (opened-before b t (q .regions) (q .reads))) f;
+        back = walks-after (length rows) b t room (openedDown b t) rows (omega arith) (rw (q .are) (opened-after b t (q .regions) (q .reads))) f;
       }
 
 pub accepted-rows : (b : List ℕ) (n : ℕ) → check b ≡ ok n → (t : Trailer) × (rows : List Keyed) × Rows b n t rows
@@ -228,11 +228,11 @@ module _ (b : List ℕ) (n : ℕ) (t : Trailer) (rows : List Keyed) (q : Rows b 
               keys-of : {r s : RowRead} {x y : Key} → found r x ≡ found s y → x ≡ y
               keys-of e = cc
 
-      never : sought-up b n t rows q target room f .c ≡ doneUp t → ⊥
+      never : sought-up b n t rows q target room f .c ≡ doneUp b t → ⊥
       never z =
           let tells = trailerOf-tells b t (q .reads .trailer-good) in
-          let d : next (doneUp t) b room ≡ ok (stepIs (doneUp t) done) = next-marked (doneUp t) b room t (q .reads .trailer-good) (omega (arith, tells .1)) zero-le refl in
-          let s : stepIs (doneUp t) done ≡ stepIs moved (found (k .row) (k .key)) = ok-inj (sym d ∙ ap (λ (y : Cursor). next y b room) (sym z) ∙ e) in
+          let d : next (doneUp b t) b room ≡ ok (stepIs (doneUp b t) done) = next-marked (doneUp b t) b room t (q .reads .trailer-good) (omega (arith, tells .1)) zero-le refl in
+          let s : stepIs (doneUp b t) done ≡ stepIs moved (found (k .row) (k .key)) = ok-inj (sym d ∙ ap (λ (y : Cursor). next y b room) (sym z) ∙ e) in
           apart (ap (λ (y : Step). y .answer) s)
         where
           apart : {r : RowRead} {x : Key} → done ≡ found r x → ⊥

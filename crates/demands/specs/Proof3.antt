@@ -15,7 +15,7 @@ use Rattle.layout.specs.RowRead.{RowRead, rowAt, readRow, decodeRow, keyLength}
 use Rattle.layout.specs.Block.{blockBytes, offsets}
 use Rattle.layout.specs.Trailer.{Trailer, dataOf}
 use Rattle.layout.specs.Builder.{blockAfter}
-use Rattle.layout.specs.Cursor.{ascending, descending, opened, Keyed}
+use Rattle.layout.specs.Cursor.{ascending, descending, openedUp, openedDown, Keyed}
 use Rattle.demands.specs.Reads.{regionsRows, Reads, allRows, AllOf, contentOf}
 use Rattle.demands.specs.Rows.{BothWays}
 use Rattle.demands.specs.Runs.{Lending, Call, Ran, Finishes, RoomFor, KeysFit}
@@ -26,11 +26,10 @@ use Rattle.layout.specs.Laws.Tells.{keyLengthTests-tells}
 use Rattle.demands.specs.Laws.Local.{readRow-local}
 use Rattle.layout.specs.Laws.Carry.{keyOf-length}
 use Rattle.layout.specs.Laws.Block.{AllOk, AllFit}
-use Rattle.layout.specs.Laws.Cursor.{open-good}
 use Rattle.layout.specs.Laws.Made.{Made}
 use Rattle.demands.specs.Laws.Reads.{rows-all}
-use Rattle.demands.specs.Laws.Ascend.{opened-before}
-use Rattle.demands.specs.Laws.Descend.{opened-after}
+use Rattle.demands.specs.Laws.Ascend.{opened-before, opens-up}
+use Rattle.demands.specs.Laws.Descend.{opened-after, opens-down}
 use Rattle.demands.specs.Laws.Laid.{LaidBlock, laid-block}
 
 -- ---- a run finishes
@@ -106,11 +105,11 @@ module _ (block : List ℕ) (n room : ℕ) (rows : List Row) (l : LaidBlock bloc
   pub laid-both-ways : BothWays block (l .t) room (allRows (l .regions))
   laid-both-ways =
       record {
-        opens-up = open-good block ascending (l .t) (l .reads .trailer-good) (l .reads .offsets-good);
-        opens-down = open-good block descending (l .t) (l .reads .trailer-good) (l .reads .offsets-good);
-        forwards = walks-before block (l .t) room (opened ascending (l .t)) (allRows (l .regions)) (opened-before block (l .t) (l .regions) (l .reads)) laid-room;
+        opens-up = opens-up block (l .t) (l .regions) (l .reads);
+        opens-down = opens-down block (l .t) (l .regions) (l .reads);
+        forwards = walks-before block (l .t) room openedUp (allRows (l .regions)) (opened-before block (l .t) (l .regions) (l .reads)) laid-room;
         back =
-            walks-after (length (allRows (l .regions))) block (l .t) room (opened descending (l .t)) (allRows (l .regions)) (omega arith) (opened-after block (l .t) (l .regions) (l .reads)) laid-room;
+            walks-after (length (allRows (l .regions))) block (l .t) room (openedDown block (l .t)) (allRows (l .regions)) (omega arith) (opened-after block (l .t) (l .regions) (l .reads)) laid-room;
       }
 
 pub record ReadsBack (block : List ℕ) (room : ℕ) (rows : List Row) : Type 0 where

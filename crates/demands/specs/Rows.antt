@@ -9,10 +9,10 @@ use Rattle.layout.specs.Res.{ok}
 use Rattle.layout.specs.Key.{Key, Rank, rankIs, noRank, Rising, firstAtOrAbove, firstAbove}
 use Rattle.layout.specs.Row.{Fields, Row, plain}
 use Rattle.layout.specs.RowRead.{RowRead, decodeRow, keyOf, fieldsOf}
-use Rattle.layout.specs.Trailer.{Trailer}
-use Rattle.layout.specs.Cursor.{ascending, descending, Cursor, opened, openBlock, Keyed, found, stepIs, next}
+use Rattle.layout.specs.Trailer.{Trailer, trailerOf}
+use Rattle.layout.specs.Cursor.{ascending, descending, Cursor, openedUp, openedDown, openBlock, Keyed, found, stepIs, next}
 use Rattle.layout.specs.Seek.{doneUp, doneDown, soughtIs, seek}
-use Rattle.demands.specs.Reads.{Reads, allRows, ranksOf, keysOf}
+use Rattle.demands.specs.Reads.{Names, Reads, allRows, ranksOf, keysOf}
 use Rattle.demands.specs.Runs.{WalksAll, backwards}
 
 -- ---- one row
@@ -37,10 +37,10 @@ pub record Rows (b : List ℕ) (n : ℕ) (t : Trailer) (rows : List Keyed) : Typ
 
 -- opened and stepped through, both ways
 pub record BothWays (b : List ℕ) (t : Trailer) (room : ℕ) (rows : List Keyed) : Type 0 where
-  pub opens-up : openBlock b ascending ≡ ok (opened ascending t)
-  pub opens-down : openBlock b descending ≡ ok (opened descending t)
-  pub forwards : WalksAll b room (opened ascending t) rows
-  pub back : WalksAll b room (opened descending t) (backwards rows)
+  pub opens-up : openBlock b ascending ≡ ok openedUp
+  pub opens-down : openBlock b descending ≡ ok (openedDown b t)
+  pub forwards : WalksAll b room openedUp rows
+  pub back : WalksAll b room (openedDown b t) (backwards rows)
 
 -- rows that were offered, in the order of rows
 abbrev pub offeredRanks : List Row → List Rank
@@ -56,7 +56,7 @@ pub record SoughtUp (b : List ℕ) (t : Trailer) (target : Key) (rows : List Key
   pub walked : WalksAll b room c (drop (firstAtOrAbove target (keysOf rows)) rows)
   pub over :
       ((firstAtOrAbove target (keysOf rows) < length rows) × (c .done ≡ false))
-      ⊎ ((firstAtOrAbove target (keysOf rows) ≡ length rows) × (c ≡ doneUp t))
+      ⊎ ((firstAtOrAbove target (keysOf rows) ≡ length rows) × (c ≡ doneUp b t))
 
 -- descending: the rows walked after the seek are those before the first above the target, the last of them first; it says "done" exactly when there is none
 pub record SoughtDown (b : List ℕ) (t : Trailer) (target : Key) (rows : List Keyed) (room : ℕ) : Type 0 where
@@ -68,12 +68,17 @@ pub record SoughtDown (b : List ℕ) (t : Trailer) (target : Key) (rows : List K
       ((0 < firstAbove target (keysOf rows)) × (c .done ≡ false))
       ⊎ ((firstAbove target (keysOf rows) ≡ 0) × (c ≡ doneDown))
 
--- the row that the step after the seek gives has the target as its key, and no row before it has
+-- the row that the step after the seek gives, with the pair that names it, has the target as its key, and no row before it has
 pub record FoundFirst (b : List ℕ) (target : Key) (rows : List Keyed) (room : ℕ) (c : Cursor) : Type 0 where
   pub k : Keyed
   pub rest : List Keyed
   pub moved : Cursor
-  pub gives-it : next c b room ≡ ok (stepIs moved (found (k .row) (k .key)))
+  pub t : Trailer
+  pub region : ℕ
+  pub number : ℕ
+  pub trailer-is : trailerOf b ≡ ok t
+  pub named : Names b t region number k
+  pub gives-it : next c b room ≡ ok (stepIs moved (found region number (k .row) (k .key)))
   pub has-it : k .key ≡ target
   pub stands-first : drop (firstAtOrAbove target (keysOf rows)) rows ≡ k ∷ rest
   pub none-before : (j : ℕ) → j < firstAtOrAbove target (keysOf rows) → getD (keysOf rows) j [] ≡ target → ⊥

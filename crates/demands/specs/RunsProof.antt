@@ -128,7 +128,7 @@ walks-before b t room c [] q f =
 walks-before b t room c (k ∷ ks) q f =
     let g = before-gives b t c room k ks q in
     let w = walks-before b t room (g .moved) ks (g .then-before) (f .1) in
-    record { last = w .last; walks = gives c (g .moved) (w .last) k ks (g .gives (f .0)) (w .walks); ends = w .ends }
+    record { last = w .last; walks = gives c (g .moved) (w .last) k ks t (c .region) (c .number) (q .stands .trailer-good) (g .named) (g .gives (f .0)) (w .walks); ends = w .ends }
 
 backwards-end : (ks : List Keyed) (k : Keyed) → backwards (ks ++ (k ∷ [])) ≡ k ∷ backwards ks
 unfolding backwards
@@ -164,7 +164,11 @@ walks-after (suc n) b t room c rows h q f = go rows (from-end rows) h q f (walks
         let g = after-gives b t c room xs x q in
         let w = ih (g .moved) xs (omega (arith, length-append xs (x ∷ []))) (g .then-after) (room-first room xs (x ∷ []) f) in
         rw (backwards-end xs x)
-        (record { last = w .last; walks = gives c (g .moved) (w .last) x (backwards xs) (g .gives (room-last room xs x f)) (w .walks); ends = w .ends })
+        (record {
+          last = w .last;
+          walks = gives c (g .moved) (w .last) x (backwards xs) t (g .region) (g .number) (q .trailer-good) (g .named) (g .gives (room-last room xs x f)) (w .walks);
+          ends = w .ends;
+        })
 
 -- ---- steps with key buffers of any lengths
 
@@ -180,9 +184,9 @@ walks-first b room (other ∷ rooms) c rows w = go c rows (w .last) (w .walks) (
         let same = next-again d b room other (stepIs (marked d) done) (ends .says-done) in
         let more = ih (marked d) [] (record { last = marked d; walks = stands (marked d); ends = record { says-done = ends .ever-after; ever-after = ends .ever-after } }) in
         record { rest = more .rest; parts = rw same (more .parts) }
-    go c rows last (gives d d′ d″ k ks p w) ends ih =
-        let same = next-again d b room other (stepIs d′ (found (k .row) (k .key))) p in
+    go c rows last (gives d d′ d″ k ks t region number tr named p w) ends ih =
+        let same = next-again d b room other (stepIs d′ (found region number (k .row) (k .key))) p in
         ⊎-elim
-        (λ u. let more = ih d (k ∷ ks) (record { last = d″; walks = gives d d′ d″ k ks p w; ends = ends }) in record { rest = more .rest; parts = rw (same, u .0) (more .parts) })
+        (λ u. let more = ih d (k ∷ ks) (record { last = d″; walks = gives d d′ d″ k ks t region number tr named p w; ends = ends }) in record { rest = more .rest; parts = rw (same, u .0) (more .parts) })
         (λ u. let more = ih d′ ks (record { last = d″; walks = w; ends = ends }) in record { rest = more .rest; parts = rw (same, u .0) (ap (λ (x : List Keyed). k ∷ x) (more .parts)) })
         (ltb-cases other (keyLength (k .row)))

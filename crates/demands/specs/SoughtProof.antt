@@ -38,10 +38,10 @@ room-take room (suc n) (k ∷ ks) f = (f .0, room-take room n ks (f .1))
 
 module _ (b : List ℕ) (t : Trailer) (room : ℕ) (good : trailerOf b ≡ ok t) where
   -- a marked cursor says "done", unchanged
-  over-up : WalksAll b room (doneUp t) []
+  over-up : WalksAll b room (doneUp b t) []
   over-up =
-      let says : next (doneUp t) b room ≡ ok (stepIs (doneUp t) done) = next-marked (doneUp t) b room t good (omega (arith, trailerOf-tells b t good .1)) zero-le refl in
-      record { last = doneUp t; walks = stands (doneUp t); ends = record { says-done = says; ever-after = says } }
+      let says : next (doneUp b t) b room ≡ ok (stepIs (doneUp b t) done) = next-marked (doneUp b t) b room t good (omega (arith, trailerOf-tells b t good .1)) zero-le refl in
+      record { last = doneUp b t; walks = stands (doneUp b t); ends = record { says-done = says; ever-after = says } }
 
   over-down : WalksAll b room doneDown []
   over-down =
@@ -50,17 +50,17 @@ module _ (b : List ℕ) (t : Trailer) (room : ℕ) (good : trailerOf b ≡ ok t)
 
   pub landed-up : (target : Key) (rows : List Keyed) (c : Cursor) → RoomFor room rows → LandsUp b t target rows (ok c)
       → WalksAll b room c (drop (leading (isBelow target) (keysOf rows)) rows)
-      × (((leading (isBelow target) (keysOf rows) < length rows) × (c .done ≡ false)) ⊎ ((leading (isBelow target) (keysOf rows) ≡ length rows) × (c ≡ doneUp t)))
+      × (((leading (isBelow target) (keysOf rows) < length rows) × (c .done ≡ false)) ⊎ ((leading (isBelow target) (keysOf rows) ≡ length rows) × (c ≡ doneUp b t)))
   landed-up target rows c f l = go (ok c) refl l
     where
       go : (x : Res Cursor) → x ≡ ok c → LandsUp b t target rows x
           → WalksAll b room c (drop (leading (isBelow target) (keysOf rows)) rows)
-          × (((leading (isBelow target) (keysOf rows) < length rows) × (c .done ≡ false)) ⊎ ((leading (isBelow target) (keysOf rows) ≡ length rows) × (c ≡ doneUp t)))
+          × (((leading (isBelow target) (keysOf rows) < length rows) × (c .done ≡ false)) ⊎ ((leading (isBelow target) (keysOf rows) ≡ length rows) × (c ≡ doneUp b t)))
       go x e (lands d h l) =
           let same : d ≡ c = ok-inj e in
           rw (← same) (walks-before b t room d (drop (leading (isBelow target) (keysOf rows)) rows) l (room-drop room (leading (isBelow target) (keysOf rows)) rows f), inl (h, l .stands .unmarked))
       go x e (passes h) =
-          let same : doneUp t ≡ c = ok-inj e in
+          let same : doneUp b t ≡ c = ok-inj e in
           let none : drop (leading (isBelow target) (keysOf rows)) rows ≡ [] = drop-of-length-le rows {i = leading (isBelow target) (keysOf rows)} (omega (arith, h)) in
           (rw (none, ← same) over-up, inr (h, sym same))
 

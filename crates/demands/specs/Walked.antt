@@ -33,7 +33,7 @@ pub record ReachedOn (n : ℕ) : Type 0 where
 pub data StopsUp (b : List ℕ) (t : Trailer) (place : ℕ) (c : Cursor) : Type 0 where
   in-before : c .region + 1 ≡ place → StopsUp b t place c
   at-start : c .region ≡ place → c .at ≡ offsetAt b t place → StopsUp b t place c
-  nowhere : place ≡ t .count → c ≡ doneUp t → StopsUp b t place c
+  nowhere : place ≡ t .count → c ≡ doneUp b t → StopsUp b t place c
 
 -- which region a descending walk reads: the one before that restart's (not below 0), or that of the last of a run of restarts, from this one on, which all have the target as their key
 pub data StartsDown (b : List ℕ) (t : Trailer) (target : Key) (place region : ℕ) : Type 0 where

@@ -13,7 +13,7 @@ use lib.Seq.{getD-drop, length-take-le}
 use Rattle.layout.specs.Res.{Res, ok, refuse, bind}
 use Rattle.layout.specs.Key.{Key, below, same}
 use Rattle.layout.specs.Trailer.{Trailer, dataOf, Region, regionOf}
-use Rattle.layout.specs.Cursor.{descending, Cursor, cursorIs, Keyed}
+use Rattle.layout.specs.Cursor.{descending, Cursor, cursorAt, Keyed}
 use Rattle.layout.specs.Seek.{Found, tick, middle, searchIn, search, restartKey, restartBelow, searchRestarts, lastEqual, startDown, walkUp, walkDown, doneDown}
 use Rattle.demands.specs.Reads.{regionRows, regionsRows, Reads, allRows, keysOf}
 use Rattle.demands.specs.AnyOrder.{firstKey, regionAt, foundAmong, rowsOnward, lastEqualAmong, startAmong, through, leftDown}
@@ -237,7 +237,7 @@ module _ (b : List ℕ) (t : Trailer) (rss : List (List Keyed)) (q : Reads b t r
             let later : c .g .start < endsAt (c .g .start) (take (through target (keysOf K)) K) =
             rw e (ends-later (t .size) (dataOf b t) (c .g) (c .g .start) [] K j (c .rows-here) inside (omega (arith, most, e))) in
             rw (← falling-found b t target region region (falling-start b t target region) (c .g) (c .used) (endsAt (c .g .start) (take (through target (keysOf K)) K)) best later)
-            (after (cursorIs descending region (endsAt (c .g .start) (take (through target (keysOf K)) K)) [] false) some
+            (after (cursorAt b t descending region (endsAt (c .g .start) (take (through target (keysOf K)) K)) [] false) some
             (stands-after b t region (c .g) (take region rss) K (through target (keysOf K)) (q .trailer-good) (s .inside) (c .used) (c .front) (c .rows-here)))
           where
             some : 0 < length (leftDown target rss region)

@@ -1,7 +1,7 @@
 -- An ascending cursor over a block whose rows are read: `Before` says which rows are still to come. A step gives the first of them and stands before the
 -- rest; with none left it says "done", and so does every later step. The order of keys is not asked.
 use Prim.Native.Nat.{ℕ, zero, suc, _+_, _-_, _<_, _≤_, zero-le}
-use mathlib.Core.Path.{_≡_, refl, ap, sym, _∙_}
+use mathlib.Core.Path.{_≡_, refl, ap, sym, _∙_, subst}
 use mathlib.Core.Bool.{true, false}
 use mathlib.Core.List.{List, [], _∷_, _++_}
 use mathlib.Core.Logic.{⊎-elim}
@@ -14,16 +14,19 @@ use Rattle.layout.specs.Limits.{maxKey}
 use Rattle.layout.specs.Key.{Key}
 use Rattle.layout.specs.RowRead.{RowRead, keyLength, keyOf}
 use Rattle.layout.specs.Trailer.{Trailer, trailerOf, dataOf, offsetAt, Region, regionOf, rowIn}
-use Rattle.layout.specs.Cursor.{ascending, Cursor, cursorIs, marked, opened, Keyed, keyed, found, done, stepIs, pastRow, stepUp, next}
-use Rattle.demands.specs.Reads.{regionRows, regionsRows, Reads, allRows}
+use Rattle.layout.specs.Number.{wrongAfter}
+use Rattle.layout.specs.Cursor.{ascending, Cursor, cursorIs, marked, openedUp, openBlock, Keyed, keyed, found, done, stepIs, pastRow, stepUp, next}
+use Rattle.demands.specs.Reads.{regionRows, regionsRows, Reads, allRows, Names}
 use Rattle.layout.specs.Laws.Res.{ltb-cases}
 use Rattle.layout.specs.Laws.Trailer.{RegionTells, regionOf-tells, trailerOf-tells, OffsetsTell, allOffsets-tell}
 use Rattle.layout.specs.Laws.Tells.{RowEnds, rowIn-ends}
 use Rattle.layout.specs.Laws.Carry.{keyOf-length}
-use Rattle.layout.specs.Laws.Cursor.{next-up, next-marked, up-done, up-found, up-short}
+use Rattle.layout.specs.Laws.Number.{counting-right}
+use Rattle.layout.specs.Laws.Cursor.{open-along, along-up, next-up, next-marked, up-done, up-found, up-short}
 use Rattle.demands.specs.Laws.Reads.{region-at, region-over, RegionsAre, next as next-region, regions-are, regions-none, allRows-none, allRows-next}
+use Rattle.demands.specs.Laws.Counted.{Counted, counted-start, counted-on, names-up}
 
--- a cursor that stands in a region before the rows `here` of it, after which the regions `rest` come
+-- a cursor that stands in a region before the rows `here` of it, after which the regions `rest` come; its number is that of the rows passed there
 pub record InRegion (b : List ℕ) (t : Trailer) (c : Cursor) (here : List Keyed) (rest : List (List Keyed)) : Type 0 where
   pub g : Region
   pub goes-up : c .order ≡ ascending
@@ -35,6 +38,7 @@ pub record InRegion (b : List ℕ) (t : Trailer) (c : Cursor) (here : List Keyed
   pub high : c .at ≤ g .reach
   pub whole : c .keyLen ≡ length (c .key)
   pub fits : c .keyLen ≤ maxKey
+  pub counted : Counted (dataOf b t) g (c .at) (c .key) (c .number)
   pub left : ℕ
   pub enough : g .end ≤ c .at + left
   pub rows-here : regionRows left (dataOf b t) g (c .at) (c .key) ≡ ok here
@@ -51,14 +55,14 @@ pub record Before (b : List ℕ) (t : Trailer) (c : Cursor) (rows : List Keyed) 
 
 -- the next region, from its start
 enter : (b : List ℕ) (t : Trailer) (region at : ℕ) (rest : List (List Keyed)) → trailerOf b ≡ ok t → suc region < t .count → offsetAt b t (suc region) ≡ at
-    → regionsRows (t .count - suc region) b t (suc region) ≡ ok rest → Before b t (cursorIs ascending (suc region) at [] false) (allRows rest)
+    → regionsRows (t .count - suc region) b t (suc region) ≡ ok rest → Before b t (cursorIs ascending (suc region) at 0 [] false) (allRows rest)
 enter b t region at rest e h o p = go (t .count - suc region) (omega arith) p
   where
-    go : (n : ℕ) → n ≡ t .count - suc region → regionsRows n b t (suc region) ≡ ok rest → Before b t (cursorIs ascending (suc region) at [] false) (allRows rest)
+    go : (n : ℕ) → n ≡ t .count - suc region → regionsRows n b t (suc region) ≡ ok rest → Before b t (cursorIs ascending (suc region) at 0 [] false) (allRows rest)
     go zero z p = absurd (omega arith)
     go (suc n) z p = made rest (regions-are n b t (suc region) rest p)
       where
-        made : (rest : List (List Keyed)) → RegionsAre n b t (suc region) rest → Before b t (cursorIs ascending (suc region) at [] false) (allRows rest)
+        made : (rest : List (List Keyed)) → RegionsAre n b t (suc region) rest → Before b t (cursorIs ascending (suc region) at 0 [] false) (allRows rest)
         made rest (next-region g rows more u q w) =
             let tells = regionOf-tells b t (suc region) g u in
             let s : g .start ≡ at = tells .from ∙ o in
@@ -78,6 +82,7 @@ enter b t region at rest e h o p = go (t .count - suc region) (omega arith) p
                     high = omega (arith, tells .rises, tells .near);
                     whole = refl;
                     fits = zero-le;
+                    counted = subst (λ (x : ℕ). Counted (dataOf b t) g x [] 0) s (counted-start (dataOf b t) g);
                     left = t .size;
                     enough = omega (arith, tells .inside);
                     rows-here = rw (← s) q;
@@ -90,12 +95,17 @@ module _ (b : List ℕ) (t : Trailer) (c : Cursor) (room : ℕ) where
   up : {here : List Keyed} {rest : List (List Keyed)} → InRegion b t c here rest → next c b room ≡ stepUp c b t room
   up i = next-up c b room t (i .trailer-good) (i .inside) (i .fits) (i .unmarked) (i .goes-up)
 
+  -- such a number passes the step's test
+  right : {here : List Keyed} {rest : List (List Keyed)} (i : InRegion b t c here rest) → wrongAfter (c .at - i .g .start) (c .number) ≡ false
+  right i = counting-right (dataOf b t) (i .g) (c .at) (length (c .key)) (c .number) (i .counted .counting)
+
   -- the first row to come is given, and the cursor stands before the rest; a key buffer that is too short answers 19
   pub record Gives (k : Keyed) (rows : List Keyed) : Type 0 where
     pub moved : Cursor
     pub fits-key : keyLength (k .row) ≤ maxKey
     pub is-key : length (k .key) ≡ keyLength (k .row)
-    pub gives : keyLength (k .row) ≤ room → next c b room ≡ ok (stepIs moved (found (k .row) (k .key)))
+    pub named : Names b t (c .region) (c .number) k
+    pub gives : keyLength (k .row) ≤ room → next c b room ≡ ok (stepIs moved (found (c .region) (c .number) (k .row) (k .key)))
     pub refuses : room < keyLength (k .row) → next c b room ≡ refuse 19
     pub then-before : Before b t moved rows
 
@@ -111,8 +121,9 @@ module _ (b : List ℕ) (t : Trailer) (c : Cursor) (room : ℕ) where
         moved = pastRow c (i .g) r (keyOf (dataOf b t) (c .key) r);
         fits-key = w .fits;
         is-key = keyOf-length (dataOf b t) (c .at) (i .g .end) (c .key) (eqb (c .at) (i .g .start)) r p;
-        gives = λ f. up i ∙ up-found c b t room (i .g) (i .used) (i .low) (i .high) ne r p′ f;
-        refuses = λ f. up i ∙ up-short c b t room (i .g) (i .used) (i .low) (i .high) ne r p′ f;
+        named = names-up b t (c .region) (i .g) (i .used) (c .at) (c .key) (c .number) r (i .counted) p;
+        gives = λ f. up i ∙ up-found c b t room (i .g) (i .used) (i .low) (i .high) (right i) ne r p′ f;
+        refuses = λ f. up i ∙ up-short c b t room (i .g) (i .used) (i .low) (i .high) (right i) ne r p′ f;
         then-before = ⊎-elim (λ s. handed w (s .0) (s .1)) (λ s. stays w (s .0) (s .1)) (ltb-cases (i .g .reach) (r .next));
       }
     where
@@ -162,6 +173,7 @@ module _ (b : List ℕ) (t : Trailer) (c : Cursor) (room : ℕ) where
                   high = s;
                   whole = refl;
                   fits = rw (keyOf-length (dataOf b t) (c .at) (i .g .end) (c .key) (eqb (c .at) (i .g .start)) r p) (w .fits);
+                  counted = counted-on (dataOf b t) (i .g) (c .at) (c .key) (c .number) (i .counted) r p;
                   left = m;
                   enough = n;
                   rows-here = u;
@@ -211,7 +223,7 @@ module _ (b : List ℕ) (t : Trailer) (c : Cursor) (room : ℕ) where
   pub before-done : Before b t c [] → next c b room ≡ ok (stepIs (marked c) done)
   before-done q =
       region-at (q .stands .left) (dataOf b t) (q .stands .g) (c .at) (c .key) (q .here) (q .stands .rows-here) (q .stands .enough)
-      (λ over none. up (q .stands) ∙ up-done c b t room (q .stands .g) (q .stands .used) (q .stands .low) (q .stands .high) (at-end over))
+      (λ over none. up (q .stands) ∙ up-done c b t room (q .stands .g) (q .stands .used) (q .stands .low) (q .stands .high) (right (q .stands)) (at-end over))
       (λ r qs m h p u n is. absurd (some r qs (q .are ∙ ap (λ (x : List Keyed). x ++ allRows (q .rest)) is)))
     where
       at-end : q .stands .g .end ≤ c .at → c .at ≡ q .stands .g .end
@@ -227,17 +239,17 @@ marked-stays b t c room e h k m = next-marked c b room t e h k m
 
 -- ---- opening stands before all rows
 
-pub opened-before : (b : List ℕ) (t : Trailer) (rss : List (List Keyed)) → Reads b t rss → Before b t (opened ascending t) (allRows rss)
+pub opened-before : (b : List ℕ) (t : Trailer) (rss : List (List Keyed)) → Reads b t rss → Before b t openedUp (allRows rss)
 opened-before b t rss q = go (t .count) refl (trailerOf-tells b t (q .trailer-good) .1) (q .rows-read)
   where
     offs : OffsetsTell b t
     offs = allOffsets-tell b t tt (q .offsets-good)
 
-    go : (n : ℕ) → n ≡ t .count → 1 ≤ t .count → regionsRows n b t 0 ≡ ok rss → Before b t (cursorIs ascending 0 0 [] false) (allRows rss)
+    go : (n : ℕ) → n ≡ t .count → 1 ≤ t .count → regionsRows n b t 0 ≡ ok rss → Before b t (cursorIs ascending 0 0 0 [] false) (allRows rss)
     go zero z h p = absurd (omega arith)
     go (suc n) z h p = made rss (regions-are n b t 0 rss p)
       where
-        made : (rss : List (List Keyed)) → RegionsAre n b t 0 rss → Before b t (cursorIs ascending 0 0 [] false) (allRows rss)
+        made : (rss : List (List Keyed)) → RegionsAre n b t 0 rss → Before b t (cursorIs ascending 0 0 0 [] false) (allRows rss)
         made rss (next-region g rows more u f w) =
             let tells = regionOf-tells b t 0 g u in
             let s : g .start ≡ 0 = tells .from ∙ offs .first in
@@ -257,6 +269,7 @@ opened-before b t rss q = go (t .count) refl (trailerOf-tells b t (q .trailer-go
                     high = zero-le;
                     whole = refl;
                     fits = zero-le;
+                    counted = subst (λ (x : ℕ). Counted (dataOf b t) g x [] 0) s (counted-start (dataOf b t) g);
                     left = t .size;
                     enough = omega (arith, tells .inside);
                     rows-here = rw (← s) f;
@@ -264,3 +277,6 @@ opened-before b t rss q = go (t .count) refl (trailerOf-tells b t (q .trailer-go
                   };
               are = allRows-next rows more;
             }
+
+pub opens-up : (b : List ℕ) (t : Trailer) (rss : List (List Keyed)) → Reads b t rss → openBlock b ascending ≡ ok openedUp
+opens-up b t rss q = open-along b ascending t (q .trailer-good) (q .offsets-good) ∙ along-up b t

@@ -9,11 +9,12 @@ use native.Mathlib.Omega.{arith}
 use lib.Dec.{ltb, eqb}
 use lib.ListN.{length}
 use Rattle.layout.specs.Res.{ok}
-use Rattle.layout.specs.Key.{Key}
+use Rattle.layout.specs.Key.{Key, below}
 use Rattle.layout.specs.RowRead.{RowRead, keyOf}
 use Rattle.layout.specs.Trailer.{Trailer, dataOf, Region, regionOf, rowIn}
 use Rattle.layout.specs.Number.{endedBy, numberAt}
 use Rattle.layout.specs.Cursor.{Keyed, keyed, rowEndingAt}
+use Rattle.layout.specs.Seek.{Stop, stopIs, walkRegion}
 use Rattle.demands.specs.Reads.{regionRows, rowNumber, Names}
 use Rattle.layout.specs.Laws.Res.{bind-then, guard-then, cond-ok, ok-inj}
 use Rattle.layout.specs.Laws.Carry.{keyOf-length}
@@ -83,6 +84,22 @@ module _ (d : List ℕ) (g : Region) where
       rw (← is, here) (counted-next at before n c r p))
       (cond-ok (ltb (r .next) stop) _ _ k q)
 
+  -- a walk stops where it has counted
+  counted-walk : (target : Key) (left at : ℕ) (before : Key) (n : ℕ) (s : Stop) → Counted d g at before n → walkRegion left d g target at before ≡ ok s
+      → (m : ℕ) × Counted d g (s .at) (s .before) m
+  unfolding walkRegion
+  counted-walk target zero at before n s c e = let is : stopIs at before ≡ s = ok-inj e in rw (← is) (n, c)
+  counted-walk target (suc left) at before n s c e =
+      ⊎-elim
+      (λ t.
+      bind-then (rowIn d g at (length before)) _ s (t .1) λ r p q.
+      ⊎-elim
+      (λ u. counted-walk target left (r .next) (keyOf d before r) (n + 1) s (counted-on at before n c r p) (u .1))
+      (λ u. let is : stopIs at before ≡ s = ok-inj (u .1) in rw (← is) (n, c))
+      (cond-ok (below (keyOf d before r) target) _ _ s q))
+      (λ t. let is : stopIs at before ≡ s = ok-inj (t .1) in rw (← is) (n, c))
+      (cond-ok (ltb at (g .end)) _ _ s e)
+
 -- ---- in a region of a block
 
 module _ (b : List ℕ) (t : Trailer) (region : ℕ) (g : Region) (u : regionOf b t region ≡ ok g) where
@@ -92,6 +109,12 @@ module _ (b : List ℕ) (t : Trailer) (region : ℕ) (g : Region) (u : regionOf 
   -- at a region's start no row is passed
   pub none-passed : numberAt b t region (g .start) ≡ 0
   none-passed = counted-true (g .start) [] 0 (counted-start (dataOf b t) g)
+
+  -- where an ascending seek stops the number is true
+  pub counted-stop : (target : Key) (left : ℕ) (s : Stop) → walkRegion left (dataOf b t) g target (g .start) [] ≡ ok s → Counted (dataOf b t) g (s .at) (s .before) (numberAt b t region (s .at))
+  counted-stop target left s e =
+      let c = counted-walk (dataOf b t) g target left (g .start) [] 0 s (counted-start (dataOf b t) g) e in
+      rw (counted-true (s .at) (s .before) (c .0) (c .1)) (c .1)
 
   -- the pair of a step up
   pub names-up : (at : ℕ) (before : Key) (n : ℕ) (r : RowRead) → Counted (dataOf b t) g at before n → rowIn (dataOf b t) g at (length before) ≡ ok r

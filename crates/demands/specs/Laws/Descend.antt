@@ -13,12 +13,14 @@ use Rattle.layout.specs.Limits.{maxKey}
 use Rattle.layout.specs.Key.{Key}
 use Rattle.layout.specs.RowRead.{RowRead, keyLength, keyOf}
 use Rattle.layout.specs.Trailer.{Trailer, trailerOf, dataOf, offsetAt, Region, regionOf, rowIn}
-use Rattle.layout.specs.Cursor.{descending, Cursor, marked, opened, Keyed, keyed, found, done, stepIs, rowEndingAt, backPast, stepBackIn, stepDown, next}
-use Rattle.demands.specs.Reads.{regionRows, regionsRows, Reads, allRows}
-use Rattle.layout.specs.Laws.Trailer.{regionOf-tells, trailerOf-tells}
+use Rattle.layout.specs.Number.{numberAt}
+use Rattle.layout.specs.Cursor.{descending, Cursor, marked, openedDown, openAlong, openBlock, Keyed, keyed, found, done, stepIs, rowEndingAt, backPast, stepBackIn, stepDown, next}
+use Rattle.demands.specs.Reads.{regionRows, regionsRows, Reads, allRows, Names}
+use Rattle.layout.specs.Laws.Trailer.{RegionTells, regionOf-tells, trailerOf-tells}
 use Rattle.layout.specs.Laws.Tells.{rowIn-ends}
-use Rattle.layout.specs.Laws.Cursor.{next-down, down-done, down-before-in, down-in, back-found, back-short, ended}
+use Rattle.layout.specs.Laws.Cursor.{next-down, down-done, down-before-in, down-in, back-found, back-short, ended, open-along, along-down}
 use Rattle.demands.specs.Laws.Reads.{region-at, endsAt, endsAt-snoc, RegionsAre, next as next-region, regions-are, regions-none, allRows-none}
+use Rattle.demands.specs.Laws.Counted.{none-passed, names-back}
 
 -- ---- the step back finds the row that ends at its place
 
@@ -169,37 +171,48 @@ pub record After (b : List ℕ) (t : Trailer) (c : Cursor) (rows : List Keyed) :
   pub front : Front b t (c .region) fs
   pub rows-here : regionRows (t .size) (dataOf b t) g (g .start) [] ≡ ok (ps ++ qs)
   pub stands : c .at ≡ endsAt (g .start) ps
+  pub numbered : c .number ≡ numberAt b t (c .region) (c .at)
   pub are : rows ≡ allRows fs ++ ps
 
 module _ (b : List ℕ) (t : Trailer) (c : Cursor) (room : ℕ) where
   down : {rows : List Keyed} → After b t c rows → next c b room ≡ stepDown c b t room
   down a = next-down c b room t (a .trailer-good) (a .inside) (a .fits) (a .unmarked) (a .goes-down)
 
+  -- at a region's start its number is 0
+  none-yet : {rows : List Keyed} (a : After b t c rows) → c .at ≡ a .g .start → c .number ≤ 0
+  none-yet a here = omega (arith, a .numbered ∙ ap (numberAt b t (c .region)) here ∙ none-passed b t (c .region) (a .g) (a .used))
+
   -- the last row before it is given, and the cursor stands after the others; a key buffer that is too short answers 19
   pub record GivesBack (k : Keyed) (rows : List Keyed) : Type 0 where
     pub moved : Cursor
+    pub region : ℕ
+    pub number : ℕ
     pub fits-key : keyLength (k .row) ≤ maxKey
     pub is-key : length (k .key) ≡ keyLength (k .row)
-    pub gives : keyLength (k .row) ≤ room → next c b room ≡ ok (stepIs moved (found (k .row) (k .key)))
+    pub named : Names b t region number k
+    pub gives : keyLength (k .row) ≤ room → next c b room ≡ ok (stepIs moved (found region number (k .row) (k .key)))
     pub refuses : room < keyLength (k .row) → next c b room ≡ refuse 19
     pub then-after : After b t moved rows
 
   -- the row k of a region, which ends where the cursor stands, found and given
-  gives-in : (region : ℕ) (g : Region) (fs : List (List Keyed)) (ps : List Keyed) (k : Keyed) (qs : List Keyed) → next c b room ≡ stepBackIn c b t room region g
-      → c .order ≡ descending → c .done ≡ false → trailerOf b ≡ ok t → region < t .count → c .keyLen ≤ maxKey → regionOf b t region ≡ ok g → Front b t region fs
+  gives-in : (region : ℕ) (g : Region) (fs : List (List Keyed)) (ps : List Keyed) (k : Keyed) (qs : List Keyed) (n : ℕ) → next c b room ≡ stepBackIn c b t room region g n
+      → n ≡ numberAt b t region (c .at) → c .order ≡ descending → c .done ≡ false → trailerOf b ≡ ok t → region < t .count → c .keyLen ≤ maxKey → regionOf b t region ≡ ok g → Front b t region fs
       → regionRows (t .size) (dataOf b t) g (g .start) [] ≡ ok (ps ++ (k ∷ qs)) → c .at ≡ k .row .next → GivesBack k (allRows fs ++ ps)
-  gives-in region g fs ps k qs e dir un tr i f u fr h s =
+  gives-in region g fs ps k qs n e num dir un tr i f u fr h s =
       let tells = regionOf-tells b t region g u in
       let fuel : g .end ≤ g .start + t .size = omega (arith, tells .inside) in
       let behind = ends-behind (t .size) (dataOf b t) g (g .start) [] ps k qs h fuel in
       let is : rowEndingAt (c .at) (dataOf b t) g (c .at) (g .start) [] ≡ ok k = rw s (finds (t .size) (dataOf b t) g (g .start) [] ps k qs (k .row .next) h fuel (omega arith)) in
       let w = ended (c .at) (dataOf b t) g (c .at) (g .start) [] k is in
       record {
-        moved = backPast c region (k .row);
+        moved = backPast c region (numberAt b t region (k .row .start)) (k .row);
+        region = region;
+        number = numberAt b t region (k .row .start);
         fits-key = w .fits;
         is-key = w .whole;
-        gives = λ l. e ∙ back-found c b t room region g k is l;
-        refuses = λ l. e ∙ back-short c b t room region g k is l;
+        named = names-back b t region g u (c .at) (c .at) k is;
+        gives = λ l. e ∙ back-found c b t room region g n k is num l;
+        refuses = λ l. e ∙ back-short c b t room region g n k is num l;
         then-after =
             record {
               g = g;
@@ -215,6 +228,7 @@ module _ (b : List ℕ) (t : Trailer) (c : Cursor) (room : ℕ) where
               front = fr;
               rows-here = h;
               stands = sym (behind .2);
+              numbered = refl;
               are = refl;
             };
       }
@@ -229,7 +243,7 @@ module _ (b : List ℕ) (t : Trailer) (c : Cursor) (room : ℕ) where
       let low : a .g .start ≤ c .at = omega (arith, behind .0) in
       let high : c .at ≤ a .g .end = omega (arith, behind .1) in
       let ne : c .at ≡ a .g .start → ⊥ = λ z. absurd (omega (arith, behind .0)) in
-      gives-in (c .region) (a .g) (a .fs) ps k (a .qs) (down a ∙ down-in c b t room (a .g) (a .used) low high ne) (a .goes-down) (a .unmarked) (a .trailer-good) (a .inside) (a .fits) (a .used)
+      gives-in (c .region) (a .g) (a .fs) ps k (a .qs) (c .number) (down a ∙ down-in c b t room (a .g) (a .used) low high ne) (a .numbered) (a .goes-down) (a .unmarked) (a .trailer-good) (a .inside) (a .fits) (a .used)
       (a .front)
       h
       s
@@ -250,9 +264,9 @@ module _ (b : List ℕ) (t : Trailer) (c : Cursor) (room : ℕ) where
       ∙ sym (reaches-end (t .size) (dataOf b t) f (f .start) [] (ks ++ (k ∷ [])) h (omega (arith, tells₁ .inside)) (omega (arith, tells₁ .rises)))
       ∙ endsAt-snoc (f .start) ks k in
       let nz : c .region ≡ 0 → ⊥ = λ z. absurd (omega arith) in
-      let step : next c b room ≡ stepBackIn c b t room m f =
-      down a ∙ down-before-in c b t room (a .g) (a .used) (omega arith) (omega (arith, tells .rises)) here nz u′ ∙ ap (λ (n : ℕ). stepBackIn c b t room n f) prev in
-      gives-in m f fs ks k [] step (a .goes-down) (a .unmarked) (a .trailer-good) (omega (arith, a .inside)) (a .fits) u fr h s
+      let step : next c b room ≡ stepBackIn c b t room m f (numberAt b t m (c .at)) =
+      down a ∙ down-before-in c b t room (a .g) (a .used) (omega arith) (omega (arith, tells .rises)) here (none-yet a here) nz u′ ∙ ap (λ (n : ℕ). stepBackIn c b t room n f (numberAt b t n (c .at))) prev in
+      gives-in m f fs ks k [] (numberAt b t m (c .at)) step refl (a .goes-down) (a .unmarked) (a .trailer-good) (omega (arith, a .inside)) (a .fits) u fr h s
 
   pub after-gives : (rows : List Keyed) (k : Keyed) → After b t c (rows ++ (k ∷ [])) → GivesBack k rows
   after-gives rows k a = go (a .ps) refl (from-end (a .ps))
@@ -283,7 +297,7 @@ module _ (b : List ℕ) (t : Trailer) (c : Cursor) (room : ℕ) where
       nothing n fs z f e none =
           let tells = regionOf-tells b t (c .region) (a .g) (a .used) in
           let here : c .at ≡ a .g .start = a .stands ∙ ap (endsAt (a .g .start)) e ∙ endsAt-none (a .g .start) in
-          down a ∙ down-done c b t room (a .g) (a .used) (omega arith) (omega (arith, tells .rises)) here (sym z)
+          down a ∙ down-done c b t room (a .g) (a .used) (omega arith) (omega (arith, tells .rises)) here (none-yet a here) (sym z)
       nothing n fs z f e (then m gs h ks fr u p) = absurd (inside ks p (from-end ks) (a .are ∙ rw (e, ← f) (append-nil (allRows (gs ++ (ks ∷ []))) ∙ allRows-end gs ks)))
         where
           inside : (ks : List Keyed) → regionRows (t .size) (dataOf b t) h (h .start) [] ≡ ok ks → FromEnd ks → [] ≡ allRows gs ++ ks → ⊥
@@ -296,10 +310,10 @@ module _ (b : List ℕ) (t : Trailer) (c : Cursor) (room : ℕ) where
 
 -- ---- opening stands after all rows
 
-pub opened-after : (b : List ℕ) (t : Trailer) (rss : List (List Keyed)) → Reads b t rss → After b t (opened descending t) (allRows rss)
+pub opened-after : (b : List ℕ) (t : Trailer) (rss : List (List Keyed)) → Reads b t rss → After b t (openedDown b t) (allRows rss)
 opened-after b t rss q = go (t .count) rss refl refl (rw (zero-add (t .count)) at (front-more (t .count) b t 0 [] rss none (q .rows-read)))
   where
-    go : (n : ℕ) (fs : List (List Keyed)) → n ≡ t .count → fs ≡ rss → Front b t n fs → After b t (opened descending t) (allRows rss)
+    go : (n : ℕ) (fs : List (List Keyed)) → n ≡ t .count → fs ≡ rss → Front b t n fs → After b t (openedDown b t) (allRows rss)
     go n fs z e none = absurd (omega (arith, trailerOf-tells b t (q .trailer-good) .1))
     go n fs z e (then m gs g ks fr u p) =
         let tells = regionOf-tells b t m g u in
@@ -319,5 +333,26 @@ opened-after b t rss q = go (t .count) rss refl refl (rw (zero-add (t .count)) a
           front = rw (← r) fr;
           rows-here = p ∙ ap ok (sym (append-nil ks));
           stands = sym (last .0) ∙ sym (reaches-end (t .size) (dataOf b t) g (g .start) [] ks p (omega (arith, tells .inside)) (omega (arith, tells .rises)));
+          numbered = refl;
           are = ap allRows (sym e) ∙ allRows-end gs ks;
         }
+
+-- the last region is read first: its rows reach the data's end
+pub opens-down : (b : List ℕ) (t : Trailer) (rss : List (List Keyed)) → Reads b t rss → openBlock b descending ≡ ok (openedDown b t)
+opens-down b t rss q = open-along b descending t (q .trailer-good) (q .offsets-good) ∙ go (a .ps) refl (from-end (a .ps))
+  where
+    a : After b t (openedDown b t) (allRows rss)
+    a = opened-after b t rss q
+
+    tells : RegionTells b t (t .count - 1) (a .g)
+    tells = regionOf-tells b t (t .count - 1) (a .g) (a .used)
+
+    go : (ps : List Keyed) → a .ps ≡ ps → FromEnd ps → openAlong descending b t ≡ ok (openedDown b t)
+    go ps e empty =
+        let here : t .size ≡ a .g .start = a .stands ∙ ap (endsAt (a .g .start)) e ∙ endsAt-none (a .g .start) in
+        absurd (omega (arith, tells .rises, tells .inside))
+    go ps e (ending xs x) =
+        let h : regionRows (t .size) (dataOf b t) (a .g) (a .g .start) [] ≡ ok (xs ++ (x ∷ a .qs)) = a .rows-here ∙ ap ok (ap (λ (y : List Keyed). y ++ a .qs) e ∙ append-assoc xs (x ∷ []) (a .qs)) in
+        let s : t .size ≡ x .row .next = a .stands ∙ ap (endsAt (a .g .start)) e ∙ endsAt-snoc (a .g .start) xs x in
+        let is = finds (t .size) (dataOf b t) (a .g) (a .g .start) [] xs x (a .qs) (t .size) h (omega (arith, tells .inside)) (omega arith) in
+        along-down b t (a .g) (a .used) x (ap (λ (n : ℕ). rowEndingAt (t .size) (dataOf b t) (a .g) n (a .g .start) []) s ∙ is)

@@ -14,7 +14,7 @@ use Rattle.layout.specs.Res.{Res, ok}
 use Rattle.layout.specs.Key.{Key, below, same, leading, notAbove}
 use Rattle.layout.specs.RowRead.{RowRead, keyOf}
 use Rattle.layout.specs.Trailer.{Trailer, trailerOf, dataOf, Region, regionOf, rowIn}
-use Rattle.layout.specs.Cursor.{descending, Cursor, cursorIs, Keyed, keyed}
+use Rattle.layout.specs.Cursor.{descending, Cursor, cursorAt, Keyed, keyed}
 use Rattle.layout.specs.Seek.{Found, restartKey, restartBelow, lastEqual, startDown, lastAtOrBelow, doneDown, walkDown, soughtIs, seek}
 use Rattle.demands.specs.Reads.{regionRows, regionsRows, Reads, allRows, keysOf}
 use Rattle.demands.specs.AnyOrder.{withSome, through}
@@ -115,7 +115,7 @@ pub data LandsDown (b : List ℕ) (t : Trailer) (target : Key) (rows : List Keye
 
 -- a cursor that stands after some rows of a region, and all of the regions before
 pub stands-after : (b : List ℕ) (t : Trailer) (region : ℕ) (g : Region) (fs : List (List Keyed)) (ks : List Keyed) (j : ℕ) → trailerOf b ≡ ok t → region < t .count → regionOf b t region ≡ ok g
-    → Front b t region fs → regionRows (t .size) (dataOf b t) g (g .start) [] ≡ ok ks → After b t (cursorIs descending region (endsAt (g .start) (take j ks)) [] false) (allRows fs ++ take j ks)
+    → Front b t region fs → regionRows (t .size) (dataOf b t) g (g .start) [] ≡ ok ks → After b t (cursorAt b t descending region (endsAt (g .start) (take j ks)) [] false) (allRows fs ++ take j ks)
 stands-after b t region g fs ks j e h u front p =
     record {
       g = g;
@@ -131,6 +131,7 @@ stands-after b t region g fs ks j e h u front p =
       front = front;
       rows-here = p ∙ ap ok (sym (take-append-drop j ks));
       stands = refl;
+      numbered = refl;
       are = refl;
     }
 
@@ -224,7 +225,7 @@ starts-lands b t target rows region e o st = ⊎-elim (λ f. here (f .0) (f .1))
         let later : s .g .start < endsAt (s .g .start) (take j K) =
         rw j-is (ends-later (t .size) (dataOf b t) (s .g) (s .g .start) [] K (leading (notAbove target) (keysOf (s .ks))) (s .rows-here) (omega (arith, tells .inside)) (omega arith)) in
         let most : j ≤ length K = leading-most (notAbove target) K in
-        let c : Cursor = cursorIs descending region (endsAt (s .g .start) (take j K)) [] false in
+        let c : Cursor = cursorAt b t descending region (endsAt (s .g .start) (take j K)) [] false in
         let left : take (leading (notAbove target) (keysOf rows)) rows ≡ allRows (s .fs) ++ take j K =
         ap (λ (m : ℕ). take m rows) n ∙ ap (take (length (allRows (s .fs)) + j)) (s .are) ∙ take-part (allRows (s .fs)) K (allRows (s .rest)) j most in
         rw (← falling-found b t target region region (falling-start b t target region) (s .g) (s .used) (endsAt (s .g .start) (take j K)) best later)

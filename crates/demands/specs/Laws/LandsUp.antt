@@ -16,7 +16,7 @@ use Rattle.layout.specs.Limits.{maxKey}
 use Rattle.layout.specs.Key.{Key, below, leading, isBelow}
 use Rattle.layout.specs.RowRead.{RowRead, keyOf}
 use Rattle.layout.specs.Trailer.{Trailer, trailerOf, dataOf, Region, regionOf, rowIn}
-use Rattle.layout.specs.Cursor.{ascending, Cursor, cursorIs, Keyed, keyed}
+use Rattle.layout.specs.Cursor.{ascending, Cursor, cursorAt, Keyed, keyed}
 use Rattle.layout.specs.Seek.{restartBelow, Stop, stopIs, walkRegion, doneUp, walkUp, soughtIs, seek}
 use Rattle.demands.specs.Reads.{regionRows, regionsRows, Reads, allRows, keysOf}
 use Rattle.layout.specs.Laws.Res.{ltb-cases, ok-inj}
@@ -26,6 +26,7 @@ use Rattle.layout.specs.Laws.Carry.{keyOf-length}
 use Rattle.demands.specs.Laws.Split.{split-at, searched}
 use Rattle.layout.specs.Laws.Seek.{below-is, up-from, seek-is}
 use Rattle.demands.specs.Laws.Reads.{region-at, region-over, RegionsAre, next as next-region, regions-are, regions-none, regions-cons, allRows-none, allRows-next}
+use Rattle.demands.specs.Laws.Counted.{counted-stop}
 use Rattle.demands.specs.Laws.Ascend.{Before}
 use Rattle.demands.specs.Laws.Descend.{none}
 use Rattle.demands.specs.Laws.Sorted.{NeverFall, AllPass, leading-all, leading-most, leading-step, leading-stop, leading-within, leading-whole, all-below}
@@ -124,18 +125,18 @@ unfolding walkUp
 up-on left b t target region g s u w h = rw (u, w, le-ltb (s .at) (g .end) h)
 
 pub up-here : (left : ℕ) (b : List ℕ) (t : Trailer) (target : Key) (region : ℕ) (g : Region) (s : Stop) → regionOf b t region ≡ ok g
-    → walkRegion (t .size) (dataOf b t) g target (g .start) [] ≡ ok s → s .at < g .end → walkUp (suc left) b t target region ≡ ok (cursorIs ascending region (s .at) (s .before) false)
+    → walkRegion (t .size) (dataOf b t) g target (g .start) [] ≡ ok s → s .at < g .end → walkUp (suc left) b t target region ≡ ok (cursorAt b t ascending region (s .at) (s .before) false)
 unfolding walkUp
 up-here left b t target region g s u w h = rw (u, w, lt-ltb (s .at) (g .end) h)
 
-up-none : (b : List ℕ) (t : Trailer) (target : Key) (region : ℕ) → walkUp 0 b t target region ≡ ok (doneUp t)
+up-none : (b : List ℕ) (t : Trailer) (target : Key) (region : ℕ) → walkUp 0 b t target region ≡ ok (doneUp b t)
 unfolding walkUp
 up-none b t target region = refl
 
 -- where a walk up lands among the rows to come: before the first at or above the target, or it is done
 pub data LandsUp (b : List ℕ) (t : Trailer) (target : Key) (rows : List Keyed) : Res Cursor → Type 0 where
   lands : (c : Cursor) → leading (isBelow target) (keysOf rows) < length rows → Before b t c (drop (leading (isBelow target) (keysOf rows)) rows) → LandsUp b t target rows (ok c)
-  passes : leading (isBelow target) (keysOf rows) ≡ length rows → LandsUp b t target rows (ok (doneUp t))
+  passes : leading (isBelow target) (keysOf rows) ≡ length rows → LandsUp b t target rows (ok (doneUp b t))
 
 -- rows that are all below may be skipped
 skip : (b : List ℕ) (t : Trailer) (target : Key) (ks rows : List Keyed) (x : Res Cursor) → AllPass (isBelow target) ks → LandsUp b t target rows x
@@ -180,7 +181,7 @@ walk-lands (suc left) b t target region rest e n p = go rest (regions-are left b
             let within : leading (isBelow target) (keysOf (ks ++ allRows more)) ≡ leading (isBelow target) (keysOf ks) = leading-within (isBelow target) ks (allRows more) i in
             let m : t .count - suc region ≡ left = omega arith in
             rw (up-here left b t target region g (st .s) u (st .stops) h, allRows-next ks more)
-            (lands (cursorIs ascending region (st .s .at) (st .s .before) false) (rw (within, length-append ks (allRows more)) (omega arith))
+            (lands (cursorAt b t ascending region (st .s .at) (st .s .before) false) (rw (within, length-append ks (allRows more)) (omega arith))
             (record {
               here = drop (leading (isBelow target) (keysOf ks)) ks;
               rest = more;
@@ -196,6 +197,7 @@ walk-lands (suc left) b t target region rest e n p = go rest (regions-are left b
                     high = omega (arith, tells .near);
                     whole = refl;
                     fits = st .fits;
+                    counted = counted-stop b t region g u target (t .size) (st .s) (st .stops);
                     left = st .left;
                     enough = st .enough;
                     rows-here = st .rows-left;
@@ -234,7 +236,7 @@ pub record SeeksUp (b : List ℕ) (t : Trailer) (target : Key) (rows : List Keye
 -- a landing is a cursor
 pub landed : (b : List ℕ) (t : Trailer) (target : Key) (rows : List Keyed) (x : Res Cursor) → LandsUp b t target rows x → (c : Cursor) × (x ≡ ok c)
 landed b t target rows x (lands c h q) = (c, refl)
-landed b t target rows x (passes q) = (doneUp t, refl)
+landed b t target rows x (passes q) = (doneUp b t, refl)
 
 pub seeks-up : (b : List ℕ) (t : Trailer) (rss : List (List Keyed)) (target : Key) → Reads b t rss → NeverFall [] (allRows rss) → SeeksUp b t target (allRows rss)
 seeks-up b t rss target q o =

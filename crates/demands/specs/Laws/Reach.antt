@@ -13,7 +13,7 @@ use Rattle.layout.specs.Res.{Res, ok, refuse}
 use Rattle.layout.specs.Key.{Key, below, same}
 use Rattle.layout.specs.RowRead.{RowRead, readRow, keyOf}
 use Rattle.layout.specs.Trailer.{Trailer, trailerOf, dataOf, offsetAt, Region, regionOf, rowIn}
-use Rattle.layout.specs.Cursor.{ascending, Cursor, cursorIs}
+use Rattle.layout.specs.Cursor.{ascending, Cursor, cursorAt}
 use Rattle.layout.specs.Seek.{Found, restartKey, restartBelow, searchRestarts, stopIs, walkRegion, doneUp, walkUp, seekUp, lastEqual, startDown, lastAtOrBelow, walkDown, seekDown}
 use Rattle.layout.specs.Laws.Res.{bind-then, cond-ok, ltb-cases, ok-inj}
 use Rattle.layout.specs.Laws.Key.{below-le, le-below, at-most-refl, same-is}
@@ -82,11 +82,11 @@ module _ (b : List ℕ) (t : Trailer) (target : Key) where
           let tells = regionOf-tells b t region g u in
           let w = walk-first (t .size) (dataOf b t) g r (tells .rises) (omega (arith, tells .rises, tells .inside)) p (ap (λ (z : Key). below z target) (restart-row b t region g k r u kp p) ∙ kb) in
           record {
-            x = ok (cursorIs ascending region (g .start) [] false);
+            x = ok (cursorAt b t ascending region (g .start) [] false);
             answers = λ left. up-here left b t target region g (stopIs (g .start) []) u w (tells .rises);
             there =
                 λ c e.
-                let is : cursorIs ascending region (g .start) [] false ≡ c = ok-inj e in
+                let is : cursorAt b t ascending region (g .start) [] false ≡ c = ok-inj e in
                 (sym (ap (λ (z : Cursor). z .region) is), sym (ap (λ (z : Cursor). z .at) is) ∙ tells .from);
           }
       go k kp kb g u (refuse n) p =
@@ -128,11 +128,11 @@ module _ (b : List ℕ) (t : Trailer) (target : Key) where
       bind-then (regionOf b t region) _ c e λ g u e₁.
       bind-then (walkRegion (t .size) (dataOf b t) g target (g .start) []) _ c e₁ λ s w e₂.
       ⊎-elim
-      (λ h. let is : cursorIs ascending region (s .at) (s .before) false ≡ c = ok-inj (h .1) in inl (sym (ap (λ (z : Cursor). z .region) is)))
+      (λ h. let is : cursorAt b t ascending region (s .at) (s .before) false ≡ c = ok-inj (h .1) in inl (sym (ap (λ (z : Cursor). z .region) is)))
       (λ h. inr (h .1))
       (cond-ok (ltb (s .at) (g .end)) _ _ c e₂)
 
-  up-over : (region : ℕ) (c : Cursor) → walkUp 0 b t target region ≡ ok c → c ≡ doneUp t
+  up-over : (region : ℕ) (c : Cursor) → walkUp 0 b t target region ≡ ok c → c ≡ doneUp b t
   unfolding walkUp
   up-over region c e = sym (ok-inj e)
 
