@@ -16,6 +16,7 @@ use Rattle.layout.specs.Row.{timeBytes, rowBytes, keyLengthTests}
 use Rattle.layout.specs.RowRead.{lengthsAt, headTests, headAt, flagsAt, bodyTests, bodyAt, timeAt, timesAt, rowAt, readRow, readKey}
 use Rattle.layout.specs.Block.{isRestart, shareOf, laidRow, rowsFrom, offsetsFrom, blockRows, offsets, offsetBytes, trailer, blockBytes}
 use Rattle.layout.specs.Trailer.{shortAt, Trailer, trailerOf, risingFrom, allOffsets, regionOf}
+use Rattle.layout.specs.Number.{endedFrom, endedBy, numberAt}
 use Rattle.layout.specs.Check.{check}
 use Rattle.layout.specs.Cursor.{ascending, descending, Cursor, cursorIs, Keyed}
 use Rattle.layout.specs.Seek.{foundIs, middle, search, searchIn, restartKey, restartBelow, searchRestarts, walkRegion, doneUp, walkUp, seekUp, lastEqual, startDown, walkDown, Sought, soughtIs, seek}
@@ -50,8 +51,8 @@ pub most : ReachedOn 5042
 most = each-count-reached 5042 (omega arith) (omega arith)
 
 -- one restart: one key is read
-pub one-restart : seek ascending (blockBytes 16 (rowWith (97 ∷ []) [] 9 ∷ [])) (97 ∷ []) ≡ ok (soughtIs (cursorIs ascending 0 0 [] false) 1)
-unfolding blockBytes blockRows offsets rowsFrom offsetsFrom trailer offsetBytes isRestart shareOf laidRow rowBytes timeBytes big varint varintIn common trailerOf shortAt unbig regionOf readRow rowAt headTests headAt lengthsAt varintAt readVarint readVarintIn keyLengthTests bodyTests bodyAt fixedAt flagsAt timesAt timeAt readKey below middle searchIn search restartKey restartBelow searchRestarts walkRegion walkUp seekUp seek
+pub one-restart : seek ascending (blockBytes 16 (rowWith (97 ∷ []) [] 9 ∷ [])) (97 ∷ []) ≡ ok (soughtIs (cursorIs ascending 0 0 0 [] false) 1)
+unfolding blockBytes blockRows offsets rowsFrom offsetsFrom trailer offsetBytes isRestart shareOf laidRow rowBytes timeBytes big varint varintIn common trailerOf shortAt unbig regionOf readRow rowAt headTests headAt lengthsAt varintAt readVarint readVarintIn keyLengthTests bodyTests bodyAt fixedAt flagsAt timesAt timeAt readKey below middle searchIn search restartKey restartBelow searchRestarts walkRegion walkUp seekUp seek numberAt endedBy endedFrom
 one-restart = refl
 
 -- ---- a block of three regions
@@ -159,11 +160,11 @@ module _ (up down : List Keyed) (v : WalkedAfter ascending block b maxKey up) (w
 abbrev z : Key
 z = 122 ∷ []
 
-pub done-z : seek ascending block z ≡ ok (soughtIs (doneUp t) 2)
+pub done-z : seek ascending block z ≡ ok (soughtIs (doneUp block t) 2)
 unfolding blockBytes blockRows offsets rowsFrom offsetsFrom trailer offsetBytes isRestart shareOf laidRow rowBytes timeBytes big varint varintIn common regionsRows regionRows allRows trailerOf shortAt unbig allOffsets risingFrom regionOf readRow rowAt headTests headAt lengthsAt varintAt readVarint readVarintIn keyLengthTests bodyTests bodyAt fixedAt flagsAt timesAt timeAt readKey below middle searchIn search restartKey restartBelow searchRestarts walkRegion walkUp seekUp seek
 done-z = refl
 
 pub none-after-z : (up down : List Keyed) → WalkedAfter ascending block z maxKey up → WalkedAfter descending block z maxKey down → up ≡ []
 none-after-z up down v w =
-    let is : v .c ≡ doneUp t = ap (λ (x : Sought). x .cursor) (ok-inj (sym (v .is) ∙ done-z)) in
+    let is : v .c ≡ doneUp block t = ap (λ (x : Sought). x .cursor) (ok-inj (sym (v .is) ∙ done-z)) in
     done-walks-none block 5 t rows reads maxKey room z up down v w .0 .0 (ap (λ (x : Cursor). x .done) is)

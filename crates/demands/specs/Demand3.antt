@@ -13,7 +13,7 @@ use Rattle.layout.specs.Row.{Fields, Row, encodeRow, SameRow, Typed, plainRow}
 use Rattle.layout.specs.RowRead.{RowRead, decodeRow}
 use Rattle.layout.specs.Block.{blockBytes}
 use Rattle.layout.specs.Trailer.{Trailer, dataOf}
-use Rattle.layout.specs.Cursor.{ascending, descending, opened, openBlock, Keyed}
+use Rattle.layout.specs.Cursor.{ascending, descending, openedUp, openedDown, openBlock, Keyed}
 use Rattle.demands.specs.Reads.{contentOf}
 use Rattle.demands.specs.Runs.{Lending, Call, Ran, Finishes, backwards, WalksAll, GivesFirst, KeysFit}
 use Rattle.demands.specs.RunsProof.{walks-first}

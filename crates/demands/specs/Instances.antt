@@ -22,7 +22,7 @@ use Rattle.layout.specs.Block.{isRestart, shareOf, laidRow, rowsFrom, offsetsFr
 use Rattle.layout.specs.Trailer.{shortAt, Trailer, dataOf, trailerOf, risingFrom, allOffsets, regionOf}
 use Rattle.layout.specs.Builder.{Builder, keptBuilder, fresh, newBuilder, stateTests, fits, wouldFit, add, stateAfter, build, blockAfter}
 use Rattle.layout.specs.Check.{checkRow, checkFrom, check}
-use Rattle.layout.specs.Cursor.{ascending, descending, Cursor, keptCursor, cursorIs, opened, openBlock, Keyed, stepUp, next, keyAfter, isEmpty}
+use Rattle.layout.specs.Cursor.{ascending, descending, Cursor, keptCursor, cursorIs, openedUp, openedDown, openBlock, Keyed, stepUp, next, keyAfter, isEmpty}
 use Rattle.layout.specs.Seek.{seek, soughtAfter}
 use Rattle.demands.specs.Reads.{regionRows, regionsRows, Reads, allRows, Accepts, contentOf, keysOf}
 use Rattle.layout.specs.Cases.{rowWith, rows8 as offered8}
@@ -95,15 +95,15 @@ case-2-accepted =
 abbrev block2 : List ℕ
 block2 = blockBytes 16 (rowA ∷ rowAB ∷ [])
 
-pub case-2-forwards : (t : Trailer) × (given : List Keyed) × (openBlock block2 ascending ≡ ok (opened ascending t)) × WalksAll block2 2 (opened ascending t) given
+pub case-2-forwards : (t : Trailer) × (given : List Keyed) × (openBlock block2 ascending ≡ ok openedUp) × WalksAll block2 2 openedUp given
     × (map (contentOf (dataOf block2 t)) given ≡ map plainRow (rowA ∷ rowAB ∷ []))
 case-2-forwards = reads-forwards 4096 16 calls2 (rowA ∷ rowAB ∷ []) (run start2 calls2) block2 case-2-ran case-2-finishes 2 (omega arith, (omega arith, tt))
 
-pub case-2-backwards : (t : Trailer) × (given : List Keyed) × (openBlock block2 descending ≡ ok (opened descending t)) × WalksAll block2 2 (opened descending t) (backwards given)
+pub case-2-backwards : (t : Trailer) × (given : List Keyed) × (openBlock block2 descending ≡ ok (openedDown block2 t)) × WalksAll block2 2 (openedDown block2 t) (backwards given)
     × (map (contentOf (dataOf block2 t)) given ≡ map plainRow (rowA ∷ rowAB ∷ []))
 case-2-backwards = reads-backwards 4096 16 calls2 (rowA ∷ rowAB ∷ []) (run start2 calls2) block2 case-2-ran case-2-finishes 2 (omega arith, (omega arith, tt))
 
-pub case-2-any-buffers : (rooms : List ℕ) → (t : Trailer) × (given : List Keyed) × GivesFirst block2 (opened ascending t) rooms given × GivesFirst block2 (opened descending t) rooms (backwards given)
+pub case-2-any-buffers : (rooms : List ℕ) → (t : Trailer) × (given : List Keyed) × GivesFirst block2 openedUp rooms given × GivesFirst block2 (openedDown block2 t) rooms (backwards given)
     × (map (contentOf (dataOf block2 t)) given ≡ map plainRow (rowA ∷ rowAB ∷ []))
 case-2-any-buffers rooms = reads-any-buffers 4096 16 calls2 (rowA ∷ rowAB ∷ []) (run start2 calls2) block2 case-2-ran case-2-finishes rooms
 
@@ -183,11 +183,11 @@ pub case-8-walked : BothWays block8 t8 maxKey rows8
 case-8-walked = walk-steps block8 5 t8 rows8 reads8 maxKey room8
 
 -- of steps with key buffers of 0, 8, 0 and 1 bytes two are refused, and two give the first two rows
-pub case-8-two-given : length (stepsGive block8 (opened ascending t8) (0 ∷ 8 ∷ 0 ∷ 1 ∷ [])) ≡ 2
+pub case-8-two-given : length (stepsGive block8 openedUp (0 ∷ 8 ∷ 0 ∷ 1 ∷ [])) ≡ 2
 unfolding blockBytes blockRows offsets rowsFrom offsetsFrom trailer offsetBytes isRestart shareOf laidRow rowBytes timeBytes big varint varintIn common trailerOf shortAt unbig regionOf readRow rowAt headTests headAt lengthsAt varintAt readVarint readVarintIn keyLengthTests bodyTests bodyAt fixedAt flagsAt timesAt timeAt next stepUp stepsGive
 case-8-two-given = refl
 
-pub case-8-any-buffers : GivesFirst block8 (opened ascending t8) (0 ∷ 8 ∷ 0 ∷ 1 ∷ []) rows8
+pub case-8-any-buffers : GivesFirst block8 openedUp (0 ∷ 8 ∷ 0 ∷ 1 ∷ []) rows8
 case-8-any-buffers = walk-any-buffers block8 5 t8 rows8 reads8 (0 ∷ 8 ∷ 0 ∷ 1 ∷ []) .0
 
 pub case-8-ascending : SoughtUp block8 t8 (98 ∷ []) rows8 maxKey
@@ -267,27 +267,27 @@ case-2-read-begins-no-other tail e =
     let b = case-2-decodes-second in
     read-begins-no-other 1 bytesOfA bytesOfAB tail (a .row) (b .row) (rw (append-nil bytesOfA) at (a .reads)) (a .ends) (rw (append-nil bytesOfAB) at (b .reads)) (b .ends) e .0
 
--- a cursor on case 8's block that carries "a", whatever bytes stand behind it, and two key buffers of eight bytes
+-- a cursor on case 8's block that has passed one row and carries its key "a", whatever bytes stand behind it, and two key buffers of eight bytes
 abbrev after-a : List ℕ → Cursor
-after-a x = keptCursor ascending 0 13 1 (97 ∷ x) false
+after-a x = keptCursor ascending 0 13 1 1 (97 ∷ x) false
 
 module _ (x y : List ℕ) where
   pub case-8-stale : next (after-a x) block8 8 ≡ next (after-a y) block8 8
-  case-8-stale = stale-bytes-tell-nothing ascending 0 13 1 false (97 ∷ x) (97 ∷ y) refl block8 (replicate 8 0) (replicate 8 7) refl .0
+  case-8-stale = stale-bytes-tell-nothing ascending 0 13 1 1 false (97 ∷ x) (97 ∷ y) refl block8 (replicate 8 0) (replicate 8 7) refl .0
 
   pub case-8-stale-empty : isEmpty (after-a x) block8 ≡ isEmpty (after-a y) block8
-  case-8-stale-empty = stale-bytes-empty ascending 0 13 1 false (97 ∷ x) (97 ∷ y) refl block8
+  case-8-stale-empty = stale-bytes-empty ascending 0 13 1 1 false (97 ∷ x) (97 ∷ y) refl block8
 
   pub case-8-stale-seek : soughtAfter (seek ascending block8 (98 ∷ [])) (after-a x) ≡ soughtAfter (seek ascending block8 (98 ∷ [])) (after-a y)
-  case-8-stale-seek = stale-bytes-seek ascending 0 13 1 false (97 ∷ x) (97 ∷ y) refl block8 (98 ∷ [])
+  case-8-stale-seek = stale-bytes-seek ascending 0 13 1 1 false (97 ∷ x) (97 ∷ y) refl block8 (98 ∷ [])
 
--- the step gives row 1, and its key "b" at the start of a buffer of sevens
+-- the step gives row 1, number 1 of region 0, and its key "b" at the start of a buffer of sevens
 row1 : RowRead
 row1 = record { start = 13; next = 26; shared = 0; suffixAt = 16; suffixLen = 1; held = holds 17 0; seq = 4; expire = Absent; create = Absent }
 
 pub case-8-given : let after = keyAfter (next (after-a []) block8 8) (replicate 8 7) in (take 1 after ≡ 98 ∷ []) × (drop 1 after ≡ drop 1 (replicate 8 7))
 unfolding blockBytes blockRows offsets rowsFrom offsetsFrom trailer offsetBytes isRestart shareOf laidRow rowBytes timeBytes big varint varintIn common trailerOf shortAt unbig regionOf readRow rowAt headTests headAt lengthsAt varintAt readVarint readVarintIn keyLengthTests bodyTests bodyAt fixedAt flagsAt timesAt timeAt next stepUp row1
-case-8-given = given-bytes (after-a []) block8 (replicate 8 7) (cursorIs ascending 1 26 [] false) row1 (98 ∷ []) refl refl
+case-8-given = given-bytes (after-a []) block8 (replicate 8 7) (cursorIs ascending 1 26 0 [] false) 0 1 row1 (98 ∷ []) refl refl
 
 -- a builder after case 2's first row, whatever bytes stand behind its key, over buffers of 48 bytes and two places
 abbrev with-a : List ℕ → Builder
@@ -312,7 +312,7 @@ case-2-refused = (refl, refused-add (fresh 4096 16) (replicate 48 7) (replicate 
 
 -- a cursor that says its key has a byte more than any key is refused with 18
 abbrev forged : Cursor
-forged = keptCursor ascending 0 1 (maxKey + 1) [] false
+forged = keptCursor ascending 0 1 0 (maxKey + 1) [] false
 
 pub case-8-refused-step : (next forged block8 8 ≡ refuse 18) × (keyAfter (next forged block8 8) (replicate 8 7) ≡ replicate 8 7)
 unfolding blockBytes blockRows offsets rowsFrom offsetsFrom trailer offsetBytes isRestart shareOf laidRow rowBytes timeBytes big varint varintIn common trailerOf shortAt unbig next
@@ -412,7 +412,7 @@ pub falling-refused : check blockY ≡ refuse 17
 unfolding mayFollow below
 falling-refused = finished-refused maxBlock maxInterval callsY (rowY ∷ rowA ∷ []) (run startY callsY) blockY ran-y finishes-y (λ o. clash (o .1 .0) refl)
 
-pub falling-backwards : (t : Trailer) × (given : List Keyed) × (openBlock blockY descending ≡ ok (opened descending t)) × WalksAll blockY 1 (opened descending t) (backwards given)
+pub falling-backwards : (t : Trailer) × (given : List Keyed) × (openBlock blockY descending ≡ ok (openedDown blockY t)) × WalksAll blockY 1 (openedDown blockY t) (backwards given)
     × (map (contentOf (dataOf blockY t)) given ≡ map plainRow (rowY ∷ rowA ∷ []))
 falling-backwards = reads-backwards maxBlock maxInterval callsY (rowY ∷ rowA ∷ []) (run startY callsY) blockY ran-y finishes-y 1 (omega arith, (omega arith, tt))
 

@@ -28,10 +28,10 @@ use Rattle.demands.specs.Laws.Places.{rows-once, at-left, at-right, apar
 
 -- ---- a walk gives one list of rows
 
-apart-answers : {r : RowRead} {k : Key} → done ≡ found r k → ⊥
+apart-answers : {a i : ℕ} {r : RowRead} {k : Key} → done ≡ found a i r k → ⊥
 apart-answers e = let y : _≡_ {A = ℕ} 0 1 = cc in omega arith
 
-found-one : {r s : RowRead} {x y : Key} → found r x ≡ found s y → keyed r x ≡ keyed s y
+found-one : {a i b j : ℕ} {r s : RowRead} {x y : Key} → found a i r x ≡ found b j s y → keyed r x ≡ keyed s y
 found-one e = cc
 
 pub walks-one : (b : List ℕ) (room : ℕ) (c : Cursor) (xs ys : List Keyed) → WalksAll b room c xs → WalksAll b room c ys → xs ≡ ys
@@ -39,18 +39,18 @@ walks-one b room c xs ys v w = go c xs (v .last) (v .walks) (v .ends) ys w
   where
     none : (c : Cursor) (ys : List Keyed) (l : Cursor) → Walks b room c ys l → next c b room ≡ ok (stepIs (marked c) done) → [] ≡ ys
     none c ys l (stands d) p = refl
-    none c ys l (gives d d′ d″ k ks q w) p =
+    none c ys l (gives d d′ d″ k ks t region number tr named q w) p =
         absurd (apart-answers (ap (λ (s : Step). s .answer) (ok-inj (sym p ∙ q))))
 
     go : (c : Cursor) (xs : List Keyed) (l : Cursor) → Walks b room c xs l → EndsDone b room l (marked l) → (ys : List Keyed) → WalksAll b room c ys → xs ≡ ys
     go c xs l (stands d) e ys w = none d ys (w .last) (w .walks) (e .says-done)
-    go c xs l (gives d d′ d″ k ks p v) e ys w = some d ys (w .last) (w .walks) (w .ends) p (go d′ ks d″ v e)
+    go c xs l (gives d d′ d″ k ks t region number tr named p v) e ys w = some d ys (w .last) (w .walks) (w .ends) p (go d′ ks d″ v e)
       where
-        some : (d : Cursor) (ys : List Keyed) (l : Cursor) → Walks b room d ys l → EndsDone b room l (marked l) → next d b room ≡ ok (stepIs d′ (found (k .row) (k .key)))
+        some : (d : Cursor) (ys : List Keyed) (l : Cursor) → Walks b room d ys l → EndsDone b room l (marked l) → next d b room ≡ ok (stepIs d′ (found region number (k .row) (k .key)))
             → ((zs : List Keyed) → WalksAll b room d′ zs → ks ≡ zs) → k ∷ ks ≡ ys
         some d ys l (stands d₁) f p ih = absurd (apart-answers (ap (λ (s : Step). s .answer) (ok-inj (sym (f .says-done) ∙ p))))
-        some d ys l (gives d₁ d₁′ d₁″ k₁ ks₁ q w) f p ih =
-            let z : stepIs d′ (found (k .row) (k .key)) ≡ stepIs d₁′ (found (k₁ .row) (k₁ .key)) = ok-inj (sym p ∙ q) in
+        some d ys l (gives d₁ d₁′ d₁″ k₁ ks₁ t₁ region₁ number₁ tr₁ named₁ q w) f p ih =
+            let z : stepIs d′ (found region number (k .row) (k .key)) ≡ stepIs d₁′ (found region₁ number₁ (k₁ .row) (k₁ .key)) = ok-inj (sym p ∙ q) in
             let moved : d₁′ ≡ d′ = sym (ap (λ (s : Step). s .cursor) z) in
             let row : k ≡ k₁ = found-one (ap (λ (s : Step). s .answer) z) in
             ap₂ _∷_ row (ih ks₁ (rw (← moved) (record { last = d₁″; walks = w; ends = f })))

@@ -23,7 +23,7 @@ use Rattle.layout.specs.Cursor.{ascending, descending, Cursor, openedUp, opened
 use Rattle.layout.specs.Seek.{doneUp}
 use Rattle.demands.specs.Reads.{regionsRows, Reads, allRows, ranksOf, verdict, keysOf, contentOf}
 use Rattle.demands.specs.Runs.{RoomFor, Walks, stands, gives, WalksAll}
-use Rattle.demands.specs.Rows.{DecodesBack, Rows, BothWays, offeredRanks, SoughtUp, SoughtDown, FoundFirst}
+use Rattle.demands.specs.Rows.{DecodesBack, Rows, BothWays, offeredRanks, SoughtUp, SoughtDown, Given, FoundFirst}
 use Rattle.demands.specs.RunsProof.{walks-before, walks-after}
 use Rattle.demands.specs.SoughtProof.{landed-up, landed-down}
 use Rattle.demands.specs.Proof3.{Encoded, encoded-fields}
@@ -149,13 +149,14 @@ key-at (x ∷ ks) zero k rest e = let s : x ≡ k = cc in ap (λ (y : Keyed). y 
 key-at (x ∷ ks) (suc n) k rest e = key-at ks n k rest e
 
 -- the first row that a walk gives
-first-given : (b : List ℕ) (room : ℕ) (c : Cursor) (k : Keyed) (ks : List Keyed) (last : Cursor) → Walks b room c (k ∷ ks) last
-    → (c′ : Cursor) × (next c b room ≡ ok (stepIs c′ (found (k .row) (k .key))))
+first-given : (b : List ℕ) (room : ℕ) (c : Cursor) (k : Keyed) (ks : List Keyed) (last : Cursor) → Walks b room c (k ∷ ks) last → Given b room c k
 first-given b room c k ks last w = go c (k ∷ ks) last w refl
   where
-    go : (c : Cursor) (xs : List Keyed) (last : Cursor) → Walks b room c xs last → xs ≡ k ∷ ks → (c′ : Cursor) × (next c b room ≡ ok (stepIs c′ (found (k .row) (k .key))))
+    go : (c : Cursor) (xs : List Keyed) (last : Cursor) → Walks b room c xs last → xs ≡ k ∷ ks → Given b room c k
     go c xs last (stands c₀) e = absurd (let z : _≡_ {A = ℕ} 0 1 = cc in omega arith)
-    go c xs last (gives c₀ c′ c″ x ys p w) e = let s : x ≡ k = cc in (c′, rw (← s) p)
+    go c xs last (gives c₀ c′ c″ x ys t region number tr named p w) e =
+        let s : x ≡ k = cc in
+        rw (← s) (record { moved = c′; t = t; region = region; number = number; trailer-good = tr; named = named; gives-it = p })
 
 module _ (b : List ℕ) (n : ℕ) (t : Trailer) (rows : List Keyed) (q : Rows b n t rows) (target : Key) (room : ℕ) (f : RoomFor room rows) where
   count : length (keysOf rows) ≡ length rows
@@ -199,16 +200,16 @@ module _ (b : List ℕ) (n : ℕ) (t : Trailer) (rows : List Keyed) (q : Rows b 
               record {
                 k = k;
                 rest = ks;
-                moved = g .0;
-                gives-it = g .1;
+                given = g;
                 has-it = at-most-antisym (k .key) target down up;
                 stands-first = z;
                 none-before = λ j u e′. clash (rw e′ at (below-before j u)) not-below;
               }
 
-  pub retry-absent : (k : Keyed) (moved : Cursor) → next (sought-up b n t rows q target room f .c) b room ≡ ok (stepIs moved (found (k .row) (k .key))) → k .key ≡ target
+  pub retry-absent : (k : Keyed) (moved : Cursor) (region number : ℕ) → next (sought-up b n t rows q target room f .c) b room ≡ ok (stepIs moved (found region number (k .row) (k .key)))
+      → k .key ≡ target
       → (i : ℕ) × (i < length rows) × (getD (keysOf rows) i [] ≡ target)
-  retry-absent k moved e is =
+  retry-absent k moved region number e is =
       let s = sought-up b n t rows q target room f in
       ⊎-elim (λ l. here (l .0) (s .walked)) (λ l. absurd (never (l .1))) (s .over)
     where
@@ -221,21 +222,21 @@ module _ (b : List ℕ) (n : ℕ) (t : Trailer) (rows : List Keyed) (q : Rows b 
           made [] z w = absurd (omega (arith, ap length z, length-drop (firstAtOrAbove target (keysOf rows)) rows))
           made (x ∷ ks) z w =
               let g = first-given b room (sought-up b n t rows q target room f .c) x ks (w .last) (w .walks) in
-              let s : stepIs (g .0) (found (x .row) (x .key)) ≡ stepIs moved (found (k .row) (k .key)) = ok-inj (sym (g .1) ∙ e) in
+              let s : stepIs (g .moved) (found (g .region) (g .number) (x .row) (x .key)) ≡ stepIs moved (found region number (k .row) (k .key)) = ok-inj (sym (g .gives-it) ∙ e) in
               let same : x .key ≡ k .key = keys-of (ap (λ (y : Step). y .answer) s) in
               (firstAtOrAbove target (keysOf rows), l, key-at rows (firstAtOrAbove target (keysOf rows)) x ks z ∙ same ∙ is)
             where
-              keys-of : {r s : RowRead} {x y : Key} → found r x ≡ found s y → x ≡ y
+              keys-of : {a i b j : ℕ} {r s : RowRead} {x y : Key} → found a i r x ≡ found b j s y → x ≡ y
               keys-of e = cc
 
       never : sought-up b n t rows q target room f .c ≡ doneUp b t → ⊥
       never z =
           let tells = trailerOf-tells b t (q .reads .trailer-good) in
           let d : next (doneUp b t) b room ≡ ok (stepIs (doneUp b t) done) = next-marked (doneUp b t) b room t (q .reads .trailer-good) (omega (arith, tells .1)) zero-le refl in
-          let s : stepIs (doneUp b t) done ≡ stepIs moved (found (k .row) (k .key)) = ok-inj (sym d ∙ ap (λ (y : Cursor). next y b room) (sym z) ∙ e) in
+          let s : stepIs (doneUp b t) done ≡ stepIs moved (found region number (k .row) (k .key)) = ok-inj (sym d ∙ ap (λ (y : Cursor). next y b room) (sym z) ∙ e) in
           apart (ap (λ (y : Step). y .answer) s)
         where
-          apart : {r : RowRead} {x : Key} → done ≡ found r x → ⊥
+          apart : {a i : ℕ} {r : RowRead} {x : Key} → done ≡ found a i r x → ⊥
           apart e = let y : _≡_ {A = ℕ} 0 1 = cc in omega arith
 
 -- ---- at most 5,042 restarts

@@ -68,17 +68,21 @@ pub record SoughtDown (b : List ℕ) (t : Trailer) (target : Key) (rows : List K
       ((0 < firstAbove target (keysOf rows)) × (c .done ≡ false))
       ⊎ ((firstAbove target (keysOf rows) ≡ 0) × (c ≡ doneDown))
 
--- the row that the step after the seek gives, with the pair that names it, has the target as its key, and no row before it has
-pub record FoundFirst (b : List ℕ) (target : Key) (rows : List Keyed) (room : ℕ) (c : Cursor) : Type 0 where
-  pub k : Keyed
-  pub rest : List Keyed
+-- a step gives this row, with the pair that names it
+pub record Given (b : List ℕ) (room : ℕ) (c : Cursor) (k : Keyed) : Type 0 where
   pub moved : Cursor
   pub t : Trailer
   pub region : ℕ
   pub number : ℕ
-  pub trailer-is : trailerOf b ≡ ok t
+  pub trailer-good : trailerOf b ≡ ok t
   pub named : Names b t region number k
   pub gives-it : next c b room ≡ ok (stepIs moved (found region number (k .row) (k .key)))
+
+-- the row that the step after the seek gives has the target as its key, and no row before it has
+pub record FoundFirst (b : List ℕ) (target : Key) (rows : List Keyed) (room : ℕ) (c : Cursor) : Type 0 where
+  pub k : Keyed
+  pub rest : List Keyed
+  pub given : Given b room c k
   pub has-it : k .key ≡ target
   pub stands-first : drop (firstAtOrAbove target (keysOf rows)) rows ≡ k ∷ rest
   pub none-before : (j : ℕ) → j < firstAtOrAbove target (keysOf rows) → getD (keysOf rows) j [] ≡ target → ⊥
