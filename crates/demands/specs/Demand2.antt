@@ -14,7 +14,7 @@ use Rattle.layout.specs.Key.{Key, below, noRank, Rising, firstAtOrAbove, firstA
 use Rattle.layout.specs.Row.{Fields, Row, encodeRow, Typed}
 use Rattle.layout.specs.Trailer.{Trailer}
 use Rattle.layout.specs.Check.{check}
-use Rattle.layout.specs.Cursor.{ascending, descending, Cursor, openedUp, openedDown, Keyed, found, stepIs, next}
+use Rattle.layout.specs.Cursor.{ascending, Cursor, openedUp, openedDown, Keyed, found, stepIs, next}
 use Rattle.layout.specs.Seek.{Sought, soughtIs, seek}
 use Rattle.demands.specs.Reads.{Accepts, keysOf}
 use Rattle.demands.specs.Runs.{Lending, Call, Ran, Finishes, RoomFor, backwards, GivesFirst}

@@ -15,7 +15,7 @@ use Rattle.layout.specs.RowRead.{RowRead, rowAt, readRow, decodeRow, keyLength}
 use Rattle.layout.specs.Block.{blockBytes, offsets}
 use Rattle.layout.specs.Trailer.{Trailer, dataOf}
 use Rattle.layout.specs.Builder.{blockAfter}
-use Rattle.layout.specs.Cursor.{ascending, descending, openedUp, openedDown, Keyed}
+use Rattle.layout.specs.Cursor.{openedUp, openedDown, Keyed}
 use Rattle.demands.specs.Reads.{regionsRows, Reads, allRows, AllOf, contentOf}
 use Rattle.demands.specs.Rows.{BothWays}
 use Rattle.demands.specs.Runs.{Lending, Call, Ran, Finishes, RoomFor, KeysFit}

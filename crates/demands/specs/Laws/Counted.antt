@@ -1,7 +1,7 @@
 -- The pair that a step gives names its row. Who has read n rows of a region, each where the one before it ended, stands before the row of that number, and n rows end at or before that
 -- place: `Counted` goes on past each row that is read. So an ascending cursor's count names the next row; a step back counts the rows before the one that it finds.
 use Prim.Native.Nat.{ℕ, zero, suc, _+_, _≤_}
-use mathlib.Core.Path.{_≡_, refl, ap, sym, _∙_}
+use mathlib.Core.Path.{_≡_, ap, _∙_}
 use mathlib.Core.List.{List, [], _∷_, _++_}
 use mathlib.Core.Logic.{⊎-elim}
 use native.Mathlib.Nat.{zero-add}

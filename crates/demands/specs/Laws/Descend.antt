@@ -155,7 +155,7 @@ region-some b t n g u p =
     let y : g .start ≡ g .end = sym (endsAt-none (g .start)) ∙ reaches-end (t .size) (dataOf b t) g (g .start) [] [] p (omega (arith, tells .inside)) (omega (arith, tells .rises)) in
     omega (arith, tells .rises)
 
--- ---- a cursor after some rows
+-- ---- a cursor after some rows, with the true number
 
 pub record After (b : List ℕ) (t : Trailer) (c : Cursor) (rows : List Keyed) : Type 0 where
   pub g : Region
@@ -173,6 +173,18 @@ pub record After (b : List ℕ) (t : Trailer) (c : Cursor) (rows : List Keyed) :
   pub stands : c .at ≡ endsAt (g .start) ps
   pub numbered : c .number ≡ numberAt b t (c .region) (c .at)
   pub are : rows ≡ allRows fs ++ ps
+
+-- where rows are left in its region it stands behind the last of them
+behind-row : (b : List ℕ) (t : Trailer) (c : Cursor) (rows : List Keyed) (a : After b t c rows) (ps : List Keyed) (k : Keyed) → a .ps ≡ ps ++ (k ∷ [])
+    → (regionRows (t .size) (dataOf b t) (a .g) (a .g .start) [] ≡ ok (ps ++ (k ∷ a .qs))) × (c .at ≡ k .row .next)
+behind-row b t c rows a ps k e = (
+  a .rows-here ∙ ap ok (ap (λ (x : List Keyed). x ++ a .qs) e ∙ append-assoc ps (k ∷ []) (a .qs)),
+  a .stands ∙ ap (endsAt (a .g .start)) e ∙ endsAt-snoc (a .g .start) ps k,
+)
+
+-- else at its start
+at-start : (b : List ℕ) (t : Trailer) (c : Cursor) (rows : List Keyed) (a : After b t c rows) → a .ps ≡ [] → c .at ≡ a .g .start
+at-start b t c rows a e = a .stands ∙ ap (endsAt (a .g .start)) e ∙ endsAt-none (a .g .start)
 
 module _ (b : List ℕ) (t : Trailer) (c : Cursor) (room : ℕ) where
   down : {rows : List Keyed} → After b t c rows → next c b room ≡ stepDown c b t room
@@ -237,8 +249,7 @@ module _ (b : List ℕ) (t : Trailer) (c : Cursor) (room : ℕ) where
   in-region : (rows : List Keyed) (a : After b t c rows) (ps : List Keyed) (k : Keyed) → a .ps ≡ ps ++ (k ∷ []) → GivesBack k (allRows (a .fs) ++ ps)
   in-region rows a ps k e =
       let tells = regionOf-tells b t (c .region) (a .g) (a .used) in
-      let h : regionRows (t .size) (dataOf b t) (a .g) (a .g .start) [] ≡ ok (ps ++ (k ∷ a .qs)) = a .rows-here ∙ ap ok (ap (λ (x : List Keyed). x ++ a .qs) e ∙ append-assoc ps (k ∷ []) (a .qs)) in
-      let s : c .at ≡ k .row .next = a .stands ∙ ap (endsAt (a .g .start)) e ∙ endsAt-snoc (a .g .start) ps k in
+      let (h, s) = behind-row b t c rows a ps k e in
       let behind = ends-behind (t .size) (dataOf b t) (a .g) (a .g .start) [] ps k (a .qs) h (omega (arith, tells .inside)) in
       let low : a .g .start ≤ c .at = omega (arith, behind .0) in
       let high : c .at ≤ a .g .end = omega (arith, behind .1) in
@@ -255,7 +266,7 @@ module _ (b : List ℕ) (t : Trailer) (c : Cursor) (room : ℕ) where
       let tells = regionOf-tells b t (c .region) (a .g) (a .used) in
       let tells₁ = regionOf-tells b t m f u in
       let inner = tells₁ .inner (omega (arith, a .inside)) in
-      let here : c .at ≡ a .g .start = a .stands ∙ ap (endsAt (a .g .start)) e ∙ endsAt-none (a .g .start) in
+      let here : c .at ≡ a .g .start = at-start b t c rows a e in
       let prev : c .region - 1 ≡ m = omega arith in
       let same : m + 1 ≡ c .region = omega arith in
       let u′ : regionOf b t (c .region - 1) ≡ ok f = rw prev u in
@@ -296,7 +307,7 @@ module _ (b : List ℕ) (t : Trailer) (c : Cursor) (room : ℕ) where
       nothing : (n : ℕ) (fs : List (List Keyed)) → n ≡ c .region → fs ≡ a .fs → a .ps ≡ [] → Front b t n fs → next c b room ≡ ok (stepIs (marked c) done)
       nothing n fs z f e none =
           let tells = regionOf-tells b t (c .region) (a .g) (a .used) in
-          let here : c .at ≡ a .g .start = a .stands ∙ ap (endsAt (a .g .start)) e ∙ endsAt-none (a .g .start) in
+          let here : c .at ≡ a .g .start = at-start b t c [] a e in
           down a ∙ down-done c b t room (a .g) (a .used) (omega arith) (omega (arith, tells .rises)) here (none-yet a here) (sym z)
       nothing n fs z f e (then m gs h ks fr u p) = absurd (inside ks p (from-end ks) (a .are ∙ rw (e, ← f) (append-nil (allRows (gs ++ (ks ∷ []))) ∙ allRows-end gs ks)))
         where
@@ -349,10 +360,8 @@ opens-down b t rss q = open-along b descending t (q .trailer-good) (q .offsets-g
 
     go : (ps : List Keyed) → a .ps ≡ ps → FromEnd ps → openAlong descending b t ≡ ok (openedDown b t)
     go ps e empty =
-        let here : t .size ≡ a .g .start = a .stands ∙ ap (endsAt (a .g .start)) e ∙ endsAt-none (a .g .start) in
-        absurd (omega (arith, tells .rises, tells .inside))
+        absurd (omega (arith, at-start b t (openedDown b t) (allRows rss) a e, tells .rises, tells .inside))
     go ps e (ending xs x) =
-        let h : regionRows (t .size) (dataOf b t) (a .g) (a .g .start) [] ≡ ok (xs ++ (x ∷ a .qs)) = a .rows-here ∙ ap ok (ap (λ (y : List Keyed). y ++ a .qs) e ∙ append-assoc xs (x ∷ []) (a .qs)) in
-        let s : t .size ≡ x .row .next = a .stands ∙ ap (endsAt (a .g .start)) e ∙ endsAt-snoc (a .g .start) xs x in
+        let (h, s) = behind-row b t (openedDown b t) (allRows rss) a xs x e in
         let is = finds (t .size) (dataOf b t) (a .g) (a .g .start) [] xs x (a .qs) (t .size) h (omega (arith, tells .inside)) (omega arith) in
         along-down b t (a .g) (a .used) x (ap (λ (n : ℕ). rowEndingAt (t .size) (dataOf b t) (a .g) n (a .g .start) []) s ∙ is)
