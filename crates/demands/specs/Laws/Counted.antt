@@ -1,8 +1,8 @@
 -- The pair that a step gives names its row. Who has read n rows of a region, each where the one before it ended, stands before the row of that number, and n rows end at or before that
 -- place: `Counted` goes on past each row that is read. So an ascending cursor's count names the next row; a step back counts the rows before the one that it finds.
-use Prim.Native.Nat.{ℕ, zero, suc, _+_, _≤_}
+use Prim.Native.Nat.{ℕ, zero, suc, _+_}
 use mathlib.Core.Path.{_≡_, ap, _∙_}
-use mathlib.Core.List.{List, [], _∷_, _++_}
+use mathlib.Core.List.{List, []}
 use mathlib.Core.Logic.{⊎-elim}
 use native.Mathlib.Nat.{zero-add}
 use native.Mathlib.Omega.{arith}
@@ -15,12 +15,11 @@ use Rattle.layout.specs.Trailer.{Trailer, dataOf, Region, regionOf, rowIn}
 use Rattle.layout.specs.Number.{endedBy, numberAt}
 use Rattle.layout.specs.Cursor.{Keyed, keyed, rowEndingAt}
 use Rattle.layout.specs.Seek.{Stop, stopIs, walkRegion}
-use Rattle.demands.specs.Reads.{regionRows, rowNumber, Names}
+use Rattle.demands.specs.Reads.{rowNumber, Names}
 use Rattle.layout.specs.Laws.Res.{bind-then, guard-then, cond-ok, ok-inj}
 use Rattle.layout.specs.Laws.Carry.{keyOf-length}
 use Rattle.layout.specs.Laws.Tells.{rowIn-ends}
 use Rattle.layout.specs.Laws.Number.{Counting, counting-start, counting-on, counting-here, number-in}
-use Rattle.demands.specs.Laws.Reads.{region-at, endsAt}
 use Rattle.demands.specs.Laws.Numbered.{number-first, number-next}
 
 -- n rows of the region were read, up to `at`, the last of them with the key `before`
@@ -53,20 +52,6 @@ module _ (d : List ℕ) (g : Region) where
       counted-next =
           let m : n ≡ n + 0 = omega arith in
           ap (λ (x : ℕ). rowNumber x d g (g .start) []) m ∙ c .numbers 0 ∙ number-first d g at before r e
-
-  -- behind some rows, one more was counted for each
-  pub counted-rows : (left at : ℕ) (before : Key) (n : ℕ) (ps qs : List Keyed) → Counted d g at before n → regionRows left d g at before ≡ ok (ps ++ qs) → g .end ≤ at + left
-      → endedBy d g (endsAt at ps) ≡ n + length ps
-  unfolding endsAt
-  counted-rows left at before n [] qs c e h = counted-here at before n c ∙ omega arith
-  counted-rows left at before n (p ∷ ps) qs c e h =
-      region-at left d g at before (p ∷ (ps ++ qs)) e h
-      (λ over none. absurd (let z : _≡_ {A = ℕ} 0 1 = cc in omega arith))
-      (λ r rest m lt u more enough is.
-      let first : keyed r (keyOf d before r) ≡ p = cc in
-      let tail : rest ≡ ps ++ qs = cc in
-      let ih = counted-rows m (r .next) (keyOf d before r) (n + 1) ps qs (counted-on at before n c r u) (more ∙ ap ok tail) enough in
-      rw (← first) (ih ∙ omega arith))
 
   -- the row that a step back finds is the one of the number that its start has
   pub counted-back : (left stop at : ℕ) (before : Key) (n : ℕ) (k : Keyed) → Counted d g at before n → rowEndingAt left d g stop at before ≡ ok k
