@@ -18,10 +18,12 @@ use Rattle.layout.specs.Key.{Key}
 use Rattle.layout.specs.RowRead.{RowRead, mayShare, keyOf}
 use Rattle.layout.specs.Trailer.{Trailer, trailerOf, dataOf, Region, regionOf, rowIn}
 use Rattle.layout.specs.Plain.{Plain, plainAt, plainRead}
+use Rattle.layout.specs.Number.{wrongAfter}
 use Rattle.layout.specs.Cursor.{ascending, Cursor, cursorIs, found, Step, stepIs, pastRow, next}
 use Rattle.layout.specs.Laws.Res.{ok-inj, bool-cases, ltb-cases, eqb-cases, cond-ok}
 use Rattle.layout.specs.Laws.Carry.{Carries, read-carried, keyOf-length, suffixOf, key-new}
 use Rattle.layout.specs.Laws.Cursor.{next-up, up-found}
+use Rattle.layout.specs.Laws.Number.{right-tells}
 use Rattle.layout.specs.Laws.Place.{fourAt, fixedAt-eight}
 use Rattle.layout.specs.Laws.Plain.{or-false, fixedAt-is, PlainTells, plainAt-tells, plain-read}
 use Rattle.layout.specs.Laws.Trailer.{trailerOf-tells, regionOf-tells}
@@ -38,40 +40,45 @@ shares false n = refl
 
 -- ---- each way through the look
 
-module _ (b : List ℕ) (region at keyLen held room : ℕ) where
-  pub ahead-odd : (ltb maxKey keyLen || not (eqb held maxKey)) ≡ true → noAhead ≡ aheadAt b region at keyLen held room
+module _ (b : List ℕ) (region at number keyLen held room : ℕ) where
+  pub ahead-odd : (ltb maxKey keyLen || not (eqb held maxKey)) ≡ true → noAhead ≡ aheadAt b region at number keyLen held room
   unfolding aheadAt
   ahead-odd e = rw e
 
   module _ (e : (ltb maxKey keyLen || not (eqb held maxKey)) ≡ false) (g : Region) (q : g ≡ regionOr (regionBy b region)) where
-    pub ahead-none : g .end ≡ 0 → noAhead ≡ aheadAt b region at keyLen held room
+    pub ahead-none : g .end ≡ 0 → noAhead ≡ aheadAt b region at number keyLen held room
     unfolding aheadAt
     ahead-none z = rw (e, ← q, eq-eqb (g .end) 0 z)
 
     module _ (z : g .end ≡ 0 → ⊥) where
-      pub ahead-before : at < g .start → noAhead ≡ aheadAt b region at keyLen held room
+      pub ahead-before : at < g .start → noAhead ≡ aheadAt b region at number keyLen held room
       unfolding aheadAt
       ahead-before h = rw (e, ← q, ne-eqb (g .end) 0 z, lt-ltb at (g .start) h)
 
-      module _ (h : g .start ≤ at) {most : ℕ} (m : most ≡ cond (eqb at (g .start)) 0 keyLen) (p : Plain) (r : p ≡ plainAt (take (g .end) b) at (g .end) most) where
+      module _ (h : g .start ≤ at) where
+        pub ahead-wrong : wrongAfter (at - g .start) number ≡ true → noAhead ≡ aheadAt b region at number keyLen held room
+        unfolding aheadAt
+        ahead-wrong w = rw (e, ← q, ne-eqb (g .end) 0 z, le-ltb at (g .start) h, w)
+
+      module _ (h : g .start ≤ at) (w : wrongAfter (at - g .start) number ≡ false) {most : ℕ} (m : most ≡ cond (eqb at (g .start)) 0 keyLen) (p : Plain) (r : p ≡ plainAt (take (g .end) b) at (g .end) most) where
         row-is : p ≡ plainAt (take (g .end) b) at (g .end) (mayShare (eqb at (g .start)) keyLen)
         row-is = r ∙ ap (plainAt (take (g .end) b) at (g .end)) (m ∙ shares (eqb at (g .start)) keyLen)
 
-        pub ahead-not : p .next ≡ 0 → noAhead ≡ aheadAt b region at keyLen held room
+        pub ahead-not : p .next ≡ 0 → noAhead ≡ aheadAt b region at number keyLen held room
         unfolding aheadAt
-        ahead-not n = rw (e, ← q, ne-eqb (g .end) 0 z, le-ltb at (g .start) h, ← row-is, eq-eqb (p .next) 0 n)
+        ahead-not n = rw (e, ← q, ne-eqb (g .end) 0 z, le-ltb at (g .start) h, w, ← row-is, eq-eqb (p .next) 0 n)
 
         module _ (n : p .next ≡ 0 → ⊥) where
           pub ahead-tells : PlainTells (take (g .end) b) at (g .end) (mayShare (eqb at (g .start)) keyLen) p
           ahead-tells = rw row-is (plainAt-tells (take (g .end) b) at (g .end) (mayShare (eqb at (g .start)) keyLen) (rw (← row-is) (omega arith)))
 
-          pub ahead-narrow : room < p .shared + p .unshared → noAhead ≡ aheadAt b region at keyLen held room
+          pub ahead-narrow : room < p .shared + p .unshared → noAhead ≡ aheadAt b region at number keyLen held room
           unfolding aheadAt
-          ahead-narrow k = rw (e, ← q, ne-eqb (g .end) 0 z, le-ltb at (g .start) h, ← row-is, ne-eqb (p .next) 0 n, lt-ltb room (p .shared + p .unshared) k)
+          ahead-narrow k = rw (e, ← q, ne-eqb (g .end) 0 z, le-ltb at (g .start) h, w, ← row-is, ne-eqb (p .next) 0 n, lt-ltb room (p .shared + p .unshared) k)
 
-          pub ahead-good : p .shared + p .unshared ≤ room → aheadWith (g .reach) p ≡ aheadAt b region at keyLen held room
+          pub ahead-good : p .shared + p .unshared ≤ room → aheadWith (g .reach) p ≡ aheadAt b region at number keyLen held room
           unfolding aheadAt
-          ahead-good k = rw (e, ← q, ne-eqb (g .end) 0 z, le-ltb at (g .start) h, ← row-is, ne-eqb (p .next) 0 n, le-ltb room (p .shared + p .unshared) k)
+          ahead-good k = rw (e, ← q, ne-eqb (g .end) 0 z, le-ltb at (g .start) h, w, ← row-is, ne-eqb (p .next) 0 n, le-ltb room (p .shared + p .unshared) k)
 
 -- a region that is good ends inside the block; one that is refused ends at 0
 pub region-inside : (b : List ℕ) (region : ℕ) (g : Region) → g ≡ regionOr (regionBy b region) → (g .end ≡ 0 → ⊥) → g .end ≤ length b
@@ -101,7 +108,7 @@ cut b n m at end most p h k l w =
       flags-none = sym (same (p .next - 1) (omega (arith, w .next-is, w .within))) ∙ w .flags-none;
     }
 
-pub record Standing (b : List ℕ) (region at keyLen held room : ℕ) (a : Ahead) : Type 0 where
+pub record Standing (b : List ℕ) (region at number keyLen held room : ℕ) (a : Ahead) : Type 0 where
   pub t : Trailer
   pub g : Region
   pub p : Plain
@@ -111,6 +118,7 @@ pub record Standing (b : List ℕ) (region at keyLen held room : ℕ) (a : Ahead
   pub inside : region < t .count
   pub bounds : regionOf b t region ≡ ok g
   pub from : g .start ≤ at
+  pub right : wrongAfter (at - g .start) number ≡ false
   pub plain : PlainTells (dataOf b t) at (g .end) (mayShare (eqb at (g .start)) keyLen) p
   pub fits : p .shared + p .unshared ≤ room
   pub is : a ≡ aheadWith (g .reach) p
@@ -119,9 +127,9 @@ was : (t : Bool) → not t ≡ false → t ≡ true
 was true e = refl
 was false e = cc
 
-module _ (b : List ℕ) (region at keyLen held room : ℕ) (a : Ahead) (e : a ≡ aheadAt b region at keyLen held room) (n : a .next ≡ 0 → ⊥) where
+module _ (b : List ℕ) (region at number keyLen held room : ℕ) (a : Ahead) (e : a ≡ aheadAt b region at number keyLen held room) (n : a .next ≡ 0 → ⊥) where
   -- no exit but the last
-  never : {A : Type 0} → noAhead ≡ aheadAt b region at keyLen held room → A
+  never : {A : Type 0} → noAhead ≡ aheadAt b region at number keyLen held room → A
   never q = absurd (n (ap (λ (x : Ahead). x .next) (e ∙ sym q)))
 
   abbrev g₀ : Region
@@ -130,9 +138,9 @@ module _ (b : List ℕ) (region at keyLen held room : ℕ) (a : Ahead) (e : a �
   abbrev p₀ : Plain
   p₀ = plainAt (take (g₀ .end) b) at (g₀ .end) (cond (eqb at (g₀ .start)) 0 keyLen)
 
-  last : (o : (ltb maxKey keyLen || not (eqb held maxKey)) ≡ false) (z : g₀ .end ≡ 0 → ⊥) (h : g₀ .start ≤ at) (r : p₀ .next ≡ 0 → ⊥) → p₀ .shared + p₀ .unshared ≤ room → Standing b region at keyLen held room a
-  last o z h r k =
-      let w = or-false {a = ltb maxKey keyLen} {b = not (eqb held maxKey)} o in
+  last : (o : (ltb maxKey keyLen || not (eqb held maxKey)) ≡ false) (z : g₀ .end ≡ 0 → ⊥) (h : g₀ .start ≤ at) (w : wrongAfter (at - g₀ .start) number ≡ false) (r : p₀ .next ≡ 0 → ⊥) → p₀ .shared + p₀ .unshared ≤ room → Standing b region at number keyLen held room a
+  last o z h w r k =
+      let u = or-false {a = ltb maxKey keyLen} {b = not (eqb held maxKey)} o in
       regionBy-tells b region g₀ (region-is (regionBy b region) g₀ refl z) λ t read inside bounds.
       let v = regionOf-tells b t region g₀ bounds in
       let size = trailerOf-tells b t read .0 in
@@ -140,38 +148,43 @@ module _ (b : List ℕ) (region at keyLen held room : ℕ) (a : Ahead) (e : a �
         t = t;
         g = g₀;
         p = p₀;
-        few = ltb-false maxKey keyLen (w .0);
-        whole = eqb-true held maxKey (was (eqb held maxKey) (w .1));
+        few = ltb-false maxKey keyLen (u .0);
+        whole = eqb-true held maxKey (was (eqb held maxKey) (u .1));
         read = read;
         inside = inside;
         bounds = bounds;
         from = h;
-        plain = cut b (g₀ .end) (t .size) at (g₀ .end) (mayShare (eqb at (g₀ .start)) keyLen) p₀ (omega arith) (v .inside) (omega arith) (ahead-tells b region at keyLen held room o g₀ refl z h refl p₀ refl r);
+        right = w;
+        plain = cut b (g₀ .end) (t .size) at (g₀ .end) (mayShare (eqb at (g₀ .start)) keyLen) p₀ (omega arith) (v .inside) (omega arith) (ahead-tells b region at number keyLen held room o g₀ refl z h w refl p₀ refl r);
         fits = k;
-        is = e ∙ sym (ahead-good b region at keyLen held room o g₀ refl z h refl p₀ refl r k);
+        is = e ∙ sym (ahead-good b region at number keyLen held room o g₀ refl z h w refl p₀ refl r k);
       }
 
-  pub standing : Standing b region at keyLen held room a
+  pub standing : Standing b region at number keyLen held room a
   standing =
-      ⊎-elim (λ o. never (ahead-odd b region at keyLen held room o))
+      ⊎-elim (λ o. never (ahead-odd b region at number keyLen held room o))
       (λ o.
-      ⊎-elim (λ z. never (ahead-none b region at keyLen held room o g₀ refl (z .1)))
+      ⊎-elim (λ z. never (ahead-none b region at number keyLen held room o g₀ refl (z .1)))
       (λ z.
-      ⊎-elim (λ h. never (ahead-before b region at keyLen held room o g₀ refl (z .1) (h .1)))
+      ⊎-elim (λ h. never (ahead-before b region at number keyLen held room o g₀ refl (z .1) (h .1)))
       (λ h.
-      ⊎-elim (λ r. never (ahead-not b region at keyLen held room o g₀ refl (z .1) (h .1) refl p₀ refl (r .1)))
+      ⊎-elim (λ w. never (ahead-wrong b region at number keyLen held room o g₀ refl (z .1) (h .1) w))
+      (λ w.
+      ⊎-elim (λ r. never (ahead-not b region at number keyLen held room o g₀ refl (z .1) (h .1) w refl p₀ refl (r .1)))
       (λ r.
-      ⊎-elim (λ k. never (ahead-narrow b region at keyLen held room o g₀ refl (z .1) (h .1) refl p₀ refl (r .1) (k .1)))
-      (λ k. last o (z .1) (h .1) (r .1) (k .1))
+      ⊎-elim (λ k. never (ahead-narrow b region at number keyLen held room o g₀ refl (z .1) (h .1) w refl p₀ refl (r .1) (k .1)))
+      (λ k. last o (z .1) (h .1) w (r .1) (k .1))
       (ltb-cases room (p₀ .shared + p₀ .unshared)))
       (eqb-cases (p₀ .next) 0))
+      (bool-cases (wrongAfter (at - g₀ .start) number)))
       (ltb-cases at (g₀ .start)))
       (eqb-cases (g₀ .end) 0))
       (bool-cases (ltb maxKey keyLen || not (eqb held maxKey)))
 
 -- the numbers of a plain step, for the sums and places that are made of them
-pub record Numbers (b : List ℕ) (region at : ℕ) (key out : List ℕ) (a : Ahead) : Type 0 where
+pub record Numbers (b : List ℕ) (region at number : ℕ) (key out : List ℕ) (a : Ahead) : Type 0 where
   pub counted : region < length b
+  pub passed : number ≤ at
   pub ends : a .next ≡ at + 12 + a .unshared + a .«value_len»
   pub inside : a .next ≤ length b
   pub shared-small : a .shared ≤ 127
@@ -190,10 +203,11 @@ seq-is : (b : List ℕ) (i : ℕ) → i + 8 ≤ length b → fourAt b i * 429496
 seq-is b i h = ap (λ (x : NumAt). x .val) (ok-inj (fixedAt-eight b i h ∙ fixedAt-is 8 b i h))
 
 -- what the code makes of the row that it met
-abbrev pub made : ℕ → ℕ → Ahead → Stepped
-made region q a =
+abbrev pub made : ℕ → ℕ → ℕ → Ahead → Stepped
+made region number q a =
     record {
       region = cond (ltb (a .reach) (a .next)) (region + 1) region;
+      number = cond (ltb (a .reach) (a .next)) 0 (number + 1);
       «key_len» = cond (ltb (a .reach) (a .next)) 0 (a .shared + a .unshared);
       next = a .next;
       shared = a .shared;
@@ -204,12 +218,12 @@ made region q a =
 
 -- ---- it is the rules' own step
 
-module _ (b : List ℕ) (region at keyLen : ℕ) (key out : List ℕ) {a : Ahead} (s : Standing b region at keyLen (length key) (length out) a) where
+module _ (b : List ℕ) (region at number keyLen : ℕ) (key out : List ℕ) {a : Ahead} (s : Standing b region at number keyLen (length key) (length out) a) where
   abbrev d : List ℕ
   d = dataOf b (s .t)
 
   abbrev c : Cursor
-  c = ascends region at keyLen key
+  c = ascends region at number keyLen key
 
   abbrev r : RowRead
   r = plainRead d at (s .p)
@@ -223,7 +237,7 @@ module _ (b : List ℕ) (region at keyLen : ℕ) (key out : List ℕ) {a : Ahead
   ends : s .p .next ≤ s .t .size
   ends = omega (arith, s .plain .within, regionOf-tells b (s .t) region (s .g) (s .bounds) .inside)
 
-  pub numbers : Numbers b region at key out a
+  pub numbers : Numbers b region at number key out a
   numbers =
       let w = s .plain in
       let h = size in
@@ -231,6 +245,7 @@ module _ (b : List ℕ) (region at keyLen : ℕ) (key out : List ℕ) {a : Ahead
       rw (s .is)
       (record {
         counted = omega (arith, s .inside, trailerOf-tells b (s .t) (s .read) .0);
+        passed = omega (arith, right-tells (at - s .g .start) number (s .right));
         ends = w .next-is;
         inside = omega arith;
         shared-small = w .shared-small;
@@ -242,11 +257,11 @@ module _ (b : List ℕ) (region at keyLen : ℕ) (key out : List ℕ) {a : Ahead
   row : rowIn d (s .g) at keyLen ≡ ok r
   row = sym (plain-read d at (s .g .end) keyLen (eqb at (s .g .start)) (s .p) (s .plain))
 
-  wanted : next c b (length out) ≡ ok (stepIs (pastRow c (s .g) r k) (found r k))
+  wanted : next c b (length out) ≡ ok (stepIs (pastRow c (s .g) r k) (found region number r k))
   wanted =
       let w = s .plain in
       next-up c b (length out) (s .t) (s .read) (s .inside) (s .few) refl refl
-      ∙ up-found c b (s .t) (length out) (s .g) (s .bounds) (s .from) (omega (arith, w .next-is, w .within, regionOf-tells b (s .t) region (s .g) (s .bounds) .near)) (λ q. absurd (omega (arith, w .next-is, w .within))) r row (s .fits)
+      ∙ up-found c b (s .t) (length out) (s .g) (s .bounds) (s .from) (omega (arith, w .next-is, w .within, regionOf-tells b (s .t) region (s .g) (s .bounds) .near)) (s .right) (λ q. absurd (omega (arith, w .next-is, w .within))) r row (s .fits)
 
   carries : Carries key keyLen
   carries = record { few = s .few; whole = s .whole }
@@ -278,9 +293,10 @@ module _ (b : List ℕ) (region at keyLen : ℕ) (key out : List ℕ) {a : Ahead
         m .given ∙ ap (splice out 0) (ap (λ (i : ℕ). take (s .p .shared + i) key′) n ∙ key-is)
 
     -- a finished region hands over, or the cursor carries the row's key
-    goes : (t : Bool) → Goes (ok (stepIs (cond t (cursorIs ascending (region + 1) (s .p .next) [] false) (cursorIs ascending region (s .p .next) k false)) (found r k))) key out
+    goes : (t : Bool) → Goes (ok (stepIs (cond t (cursorIs ascending (region + 1) (s .p .next) 0 [] false) (cursorIs ascending region (s .p .next) (number + 1) k false)) (found region number r k))) key out
         (record {
           region = cond t (region + 1) region;
+          number = cond t 0 (number + 1);
           «key_len» = cond t 0 (s .p .shared + s .p .unshared);
           next = s .p .next;
           shared = s .p .shared;
@@ -292,116 +308,117 @@ module _ (b : List ℕ) (region at keyLen : ℕ) (key out : List ℕ) {a : Ahead
     goes true = record { answer = rw seq; key-bytes = refl; lent = given }
     goes false = record { answer = rw (seq, long); key-bytes = rw long key-is; lent = given }
 
-module _ (b : List ℕ) (region at keyLen : ℕ) (key out : List ℕ) (a : Ahead) (e : a ≡ aheadAt b region at keyLen (length key) (length out)) where
-  pub step-not : {x : Stepped} → a .next ≡ 0 → x ≡ noStep → Goes (plainStep region at keyLen key b (length out)) key out x key out
+module _ (b : List ℕ) (region at number keyLen : ℕ) (key out : List ℕ) (a : Ahead) (e : a ≡ aheadAt b region at number keyLen (length key) (length out)) where
+  pub step-not : {x : Stepped} → a .next ≡ 0 → x ≡ noStep → Goes (plainStep region at number keyLen key b (length out)) key out x key out
   unfolding plainStep
   step-not z is = rw (← e, eq-eqb (a .next) 0 z) (record { answer = is; key-bytes = refl; lent = refl })
 
   module _ (n : a .next ≡ 0 → ⊥) where
-    step-is : plainStep region at keyLen key b (length out) ≡ next (ascends region at keyLen key) b (length out)
+    step-is : plainStep region at number keyLen key b (length out) ≡ next (ascends region at number keyLen key) b (length out)
     unfolding plainStep
     step-is = rw (← e, ne-eqb (a .next) 0 n)
 
     goes-made : {key′ out′ : List ℕ} → Moved key out (a .shared) (take (a .unshared) (drop (at + 3) b)) key′ out′
-        → Goes (plainStep region at keyLen key b (length out)) key out (made region (fourAt b (a .next - 9) * 4294967296 + fourAt b (a .next - 9 + 4)) a) key′ out′
+        → Goes (plainStep region at number keyLen key b (length out)) key out (made region number (fourAt b (a .next - 9) * 4294967296 + fourAt b (a .next - 9 + 4)) a) key′ out′
     goes-made {key′} {out′} m =
-        let s = standing b region at keyLen (length key) (length out) a e n in
+        let s = standing b region at number keyLen (length key) (length out) a e n in
         let moved = subst (λ (x : Ahead). Moved key out (x .shared) (take (x .unshared) (drop (at + 3) b)) key′ out′) (s .is) m in
-        subst (λ (w : Res Step). Goes w key out (made region (fourAt b (a .next - 9) * 4294967296 + fourAt b (a .next - 9 + 4)) a) key′ out′) (sym (step-is ∙ wanted b region at keyLen key out s))
-        (subst (λ (x : Ahead). Goes (ok (stepIs (pastRow (c b region at keyLen key out s) (s .g) (r b region at keyLen key out s) (k b region at keyLen key out s)) (found (r b region at keyLen key out s) (k b region at keyLen key out s)))) key out (made region (fourAt b (x .next - 9) * 4294967296 + fourAt b (x .next - 9 + 4)) x) key′ out′) (sym (s .is))
-        (goes b region at keyLen key out s moved (ltb (s .g .reach) (s .p .next))))
+        subst (λ (w : Res Step). Goes w key out (made region number (fourAt b (a .next - 9) * 4294967296 + fourAt b (a .next - 9 + 4)) a) key′ out′) (sym (step-is ∙ wanted b region at number keyLen key out s))
+        (subst (λ (x : Ahead). Goes (ok (stepIs (pastRow (c b region at number keyLen key out s) (s .g) (r b region at number keyLen key out s) (k b region at number keyLen key out s)) (found region number (r b region at number keyLen key out s) (k b region at number keyLen key out s)))) key out (made region number (fourAt b (x .next - 9) * 4294967296 + fourAt b (x .next - 9 + 4)) x) key′ out′) (sym (s .is))
+        (goes b region at number keyLen key out s moved (ltb (s .g .reach) (s .p .next))))
 
     -- by the numbers that were met
-    pub step-goes : {key′ out′ : List ℕ} {to left q : ℕ} → Moved key out (a .shared) (take (a .unshared) (drop (at + 3) b)) key′ out′
-        → to ≡ cond (ltb (a .reach) (a .next)) (region + 1) region → left ≡ cond (ltb (a .reach) (a .next)) 0 (a .shared + a .unshared)
+    pub step-goes : {key′ out′ : List ℕ} {to more left q : ℕ} → Moved key out (a .shared) (take (a .unshared) (drop (at + 3) b)) key′ out′
+        → to ≡ cond (ltb (a .reach) (a .next)) (region + 1) region → more ≡ cond (ltb (a .reach) (a .next)) 0 (number + 1)
+        → left ≡ cond (ltb (a .reach) (a .next)) 0 (a .shared + a .unshared)
         → q ≡ fourAt b (a .next - 9) * 4294967296 + fourAt b (a .next - 9 + 4)
-        → Goes (plainStep region at keyLen key b (length out)) key out
-        (record { region = to; «key_len» = left; next = a .next; shared = a .shared; unshared = a .unshared; «value_len» = a .«value_len»; seq = q }) key′ out′
-    step-goes m t l w =
+        → Goes (plainStep region at number keyLen key b (length out)) key out
+        (record { region = to; number = more; «key_len» = left; next = a .next; shared = a .shared; unshared = a .unshared; «value_len» = a .«value_len»; seq = q }) key′ out′
+    step-goes m t i l w =
         let g = goes-made m in
-        record { answer = rw (t, l, w) (g .answer); key-bytes = g .key-bytes; lent = g .lent }
+        record { answer = rw (t, i, l, w) (g .answer); key-bytes = g .key-bytes; lent = g .lent }
 
 -- ---- for callers
 
 -- a plain step is the rules' own, over as many key bytes as there must be
-pub plainStep-tells : (region at keyLen : ℕ) (key b : List ℕ) (room : ℕ) (s : Step) → plainStep region at keyLen key b room ≡ ok s
-    → (length key ≡ maxKey) × (next (ascends region at keyLen key) b room ≡ ok s)
+pub plainStep-tells : (region at number keyLen : ℕ) (key b : List ℕ) (room : ℕ) (s : Step) → plainStep region at number keyLen key b room ≡ ok s
+    → (length key ≡ maxKey) × (next (ascends region at number keyLen key) b room ≡ ok s)
 unfolding plainStep
-plainStep-tells region at keyLen key b room s e =
+plainStep-tells region at number keyLen key b room s e =
     ⊎-elim (λ x. absurd (let z : _≡_ {A = ℕ} 0 1 = cc in omega arith))
-    (λ x. (standing b region at keyLen (length key) room (aheadAt b region at keyLen (length key) room) refl (eqb-false (aheadAt b region at keyLen (length key) room .next) 0 (x .0)) .whole, x .1))
-    (cond-ok (eqb (aheadAt b region at keyLen (length key) room .next) 0) (refuse 0) (next (ascends region at keyLen key) b room) s e)
+    (λ x. (standing b region at number keyLen (length key) room (aheadAt b region at number keyLen (length key) room) refl (eqb-false (aheadAt b region at number keyLen (length key) room .next) 0 (x .0)) .whole, x .1))
+    (cond-ok (eqb (aheadAt b region at number keyLen (length key) room .next) 0) (refuse 0) (next (ascends region at number keyLen key) b room) s e)
 
 -- what a step that was made tells: the cursor and the row, whose places are those of a plain one
-pub record Told (want : Res Step) (at : ℕ) (r : Stepped) : Type 0 where
+pub record Told (want : Res Step) (region at number : ℕ) (r : Stepped) : Type 0 where
   pub cursor : Cursor
   pub key : Key
-  pub is : want ≡ ok (stepIs cursor (found (rowMade at r) key))
-  pub to : r ≡ steppedTo cursor (found (rowMade at r) key)
+  pub is : want ≡ ok (stepIs cursor (found region number (rowMade at r) key))
+  pub to : r ≡ steppedTo cursor (found region number (rowMade at r) key)
   pub heads : cursor .order ≡ ascending
   pub unmarked : cursor .done ≡ false
   pub ends : at + 12 + r .unshared + r .«value_len» ≡ r .next
 
-module _ (region at keyLen : ℕ) (key b out : List ℕ) (x : Stepped) {key′ out′ : List ℕ} (g : Goes (plainStep region at keyLen key b (length out)) key out x key′ out′) where
+module _ (region at number keyLen : ℕ) (key b out : List ℕ) (x : Stepped) {key′ out′ : List ℕ} (g : Goes (plainStep region at number keyLen key b (length out)) key out x key′ out′) where
   abbrev a₀ : Ahead
-  a₀ = aheadAt b region at keyLen (length key) (length out)
+  a₀ = aheadAt b region at number keyLen (length key) (length out)
 
-  refused : a₀ .next ≡ 0 → plainStep region at keyLen key b (length out) ≡ refuse 0
+  refused : a₀ .next ≡ 0 → plainStep region at number keyLen key b (length out) ≡ refuse 0
   unfolding plainStep
   refused z = rw (eq-eqb (a₀ .next) 0 z)
 
   module _ (n : a₀ .next ≡ 0 → ⊥) where
-    s₀ : Standing b region at keyLen (length key) (length out) a₀
-    s₀ = standing b region at keyLen (length key) (length out) a₀ refl n
+    s₀ : Standing b region at number keyLen (length key) (length out) a₀
+    s₀ = standing b region at number keyLen (length key) (length out) a₀ refl n
 
     abbrev r₀ : RowRead
-    r₀ = r b region at keyLen key out s₀
+    r₀ = r b region at number keyLen key out s₀
 
     abbrev k₀ : Key
-    k₀ = k b region at keyLen key out s₀
+    k₀ = k b region at number keyLen key out s₀
 
-    is₀ : plainStep region at keyLen key b (length out) ≡ ok (stepIs (pastRow (ascends region at keyLen key) (s₀ .g) r₀ k₀) (found r₀ k₀))
-    is₀ = step-is b region at keyLen key out a₀ refl n ∙ wanted b region at keyLen key out s₀
+    is₀ : plainStep region at number keyLen key b (length out) ≡ ok (stepIs (pastRow (ascends region at number keyLen key) (s₀ .g) r₀ k₀) (found region number r₀ k₀))
+    is₀ = step-is b region at number keyLen key out a₀ refl n ∙ wanted b region at number keyLen key out s₀
 
     -- whichever cursor it leaves
-    either : (t : Bool) (v : Cursor) → v ≡ cond t (cursorIs ascending (region + 1) (s₀ .p .next) [] false) (cursorIs ascending region (s₀ .p .next) k₀ false)
-        → plainStep region at keyLen key b (length out) ≡ ok (stepIs v (found r₀ k₀)) → Told (plainStep region at keyLen key b (length out)) at x
+    either : (t : Bool) (v : Cursor) → v ≡ cond t (cursorIs ascending (region + 1) (s₀ .p .next) 0 [] false) (cursorIs ascending region (s₀ .p .next) (number + 1) k₀ false)
+        → plainStep region at number keyLen key b (length out) ≡ ok (stepIs v (found region number r₀ k₀)) → Told (plainStep region at number keyLen key b (length out)) region at number x
     either t v e i =
         let place : v .at ≡ s₀ .p .next = ap (λ (u : Cursor). u .at) e ∙ one t in
-        let to : x ≡ steppedTo v (found r₀ k₀) = g .answer ∙ ap steppedOf i in
-        let row : r₀ ≡ rowMade at x = ap (λ (m : ℕ). rowMade at (record { region = 0; «key_len» = 0; next = m; shared = s₀ .p .shared; unshared = s₀ .p .unshared; «value_len» = s₀ .p .valueLen; seq = r₀ .seq })) (sym place) ∙ ap (rowMade at) (sym to) in
+        let to : x ≡ steppedTo v (found region number r₀ k₀) = g .answer ∙ ap steppedOf i in
+        let row : r₀ ≡ rowMade at x = ap (λ (m : ℕ). rowMade at (record { region = 0; number = 0; «key_len» = 0; next = m; shared = s₀ .p .shared; unshared = s₀ .p .unshared; «value_len» = s₀ .p .valueLen; seq = r₀ .seq })) (sym place) ∙ ap (rowMade at) (sym to) in
         record {
           cursor = v;
           key = k₀;
-          is = i ∙ ap (λ (u : RowRead). ok (stepIs v (found u k₀))) row;
-          to = to ∙ ap (λ (u : RowRead). steppedTo v (found u k₀)) row;
+          is = i ∙ ap (λ (u : RowRead). ok (stepIs v (found region number u k₀))) row;
+          to = to ∙ ap (λ (u : RowRead). steppedTo v (found region number u k₀)) row;
           heads = ap (λ (u : Cursor). u .order) e ∙ two t;
           unmarked = ap (λ (u : Cursor). u .done) e ∙ three t;
           ends = omega (arith, place, s₀ .plain .next-is, ap (λ (u : Stepped). u .unshared) to, ap (λ (u : Stepped). u .«value_len») to, ap (λ (u : Stepped). u .next) to);
         }
       where
-        one : (t : Bool) → cond t (cursorIs ascending (region + 1) (s₀ .p .next) [] false) (cursorIs ascending region (s₀ .p .next) k₀ false) .at ≡ s₀ .p .next
+        one : (t : Bool) → cond t (cursorIs ascending (region + 1) (s₀ .p .next) 0 [] false) (cursorIs ascending region (s₀ .p .next) (number + 1) k₀ false) .at ≡ s₀ .p .next
         one true = refl
         one false = refl
 
-        two : (t : Bool) → cond t (cursorIs ascending (region + 1) (s₀ .p .next) [] false) (cursorIs ascending region (s₀ .p .next) k₀ false) .order ≡ ascending
+        two : (t : Bool) → cond t (cursorIs ascending (region + 1) (s₀ .p .next) 0 [] false) (cursorIs ascending region (s₀ .p .next) (number + 1) k₀ false) .order ≡ ascending
         two true = refl
         two false = refl
 
-        three : (t : Bool) → cond t (cursorIs ascending (region + 1) (s₀ .p .next) [] false) (cursorIs ascending region (s₀ .p .next) k₀ false) .done ≡ false
+        three : (t : Bool) → cond t (cursorIs ascending (region + 1) (s₀ .p .next) 0 [] false) (cursorIs ascending region (s₀ .p .next) (number + 1) k₀ false) .done ≡ false
         three true = refl
         three false = refl
 
-    made₀ : Told (plainStep region at keyLen key b (length out)) at x
+    made₀ : Told (plainStep region at number keyLen key b (length out)) region at number x
     made₀ = either (ltb (s₀ .g .reach) (s₀ .p .next)) _ refl is₀
 
-  pub not-told : x .next ≡ 0 → plainStep region at keyLen key b (length out) ≡ refuse 0
+  pub not-told : x .next ≡ 0 → plainStep region at number keyLen key b (length out) ≡ refuse 0
   not-told z =
       ⊎-elim (λ y. refused (y .1))
       (λ y. let m = made₀ (y .1) in absurd (omega (arith, m .ends)))
       (eqb-cases (a₀ .next) 0)
 
-  pub told : (x .next ≡ 0 → ⊥) → Told (plainStep region at keyLen key b (length out)) at x
+  pub told : (x .next ≡ 0 → ⊥) → Told (plainStep region at number keyLen key b (length out)) region at number x
   told n =
       ⊎-elim (λ y. absurd (n (ap (λ (u : Stepped). u .next) (g .answer ∙ ap steppedOf (refused (y .1))))))
       (λ y. made₀ (y .1))

@@ -19,11 +19,11 @@ same-key : (want : Res Step) (key k l : List ℕ) → KeyMoved want key k → Ke
 same-key (ok s) key k l m n = m ∙ sym n
 same-key (refuse i) key k l m n = m ∙ sym n
 
-pub plain-step-settled : (region at keyLen : ℕ) (key b out : List ℕ) (r q : Stepped) (k l ys zs : List ℕ)
-    → StepsPlain region at keyLen key b out r k ys → StepsPlain region at keyLen key b out q l zs
-    → (r ≡ q) × SameKey (plainStep region at keyLen key b (length out)) k l × (ys ≡ zs)
-plain-step-settled region at keyLen key b out r q k l ys zs m n = (
+pub plain-step-settled : (region at number keyLen : ℕ) (key b out : List ℕ) (r q : Stepped) (k l ys zs : List ℕ)
+    → StepsPlain region at number keyLen key b out r k ys → StepsPlain region at number keyLen key b out q l zs
+    → (r ≡ q) × SameKey (plainStep region at number keyLen key b (length out)) k l × (ys ≡ zs)
+plain-step-settled region at number keyLen key b out r q k l ys zs m n = (
   m .answer ∙ sym (n .answer),
-  same-key (plainStep region at keyLen key b (length out)) key k l (m .key-bytes) (n .key-bytes),
+  same-key (plainStep region at number keyLen key b (length out)) key k l (m .key-bytes) (n .key-bytes),
   m .lent ∙ sym (n .lent),
 )

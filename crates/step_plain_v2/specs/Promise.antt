@@ -20,5 +20,6 @@ pub record Goes (want : Res Step) (key out : List ℕ) (r : Stepped) (key′ out
   pub key-bytes : KeyMoved want key key′
   pub lent : out′ ≡ keyAfter want out
 
-abbrev pub StepsPlain : ℕ → ℕ → ℕ → List ℕ → List ℕ → List ℕ → Stepped → List ℕ → List ℕ → Type 0
-StepsPlain region at keyLen key b out r key′ out′ = Goes (plainStep region at keyLen key b (length out)) key out r key′ out′
+abbrev pub StepsPlain : ℕ → ℕ → ℕ → ℕ → List ℕ → List ℕ → List ℕ → Stepped → List ℕ → List ℕ → Type 0
+StepsPlain region at number keyLen key b out r key′ out′ =
+    Goes (plainStep region at number keyLen key b (length out)) key out r key′ out′

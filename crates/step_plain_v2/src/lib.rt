@@ -14,6 +14,7 @@ ghost use Rattle.step_plain_v2.specs.Promise.{StepsPlain};
 // none was.
 pub struct Stepped {
     pub region: usize,
+    pub number: usize,
     pub key_len: usize,
     pub next: usize,
     pub shared: usize,
@@ -49,6 +50,7 @@ fn no_step() -> Stepped
 {
     Stepped {
         region: 0,
+        number: 0,
         key_len: 0,
         next: 0,
         shared: 0,
@@ -71,11 +73,12 @@ fn look_plain(
     block: &[u8],
     region: usize,
     at: usize,
+    number: usize,
     key_len: usize,
     held: usize,
     room: usize,
 ) -> Ahead
-    ensures { λ r. ⌜ r ≡ aheadAt (now (block .entry)) region at «key_len» held room ⌝ }
+    ensures { λ r. ⌜ r ≡ aheadAt (now (block .entry)) region at number «key_len» held room ⌝ }
 {
     if (basics::MAX_KEY < key_len) | (held != basics::MAX_KEY) {
         return no_ahead();
@@ -86,6 +89,9 @@ fn look_plain(
         return no_ahead();
     }
     if at < g.start {
+        return no_ahead();
+    }
+    if basics::wrong_after(at - g.start, number) {
         return no_ahead();
     }
     let most = pick(at == g.start, 0, key_len);
@@ -211,13 +217,14 @@ pub fn plain_step(
     key: &mut [u8],
     region: usize,
     at: usize,
+    number: usize,
     key_len: usize,
     block: &[u8],
     out: &mut [u8],
 ) -> Stepped
-    ensures { λ r. ⌜ StepsPlain region at «key_len» (now (key .entry)) (now (block .entry)) (now (out .entry)) r (now (key .exit)) (now (out .exit)) ⌝ }
+    ensures { λ r. ⌜ StepsPlain region at number «key_len» (now (key .entry)) (now (block .entry)) (now (out .entry)) r (now (key .exit)) (now (out .exit)) ⌝ }
 {
-    let row = look_plain(block, region, at, key_len, key.len(), out.len());
+    let row = look_plain(block, region, at, number, key_len, key.len(), out.len());
     if row.next == 0 {
         return no_step();
     }
@@ -227,6 +234,7 @@ pub fn plain_step(
     let seq_end = seq_at + 8;
     Stepped {
         region: pick(over, region + 1, region),
+        number: pick(over, 0, number + 1),
         key_len: pick(over, 0, row.shared + row.unshared),
         next: row.next,
         shared: row.shared,
