@@ -1,16 +1,18 @@
 -- The words of a row's fields, read and written: each exit of the functions that do it is one of these laws.
 -- What is read is the definition's once the number of words, the kind and the two times are known, in this order; what is written is put together from the words of the value and of
 -- each time, case by case.
-use Prim.Native.Nat.{ℕ}
+use Prim.Native.Nat.{ℕ, _+_}
 use mathlib.Core.Bool.{true, false}
-use mathlib.Core.Path.{_≡_, refl, ap, sym, _∙_}
-use mathlib.Core.List.{List, [], _∷_}
+use mathlib.Core.Path.{_≡_, refl, ap, sym, _∙_, subst}
+use mathlib.Core.List.{List, [], _∷_, _++_}
 use lib.IntN.{ℤ}
-use lib.ListN.{length, set}
+use native.Mathlib.Omega.{arith}
+use lib.ListN.{length, set, drop, length-append, length-drop}
 use borrow.Author.Tests.{ne-eqb}
 use Rattle.layout.specs.Res.{ok, refuse}
 use Rattle.layout.specs.Fixed.{bits, unbits}
 use Rattle.layout.specs.Row.{Kind as KindL, value, tombstone, Time as TimeL, Absent as absent, At as at-time}
+use Rattle.layout.specs.RowRead.{RowRead, Held, holds, gone, merges}
 use Rattle.basics.specs.Says.{saysKind, saysTime, saysHeld}
 use Rattle.basics.specs.declared.Time.{Time}
 use Rattle.basics.specs.declared.Time.the-variants.{Absent, At}
@@ -19,12 +21,12 @@ use Rattle.basics.specs.declared.ValueDeletable.the-variants.{Value, Tombstone,
 use Rattle.row_decode_v2.specs.Says.{rowFrom}
 use Rattle.row_decode_v2.specs.declared.Row.{Row}
 use Rattle.row_flags.specs.declared.RowFields.{RowFields}
-use Rattle.row_words.specs.Words.{badWords, truthIn, wordAt, kindIn, timeIn, fieldsIn, heldWords, timeWords, rowWords, fieldsCount, rowCount}
+use Rattle.row_words.specs.Words.{badWords, truthIn, wordAt, kindIn, timeIn, fieldsIn, heldWords, timeWords, singleWords, rowWords, fieldsCount, singleCount, rowCount}
 use Rattle.row_words.specs.Says.{saysFields, heldFrom, timeWordsOf}
 use Rattle.row_words.specs.declared.FieldsRead.the-variants.{Is as IsFields}
 use Rattle.row_words.specs.declared.TimeWords.{TimeWords}
 use Rattle.row_words.proofs.Laws.{of-none, counted-not, counted-so}
-use Rattle.row_words.proofs.Stores.{all-stored}
+use Rattle.row_words.proofs.Stores.{stored, all-stored, stored-behind}
 
 pub kind-none : {w : ℕ} → (w ≡ 2 → ⊥) → (w ≡ 0 → ⊥) → (w ≡ 1 → ⊥) → refuse badWords ≡ kindIn w
 kind-none {w} h i j = rw (ne-eqb w 2 h) (of-none value tombstone i j)
@@ -87,7 +89,7 @@ time-words (At z) rest = refl
 pub row-words : (r : Row)
     → r .start ∷ r .next ∷ r .shared ∷ r .«suffix_at» ∷ r .«suffix_len» ∷ heldFrom (r .held) .kind ∷ heldFrom (r .held) .start ∷ heldFrom (r .held) .len ∷ r .seq
     ∷ timeWordsOf (r .expire) .has ∷ timeWordsOf (r .expire) .bits ∷ timeWordsOf (r .create) .has ∷ timeWordsOf (r .create) .bits ∷ []
-    ≡ rowWords (rowFrom r)
+    ≡ singleWords (rowFrom r)
 row-words r =
     ap (λ (x : List ℕ). r .start ∷ r .next ∷ r .shared ∷ r .«suffix_at» ∷ r .«suffix_len» ∷ x)
     (ap (λ (x : List ℕ). heldFrom (r .held) .kind ∷ heldFrom (r .held) .start ∷ heldFrom (r .held) .len ∷ r .seq ∷ x)
@@ -95,9 +97,36 @@ row-words r =
     ∙ held-words (r .held) (r .seq ∷ timeWords (saysTime (r .expire)) (timeWords (saysTime (r .create)) [])))
 
 -- a row's words, all stored
-pub row-stored : (ws : List ℕ) (r : Row) → length ws ≡ rowCount
+pub row-stored : (ws : List ℕ) (r : Row) → length ws ≡ singleCount
     → set (set (set (set (set (set (set (set (set (set (set (set (set ws 0 (r .start)) 1 (r .next)) 2 (r .shared)) 3 (r .«suffix_at»)) 4 (r .«suffix_len»)) 5 (heldFrom (r .held) .kind)) 6 (heldFrom (r .held) .start)) 7 (heldFrom (r .held) .len)) 8 (r .seq)) 9 (timeWordsOf (r .expire) .has)) 10 (timeWordsOf (r .expire) .bits)) 11 (timeWordsOf (r .create) .has)) 12 (timeWordsOf (r .create) .bits)
-    ≡ rowWords (rowFrom r)
+    ≡ singleWords (rowFrom r)
 row-stored ws r h =
     all-stored (_ ∷ _ ∷ _ ∷ _ ∷ _ ∷ _ ∷ _ ∷ _ ∷ _ ∷ _ ∷ _ ∷ _ ∷ _ ∷ []) ws h
     ∙ row-words r
+
+-- ---- with the numbers that name it
+
+held-count : (h : Held) (rest : List ℕ) → length (heldWords h rest) ≡ 3 + length rest
+held-count (holds at n) rest = omega arith
+held-count gone rest = omega arith
+held-count (merges at n) rest = omega arith
+
+time-count : (t : TimeL) (rest : List ℕ) → length (timeWords t rest) ≡ 2 + length rest
+time-count absent rest = omega arith
+time-count (at-time z) rest = omega arith
+
+single-count : (r : RowRead) → length (singleWords r) ≡ singleCount
+single-count r =
+    omega (arith, held-count (r .held) (r .seq ∷ timeWords (r .expire) (timeWords (r .create) [])), time-count (r .expire) (timeWords (r .create) []), time-count (r .create) [])
+
+-- for callers that put rows side by side
+pub row-count : (region number : ℕ) (r : RowRead) → length (rowWords region number r) ≡ rowCount
+row-count region number r = length-append (singleWords r) (region ∷ number ∷ []) ∙ rw (single-count r)
+
+-- the two numbers, stored behind a row's own words
+pub numbers-stored : (ws : List ℕ) (region number : ℕ) (r : RowRead) {part : List ℕ} → length ws ≡ rowCount → part ≡ singleWords r
+    → set (set (part ++ drop singleCount ws) 13 region) 14 number ≡ rowWords region number r
+numbers-stored ws region number r h e =
+    rw e
+    (subst (λ (n : ℕ). stored n (singleWords r ++ drop singleCount ws) (region ∷ number ∷ []) ≡ rowWords region number r) (single-count r)
+    (stored-behind (singleWords r) (drop singleCount ws) (region ∷ number ∷ []) (length-drop singleCount ws ∙ omega (arith, h))))

@@ -2,7 +2,7 @@
 -- Each store takes the old word of its place away and leaves the words before it, so once all places are stored none of the old words is left.
 use Prim.Native.Nat.{ℕ, suc}
 use mathlib.Core.Path.{_≡_, refl, ap, _∙_}
-use mathlib.Core.List.{List, [], _∷_}
+use mathlib.Core.List.{List, [], _∷_, _++_}
 use native.Mathlib.Omega.{arith}
 use lib.ListN.{length, set}
 
@@ -21,3 +21,8 @@ all-stored [] [] h = refl
 all-stored [] (w ∷ ws) h = absurd (omega arith)
 all-stored (x ∷ xs) [] h = absurd (omega arith)
 all-stored (x ∷ xs) (w ∷ ws) h = first-stays xs 0 x ws ∙ ap (λ (ys : List ℕ). x ∷ ys) (all-stored xs ws (omega arith))
+
+-- behind words that are there
+pub stored-behind : (xs ys zs : List ℕ) → length ys ≡ length zs → stored (length xs) (xs ++ ys) zs ≡ xs ++ zs
+stored-behind [] ys zs h = all-stored zs ys h
+stored-behind (x ∷ xs) ys zs h = first-stays zs (length xs) x (xs ++ ys) ∙ ap (λ (l : List ℕ). x ∷ l) (stored-behind xs ys zs h)

@@ -6,7 +6,7 @@ use mathlib.Core.List.{List, []}
 use Rattle.row_decode_v2.specs.declared.Row.{Row}
 use Rattle.row_words.specs.declared.FieldsRead.{FieldsRead}
 use Rattle.row_words.specs.Says.{saysFields-one, saysTruth-one}
-use Rattle.row_words.specs.Promise.{Stores, TellsTruth, LoadsFields, PutsRow, LoadsTruth}
+use Rattle.row_words.specs.Promise.{Stores, TellsTruth, LoadsFields, PutsSingle, PutsRow, LoadsTruth}
 use Rattle.row_words.specs.declared.TruthRead.{TruthRead}
 
 pub stores-settled : {n : ℕ} {new ws : List ℕ} {r q : Bool} {ys zs : List ℕ} → Stores n new ws r ys → Stores n new ws q zs → (r ≡ q) × (ys ≡ zs)
@@ -21,5 +21,9 @@ truth-word-settled b r q m n = m ∙ sym n
 pub fields-in-settled : (ws : List ℕ) (r q : FieldsRead) → LoadsFields ws r → LoadsFields ws q → r ≡ q
 fields-in-settled ws r q m n = saysFields-one [] r q (m [] ∙ sym (n []))
 
-pub put-row-settled : (row : Row) (ws : List ℕ) (r q : Bool) (ys zs : List ℕ) → PutsRow row ws r ys → PutsRow row ws q zs → (r ≡ q) × (ys ≡ zs)
-put-row-settled row ws r q ys zs m n = stores-settled m n
+pub put-single-settled : (row : Row) (ws : List ℕ) (r q : Bool) (ys zs : List ℕ) → PutsSingle row ws r ys → PutsSingle row ws q zs → (r ≡ q) × (ys ≡ zs)
+put-single-settled row ws r q ys zs m n = stores-settled m n
+
+pub put-row-settled : (region number : ℕ) (row : Row) (ws : List ℕ) (r q : Bool) (ys zs : List ℕ) → PutsRow region number row ws r ys → PutsRow region number row ws q zs
+    → (r ≡ q) × (ys ≡ zs)
+put-row-settled region number row ws r q ys zs m n = stores-settled m n

@@ -8,7 +8,7 @@ use lib.ListN.{length}
 use Rattle.row_decode_v2.specs.Says.{rowFrom}
 use Rattle.row_decode_v2.specs.declared.Row.{Row}
 use Rattle.row_words.specs.declared.FieldsRead.{FieldsRead}
-use Rattle.row_words.specs.Words.{truthWord, fieldsIn, rowWords, truthIn, rowCount}
+use Rattle.row_words.specs.Words.{truthWord, fieldsIn, singleWords, rowWords, truthIn, singleCount, rowCount}
 use Rattle.row_words.specs.Says.{saysFields, saysTruth}
 use Rattle.row_words.specs.declared.TruthRead.{TruthRead}
 
@@ -27,5 +27,8 @@ TellsTruth b r = r ≡ truthWord b
 abbrev pub LoadsFields : List ℕ → FieldsRead → Type 0
 LoadsFields ws r = (v : List ℕ) → saysFields v r ≡ fieldsIn ws v
 
-abbrev pub PutsRow : Row → List ℕ → Bool → List ℕ → Type 0
-PutsRow row ws r ws′ = Stores rowCount (rowWords (rowFrom row)) ws r ws′
+abbrev pub PutsSingle : Row → List ℕ → Bool → List ℕ → Type 0
+PutsSingle row ws r ws′ = Stores singleCount (singleWords (rowFrom row)) ws r ws′
+
+abbrev pub PutsRow : ℕ → ℕ → Row → List ℕ → Bool → List ℕ → Type 0
+PutsRow region number row ws r ws′ = Stores rowCount (rowWords region number (rowFrom row)) ws r ws′

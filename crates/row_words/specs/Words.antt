@@ -1,7 +1,7 @@
 -- What crosses the C interface: the words that stand for a cursor, a builder, a row's fields and a row, and the code that a call answers.
 use Prim.Native.Nat.{ℕ}
 use mathlib.Core.Bool.{Bool, true, false, cond, not}
-use mathlib.Core.List.{List, [], _∷_}
+use mathlib.Core.List.{List, [], _∷_, _++_}
 use lib.Dec.{eqb}
 use lib.ListN.{length, getD, take}
 use Rattle.layout.specs.Res.{Res, ok, refuse, bind, guard}
@@ -33,7 +33,7 @@ setBy (refuse n) f old = old
 
 -- how many there are of each
 abbrev pub cursorCount : ℕ
-cursorCount = 5
+cursorCount = 6
 
 abbrev pub builderCount : ℕ
 builderCount = 6
@@ -41,8 +41,11 @@ builderCount = 6
 abbrev pub fieldsCount : ℕ
 fieldsCount = 6
 
+abbrev pub singleCount : ℕ
+singleCount = 13
+
 abbrev pub rowCount : ℕ
-rowCount = 13
+rowCount = 15
 
 abbrev pub wordAt : List ℕ → ℕ → ℕ
 wordAt ws i = getD ws i 0
@@ -61,7 +64,7 @@ truthIn w = oneOf false true w
 abbrev pub truthWord : Bool → ℕ
 truthWord b = cond b 1 0
 
--- ---- a cursor: order, region, position, length of the key, mark; its key's bytes stand beside them
+-- ---- a cursor: order, region, position, length of the key, mark, number; its key's bytes stand beside them
 
 abbrev pub orderIn : ℕ → Res Direction
 orderIn w = oneOf ascending descending w
@@ -72,7 +75,7 @@ orderWord descending = 1
 
 abbrev pub cursorFrom : List ℕ → Key → Direction → Bool → Cursor
 cursorFrom ws key d m =
-    record { order = d; region = wordAt ws 1; at = wordAt ws 2; keyLen = wordAt ws 3; key = take (wordAt ws 3) key; done = m }
+    record { order = d; region = wordAt ws 1; at = wordAt ws 2; number = wordAt ws 5; keyLen = wordAt ws 3; key = take (wordAt ws 3) key; done = m }
 
 unfoldable pub cursorIn : List ℕ → Key → Res Cursor
 cursorIn ws key =
@@ -82,7 +85,7 @@ cursorIn ws key =
     ok (cursorFrom ws key d m))
 
 abbrev pub cursorWords : Cursor → List ℕ
-cursorWords c = orderWord (c .order) ∷ c .region ∷ c .at ∷ c .keyLen ∷ truthWord (c .done) ∷ []
+cursorWords c = orderWord (c .order) ∷ c .region ∷ c .at ∷ c .keyLen ∷ truthWord (c .done) ∷ c .number ∷ []
 
 -- ---- a builder: settings, bytes and places in use, its count of rows, length of the last key; the last key's bytes stand beside them
 
@@ -123,7 +126,7 @@ fieldsIn ws v =
     bind (timeIn (wordAt ws 4) (wordAt ws 5)) λ c.
     ok (record { kind = k; val = v; seq = wordAt ws 1; expire = e; create = c }))
 
--- ---- a row that was read: its places and its fields
+-- ---- a row that was read: its places and its fields; of a block's row then the region's number and the row's own in it
 
 abbrev pub heldWords : Held → List ℕ → List ℕ
 heldWords (holds start n) rest = 0 ∷ start ∷ n ∷ rest
@@ -134,5 +137,8 @@ abbrev pub timeWords : Time → List ℕ → List ℕ
 timeWords Absent rest = 0 ∷ 0 ∷ rest
 timeWords (At z) rest = 1 ∷ bits z ∷ rest
 
-abbrev pub rowWords : RowRead → List ℕ
-rowWords r = r .start ∷ r .next ∷ r .shared ∷ r .suffixAt ∷ r .suffixLen ∷ heldWords (r .held) (r .seq ∷ timeWords (r .expire) (timeWords (r .create) []))
+abbrev pub singleWords : RowRead → List ℕ
+singleWords r = r .start ∷ r .next ∷ r .shared ∷ r .suffixAt ∷ r .suffixLen ∷ heldWords (r .held) (r .seq ∷ timeWords (r .expire) (timeWords (r .create) []))
+
+abbrev pub rowWords : ℕ → ℕ → RowRead → List ℕ
+rowWords region number r = singleWords r ++ (region ∷ number ∷ [])

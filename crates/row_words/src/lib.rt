@@ -3,7 +3,7 @@
 ghost use mathlib.Core.Path.{_≡_};
 ghost use Rattle.row_words.specs.Words.{kindIn, timeIn};
 ghost use Rattle.row_words.specs.Says.{saysKindRead, saysTimeRead, heldFrom, timeWordsOf};
-ghost use Rattle.row_words.specs.Promise.{LoadsTruth, TellsTruth, LoadsFields, PutsRow};
+ghost use Rattle.row_words.specs.Promise.{LoadsTruth, TellsTruth, LoadsFields, PutsSingle, PutsRow};
 use basics::Kind;
 use basics::Time;
 use basics::ValueDeletable;
@@ -12,7 +12,11 @@ use row_flags::RowFields;
 
 const FIELDS_WORDS: usize = 6;
 
-pub const ROW_WORDS: usize = 13;
+// a row by itself
+pub const SINGLE_WORDS: usize = 13;
+
+// a row of a block
+pub const ROW_WORDS: usize = 15;
 
 pub enum TruthRead {
     Is(bool),
@@ -153,10 +157,10 @@ fn time_words(time: Time) -> TimeWords
     }
 }
 
-pub fn put_row(words: &mut [u64], row: Row) -> bool
-    ensures { λ r. ⌜ PutsRow row (now (words .entry)) r (now (words .exit)) ⌝ }
+pub fn put_single(words: &mut [u64], row: Row) -> bool
+    ensures { λ r. ⌜ PutsSingle row (now (words .entry)) r (now (words .exit)) ⌝ }
 {
-    if words.len() != ROW_WORDS {
+    if words.len() != SINGLE_WORDS {
         return false;
     }
     let held = row.held;
@@ -178,5 +182,18 @@ pub fn put_row(words: &mut [u64], row: Row) -> bool
     words[10] = e.bits;
     words[11] = c.has;
     words[12] = c.bits;
+    true
+}
+
+// A row with the numbers that name it: its region's, and its own there.
+pub fn put_row(words: &mut [u64], region: usize, number: usize, row: Row) -> bool
+    ensures { λ r. ⌜ PutsRow region number row (now (words .entry)) r (now (words .exit)) ⌝ }
+{
+    if words.len() != ROW_WORDS {
+        return false;
+    }
+    put_single(&mut words[..SINGLE_WORDS], row);
+    words[13] = region as u64;
+    words[14] = number as u64;
     true
 }

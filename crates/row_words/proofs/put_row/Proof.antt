@@ -1,60 +1,40 @@
--- `put_row` stores a row as thirteen words; where there is another number of words it leaves them and says so.
--- With every place set, nothing of the old list is left, and the new one is the row's (`row-stored`): its value and its two times are in it as `held_words` and `time_words` gave them.
+-- `put_row` stores a row as fifteen words; where there is another number of words it leaves them and says so.
+-- The first thirteen are those of `put_single`, which is lent as many; the row's two numbers are stored behind them (`numbers-stored`).
+use mathlib.Core.Path.{_≡_, sym}
 use native.Mathlib.Omega.{arith}
-use lib.ListN.{length-set}
-use Rattle.row_words.proofs.Laws.{stores-none, stores-all}
-use Rattle.row_words.proofs.Fields.{row-stored}
+use lib.ListN.{length, take, length-set}
+use lib.Seq.{length-take-le}
+use Rattle.row_decode_v2.specs.Says.{rowFrom}
+use Rattle.row_words.specs.Words.{singleCount}
+use Rattle.row_words.proofs.Laws.{stores-none, stores-all, stored}
+use Rattle.row_words.proofs.Fields.{numbers-stored}
 use borrow.Author.Needs.{needs}
 use Rattle.row_words.proofs.put_row.Statement.{statement}
 use Rattle.row_words.proofs.put_row.Tie as tie
 
+-- the words that are lent
+thirteen : (k : tie.Else1) → length (take singleCount (k .before .before .args .words .now)) ≡ singleCount
+thirteen k = length-take-le singleCount (k .before .before .args .words .now) (omega (arith, k .if1 .left))
+
 returns : tie.Need-returns
 returns c = stores-none _ (c .if1 .taken)
 
-slice-write-words-4 : tie.Need-slice-write-words-4
-slice-write-words-4 c = simp length-set (omega (arith, c .before .before .before .if1 .left))
+slice-aggregate-put-single : tie.Need-slice-aggregate-put-single
+slice-aggregate-put-single c = sym (thirteen (c .before))
 
-slice-write-words-5 : tie.Need-slice-write-words-5
-slice-write-words-5 c = simp length-set (omega (arith, c .before .before .before .if1 .left))
-
-slice-write-words-6 : tie.Need-slice-write-words-6
-slice-write-words-6 c = simp length-set (omega (arith, c .before .before .before .if1 .left))
-
-slice-write-words-7 : tie.Need-slice-write-words-7
-slice-write-words-7 c = simp length-set (omega (arith, c .before .before .before .if1 .left))
-
-slice-write-words-8 : tie.Need-slice-write-words-8
-slice-write-words-8 c = simp length-set (omega (arith, c .before .before .before .if1 .left))
-
-slice-write-words-9 : tie.Need-slice-write-words-9
-slice-write-words-9 c = simp length-set (omega (arith, c .before .before .before .if1 .left))
-
-slice-write-words-10 : tie.Need-slice-write-words-10
-slice-write-words-10 c = simp length-set (omega (arith, c .before .before .before .if1 .left))
-
-slice-write-words-11 : tie.Need-slice-write-words-11
-slice-write-words-11 c = simp length-set (omega (arith, c .before .before .before .if1 .left))
-
-slice-write-words-12 : tie.Need-slice-write-words-12
-slice-write-words-12 c = simp length-set (omega (arith, c .before .before .before .if1 .left))
-
-slice-write-words-13 : tie.Need-slice-write-words-13
-slice-write-words-13 c = simp length-set (omega (arith, c .before .before .before .if1 .left))
-
-same-length : tie.Need-same-length
-same-length c = simp length-set
+slice-write-words-2 : tie.Need-slice-write-words-2
+slice-write-words-2 c = simp length-set (omega (arith, c .before .before .before .before .if1 .left))
 
 returns-2 : tie.Need-returns-2
 returns-2 c =
-    let counted = c .before .before .before in
-    let start = counted .before .before in
-    stores-all (start .args .words .now) (counted .if1 .left) (rw (c .before .before .held-words .ensures, c .before .time-words .ensures, c .time-words2 .ensures) (row-stored (start .args .words .now) (start .args .row) (counted .if1 .left)))
+    let put = c .before .before in
+    let counted = put .before .before in
+    let a = counted .before .before .args in
+    stores-all (a .words .now) (counted .if1 .left) (numbers-stored (a .words .now) (a .region) (a .number) (rowFrom (a .row)) (counted .if1 .left) (stored (thirteen counted) (put .put-single .ensures)))
 
 pub put-row-spec : {M : Type 1} → statement M
 put-row-spec =
     tie.close
     (tie.spec
-    returns (search needs) (search needs) (search needs) (λ c. search needs) (λ c. search needs)
-    (λ c. search needs) slice-write-words-4 slice-write-words-5 slice-write-words-6 slice-write-words-7
-    slice-write-words-8 slice-write-words-9 slice-write-words-10 slice-write-words-11 slice-write-words-12
-    slice-write-words-13 same-length returns-2)
+    returns (λ c. search needs) slice-aggregate-put-single (λ c κs. search needs) (λ c. search needs)
+    slice-write-words-2 (λ c. search needs) returns-2)
