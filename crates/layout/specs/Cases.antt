@@ -18,7 +18,7 @@ use Rattle.layout.specs.Block.{isRestart, shareOf, laidRow, rowsFrom, of
 use Rattle.layout.specs.Trailer.{shortAt, trailerOf, risingFrom, allOffsets, regionOf}
 use Rattle.layout.specs.Builder.{Builder, fresh, stateTests, fits, wouldFit, add, stateAfter, dataAfter, placesAfter, build, blockAfter}
 use Rattle.layout.specs.Number.{endedFrom, endedBy, numberAt}
-use Rattle.layout.specs.Cursor.{Direction, ascending, descending, Cursor, keptCursor, cursorIs, openedUp, Answer, found, done, Step, rowEndingAt, stepUp, stepBackIn, stepDown, next}
+use Rattle.layout.specs.Cursor.{Direction, ascending, descending, Cursor, keptCursor, cursorIs, openedUp, Answer, found, done, Step, rowEndingAt, stepUp, stepBackIn, stepDown, next, openAlong, openBlock}
 use Rattle.layout.specs.Check.{check, checkFrom, checkRow}
 use Rattle.layout.specs.Seek.{middle, searchIn, search, restartKey, restartBelow, searchRestarts, walkRegion, walkUp, seekUp, lastEqual, startDown, lastAtOrBelow, walkDown, seekDown, seek}
 
@@ -103,6 +103,49 @@ landed d b target =
     bind (next (s .cursor) b maxKey) λ a.
     landedBy (rowStarts 9 openedUp b) (s .reads) (s .cursor .done) (a .answer)
 
+-- ---- which row is this
+
+-- where a cursor stands: its region, its position, and how many rows of the region end at or before that
+pub record Stand : Type 0 where
+  pub region : ℕ
+  pub at : ℕ
+  pub number : ℕ
+
+abbrev pub stand : ℕ → ℕ → ℕ → Stand
+stand region at number = record { region = region; at = at; number = number }
+
+abbrev pub standOf : Cursor → Stand
+standOf c = stand (c .region) (c .at) (c .number)
+
+-- what a step tells: a row's region and its number there, or "done", and where the cursor stands then; or its refusal
+pub data Seen : Type 0 where
+  gave : ℕ → ℕ → Stand → Seen
+  over : Stand → Seen
+  no : ℕ → Seen
+
+abbrev pub seenAs : Answer → Stand → Seen
+seenAs (found region number r key) s = gave region number s
+seenAs done s = over s
+
+abbrev pub seenBy : Res Step → (Cursor → List Seen) → List Seen
+seenBy (ok s) k = seenAs (s .answer) (standOf (s .cursor)) ∷ k (s .cursor)
+seenBy (refuse n) k = no n ∷ []
+
+unfoldable pub seen : ℕ → Cursor → List ℕ → List Seen
+seen zero c b = []
+seen (suc n) c b = seenBy (next c b maxKey) (λ c′. seen n c′ b)
+
+-- an opened cursor, and a walk with it
+pub record Travel : Type 0 where
+  pub first : Stand
+  pub told : List Seen
+
+abbrev pub travel : Stand → List Seen → Travel
+travel first told = record { first = first; told = told }
+
+abbrev pub travelled : ℕ → List ℕ → Cursor → Res Travel
+travelled n b c = ok (travel (standOf c) (seen n c b))
+
 abbrev pub rowWith : Key → List ℕ → ℕ → Row
 rowWith key val seq = record { key = key; fields = record { kind = value; val = val; seq = seq; expire = Absent; create = Absent } }
 
@@ -155,6 +198,12 @@ pub data Case : Type 0 where
   edges : ℕ → List ℕ → Case
   -- a row after a key, not at a restart: its bytes, and the length of its key as it is read back
   shares : Key → Row → List ℕ → ℕ → Case
+  -- a block opened: where the cursor stands, and what each step tells; or the refusal
+  travels : List ℕ → Direction → Res Travel → Case
+  -- a seek in a block: where it leaves the cursor
+  stands : List ℕ → Direction → Key → Stand → Case
+  -- any cursor on a block: what each step tells
+  steps : List ℕ → Cursor → List Seen → Case
 
 abbrev pub Holds : Case → Type 0
 Holds (lays r bytes n) =
@@ -171,6 +220,10 @@ Holds (seeks interval rows d target answer) = landed d (blockFor 4096 interval r
 Holds (edges n said) = edgeAnswers (rowWith (replicate n 107) [] 1) ≡ said
 Holds (shares before r bytes n) =
     (laidRow false before (r .key) (r .fields) ≡ bytes) × (bind (readRow bytes 0 (length bytes) (length before) false) (λ q. ok (keyLength q)) ≡ ok n)
+Holds (travels b d (ok t)) = bind (openBlock b d) (travelled (length (t .told)) b) ≡ ok t
+Holds (travels b d (refuse n)) = openBlock b d ≡ refuse n
+Holds (stands b d target s) = bind (seek d b target) (λ q. ok (standOf (q .cursor))) ≡ ok s
+Holds (steps b c told) = seen (length told) c b ≡ told
 
 abbrev pub AllHold : List Case → Type 0
 AllHold [] = Unit {0}
@@ -212,6 +265,17 @@ twice x y = rowWith keyA [] x ∷ rowWith keyA [] y ∷ []
 
 abbrev largest : ℕ
 largest = 18446744073709551615
+
+-- case 8's block, and its rows in one region
+abbrev block8 : List ℕ
+block8 = blockFor 4096 2 rows8
+
+abbrev region8 : List ℕ
+region8 = blockFor 4096 16 rows8
+
+-- case 2's block with flags in its last row that there are not
+abbrev damaged2 : List ℕ
+damaged2 = bytesA ++ (take 13 bytesAB ++ (16 ∷ 0 ∷ 0 ∷ 0 ∷ 1 ∷ []))
 
 abbrev pub cases : List Case
 cases =
@@ -283,9 +347,42 @@ cases =
     ∷ edges (suc maxKey) (replicate 6 2 ++ (7 ∷ (replicate 5 2 ++ (18 ∷ 18 ∷ []))))
     -- a row that shares all of the longest key but its last byte
     ∷ shares (replicate (maxKey - 1) 107 ++ (97 ∷ [])) (rowWith (replicate (maxKey - 1) 107 ++ (98 ∷ [])) [] 2) (255 ∷ 31 ∷ 1 ∷ 0 ∷ 98 ∷ 0 ∷ 0 ∷ 0 ∷ 0 ∷ 0 ∷ 0 ∷ 0 ∷ 2 ∷ 0 ∷ []) maxKey
+    -- which row is this: case 8's block walked both ways, with the hand-over from region to region, and "done", which leaves the number
+    ∷ travels block8 ascending (ok (travel (stand 0 0 0) (gave 0 0 (stand 0 13 1) ∷ gave 0 1 (stand 1 26 0) ∷ gave 1 0 (stand 1 39 1) ∷ gave 1 1 (stand 2 51 0) ∷ gave 2 0 (stand 2 64 1) ∷ over (stand 2 64 1) ∷ [])))
+    ∷ travels block8 descending (ok (travel (stand 2 64 1) (gave 2 0 (stand 2 51 0) ∷ gave 1 1 (stand 1 39 1) ∷ gave 1 0 (stand 1 26 0) ∷ gave 0 1 (stand 0 13 1) ∷ gave 0 0 (stand 0 0 0) ∷ over (stand 0 0 0) ∷ [])))
+    -- and sought in
+    ∷ stands block8 ascending [] (stand 0 0 0)
+    ∷ stands block8 ascending (98 ∷ []) (stand 0 13 1)
+    ∷ stands block8 ascending (98 ∷ 98 ∷ []) (stand 2 51 0)
+    ∷ stands block8 ascending (100 ∷ []) (stand 2 64 1)
+    ∷ stands block8 descending [] (stand 0 0 0)
+    ∷ stands block8 descending (98 ∷ []) (stand 1 51 2)
+    ∷ stands block8 descending (98 ∷ 98 ∷ []) (stand 1 51 2)
+    ∷ stands block8 descending (100 ∷ []) (stand 2 64 1)
+    -- a damaged last region is met by opening backwards
+    ∷ travels damaged2 ascending (ok (travel (stand 0 0 0) []))
+    ∷ travels damaged2 descending (refuse 11)
+    -- wrong numbers, ascending: 0 past the start, at the data's end too, and one above the twelfth, at the start too; a wrong one that can be is handed on
+    ∷ steps region8 (cursorIs ascending 0 38 0 (98 ∷ []) false) (no 18 ∷ [])
+    ∷ steps region8 (cursorIs ascending 0 38 4 (98 ∷ []) false) (no 18 ∷ [])
+    ∷ steps region8 (cursorIs ascending 0 38 1 (98 ∷ []) false) (gave 0 1 (stand 0 50 2) ∷ gave 0 2 (stand 0 63 3) ∷ over (stand 0 63 3) ∷ [])
+    ∷ steps region8 (cursorIs ascending 0 0 1 [] false) (no 18 ∷ [])
+    ∷ steps block8 (cursorIs ascending 2 64 0 [] false) (no 18 ∷ [])
+    -- descending: any but the true one, after the rows' own refusals
+    ∷ steps region8 (cursorIs descending 0 38 2 [] false) (no 18 ∷ [])
+    ∷ steps region8 (cursorIs descending 0 38 4 [] false) (no 18 ∷ [])
+    ∷ steps region8 (cursorIs descending 0 38 3 [] false) (gave 0 2 (stand 0 26 2) ∷ [])
+    ∷ steps damaged2 (cursorIs descending 0 27 9 [] false) (no 11 ∷ [])
+    -- at a region's start, before the region before is used, and before "done"
+    ∷ steps block8 (cursorIs descending 1 26 1 [] false) (no 18 ∷ [])
+    ∷ steps block8 (cursorIs descending 1 26 0 [] false) (gave 0 1 (stand 0 13 1) ∷ [])
+    ∷ steps block8 (cursorIs descending 0 0 1 [] false) (no 18 ∷ [])
+    -- of a marked cursor it is not tested
+    ∷ steps block8 (cursorIs ascending 0 13 9 [] true) (over (stand 0 13 9) ∷ [])
+    ∷ steps block8 (cursorIs descending 1 26 9 [] true) (over (stand 1 26 9) ∷ [])
     ∷ []
 
 pub cases-hold : AllHold cases
-unfolding endedFrom endedBy numberAt leadingZeros answers offered finished blockFor rowStarts numberIn landed varint varintIn varintLength readVarint readVarintIn big unbig bits unbits varintAt fixedAt splice below common timeBytes rowBytes rowSize sizeAlone keyLengthTests lengthTests decodeRow lengthsAt headTests headAt flagsAt bodyTests bodyAt timeAt timesAt rowAt readRow readKey isRestart shareOf laidRow offsetBytes trailer shortAt trailerOf risingFrom allOffsets regionOf stateTests fits wouldFit add build rowEndingAt stepUp stepBackIn stepDown next middle searchIn search restartKey restartBelow searchRestarts walkRegion walkUp seekUp lastEqual startDown lastAtOrBelow walkDown seekDown seek edgeAnswers encodeRow restoreKey check checkFrom checkRow mayFollow blockBytes blockRows offsets rowsFrom offsetsFrom
+unfolding endedFrom endedBy numberAt openAlong openBlock seen leadingZeros answers offered finished blockFor rowStarts numberIn landed varint varintIn varintLength readVarint readVarintIn big unbig bits unbits varintAt fixedAt splice below common timeBytes rowBytes rowSize sizeAlone keyLengthTests lengthTests decodeRow lengthsAt headTests headAt flagsAt bodyTests bodyAt timeAt timesAt rowAt readRow readKey isRestart shareOf laidRow offsetBytes trailer shortAt trailerOf risingFrom allOffsets regionOf stateTests fits wouldFit add build rowEndingAt stepUp stepBackIn stepDown next middle searchIn search restartKey restartBelow searchRestarts walkRegion walkUp seekUp lastEqual startDown lastAtOrBelow walkDown seekDown seek edgeAnswers encodeRow restoreKey check checkFrom checkRow mayFollow blockBytes blockRows offsets rowsFrom offsetsFrom
 cases-hold =
-    ((refl, refl, refl), ((refl, refl), ((refl, refl), ((refl, refl), ((refl, refl, refl), ((refl, refl), ((refl, refl), ((refl, refl), ((refl, refl), ((refl, refl), (refl, (refl, (refl, (refl, (refl, (refl, (refl, (refl, (refl, (refl, (refl, (refl, (refl, (refl, (refl, (refl, (refl, (refl, (refl, (refl, (refl, (refl, (refl, (refl, (refl, (refl, (refl, (refl, (refl, (refl, (refl, (refl, (refl, (refl, (refl, (refl, (refl, (refl, ((refl, refl), tt)))))))))))))))))))))))))))))))))))))))))))))))))
+    ((refl, refl, refl), ((refl, refl), ((refl, refl), ((refl, refl), ((refl, refl, refl), ((refl, refl), ((refl, refl), ((refl, refl), ((refl, refl), ((refl, refl), (refl, (refl, (refl, (refl, (refl, (refl, (refl, (refl, (refl, (refl, (refl, (refl, (refl, (refl, (refl, (refl, (refl, (refl, (refl, (refl, (refl, (refl, (refl, (refl, (refl, (refl, (refl, (refl, (refl, (refl, (refl, (refl, (refl, (refl, (refl, (refl, (refl, (refl, ((refl, refl), (refl, (refl, (refl, (refl, (refl, (refl, (refl, (refl, (refl, (refl, (refl, (refl, (refl, (refl, (refl, (refl, (refl, (refl, (refl, (refl, (refl, (refl, (refl, (refl, (refl, (refl, tt)))))))))))))))))))))))))))))))))))))))))))))))))))))))))))))))))))))))))))
