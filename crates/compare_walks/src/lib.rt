@@ -160,11 +160,12 @@ fn pass_plain(key: &mut [u8], data: &[u8], at: usize, row: PlainRow, sum: u64) -
     )
 }
 
-// Where a run of rows ended, and what it found.
+// Where a run of rows ended, and what it found. The place stands last: in `Went` the tags of other answers lie over the first bytes, and a number there is put
+// together from parts each time that a step hands it back. `rows` is counted here.
 struct Ran {
-    place: Place,
     rows: u64,
     sum: u64,
+    place: Place,
 }
 
 // The plain rows of one region: to its end, to the first row that is not plain, or to the limit.
