@@ -1,14 +1,15 @@
 -- A step that is not refused, taken apart once: which step it was (`Stepped`), and that with another key buffer it is the same but for 19. What else is said of
 -- steps follows by cases: a key that is given has a byte, fits what a key may have and the room for it, and is as long as its row says;
 -- "done" leaves the carried key.
-use Prim.Native.Nat.{ℕ, _-_, _≤_}
+use Prim.Native.Nat.{ℕ, _-_, _<_, _≤_}
 use mathlib.Core.Path.{_≡_, refl, ap, sym, _∙_}
-use mathlib.Core.Bool.{not}
+use mathlib.Core.Bool.{false, not}
 use mathlib.Core.List.{List, []}
 use mathlib.Core.Logic.{⊎-elim}
+use native.Mathlib.Omega.{arith}
 use lib.Dec.{ltb, leb, eqb}
 use lib.ListN.{length}
-use borrow.Author.Tests.{ltb-false}
+use borrow.Author.Tests.{ltb-false, leb-false}
 use Rattle.layout.specs.Res.{Res, ok, guard}
 use Rattle.layout.specs.Limits.{maxKey}
 use Rattle.layout.specs.Key.{Key}
@@ -23,13 +24,19 @@ use Rattle.layout.specs.Laws.Tells.{rowIn-ends}
 
 -- ---- the steps that there are
 
+-- the region that a row is read in
+pub record UsedIn (b : List ℕ) (t : Trailer) (region : ℕ) (g : Region) : Type 0 where
+  pub trailer-good : trailerOf b ≡ ok t
+  pub inside : region < t .count
+  pub used : regionOf b t region ≡ ok g
+
 pub data Stepped (c : Cursor) (b : List ℕ) : Step → Type 0 where
   stays : Stepped c b (stepIs c done)
   ends : Stepped c b (stepIs (marked c) done)
-  goes-up : (t : Trailer) (g : Region) (r : RowRead) → c .order ≡ ascending → rowIn (dataOf b t) g (c .at) (c .keyLen) ≡ ok r
+  goes-up : (t : Trailer) (g : Region) (r : RowRead) → UsedIn b t (c .region) g → c .order ≡ ascending → c .done ≡ false → rowIn (dataOf b t) g (c .at) (c .keyLen) ≡ ok r
       → Stepped c b (stepIs (pastRow c g r (keyOf (dataOf b t) (c .key) r)) (found (c .region) (c .number) r (keyOf (dataOf b t) (c .key) r)))
-  goes-back : (t : Trailer) (region number : ℕ) (g : Region) (k : Keyed) → rowEndingAt (c .at) (dataOf b t) g (c .at) (g .start) [] ≡ ok k
-      → Stepped c b (stepIs (backPast c region number (k .row)) (found region number (k .row) (k .key)))
+  goes-back : (t : Trailer) (region : ℕ) (g : Region) (k : Keyed) → UsedIn b t region g → c .order ≡ descending → rowEndingAt (c .at) (dataOf b t) g (c .at) (g .start) [] ≡ ok k
+      → Stepped c b (stepIs (backPast c region (numberAt b t region (k .row .start)) (k .row)) (found region (numberAt b t region (k .row .start)) (k .row) (k .key)))
 
 -- the step s, if what it gives has room
 abbrev given-in : ℕ → Answer → Step → Res Step
@@ -52,9 +59,9 @@ module _ (c : Cursor) (b : List ℕ) (room : ℕ) (s : Step) where
   none : (to : Cursor) → Stepped c b (stepIs to done) → _≡_ {A = Res Step} (ok (stepIs to done)) (ok s) → Inverted c b (λ n. ok (stepIs to done)) s
   none to h e = rw (← ok-inj e) (record { how = h; again = λ n. refl })
 
-  up : (t : Trailer) → c .order ≡ ascending → stepUp c b t room ≡ ok s → Inverted c b (λ n. stepUp c b t n) s
+  up : (t : Trailer) → trailerOf b ≡ ok t → c .region < t .count → c .order ≡ ascending → c .done ≡ false → stepUp c b t room ≡ ok s → Inverted c b (λ n. stepUp c b t n) s
   unfolding stepUp
-  up t heads e =
+  up t good inside heads unmarked e =
       bind-then (regionOf b t (c .region)) _ s e λ g p₁ e₁.
       guard-then (ltb (c .at) (g .start)) 18 _ s e₁ λ p₂ e₂.
       guard-then (ltb (g .reach) (c .at)) 18 _ s e₂ λ p₃ e₃.
@@ -63,22 +70,23 @@ module _ (c : Cursor) (b : List ℕ) (room : ℕ) (s : Step) where
       (λ u. let i = none (marked c) ends (u .1) in record { how = i .how; again = λ n. rw (p₁, p₂, p₃, p₄, u .0) (i .again n) })
       (λ u.
       bind-then (rowIn (dataOf b t) g (c .at) (c .keyLen)) _ s (u .1) λ r p₅ q.
-      let i = gives (pastRow c g r (keyOf (dataOf b t) (c .key) r)) (c .region) (c .number) r (keyOf (dataOf b t) (c .key) r) (goes-up t g r heads p₅) q in
+      let i = gives (pastRow c g r (keyOf (dataOf b t) (c .key) r)) (c .region) (c .number) r (keyOf (dataOf b t) (c .key) r) (goes-up t g r (record { trailer-good = good; inside = inside; used = p₁ }) heads unmarked p₅) q in
       record { how = i .how; again = λ n. rw (p₁, p₂, p₃, p₄, u .0, p₅) (i .again n) })
       (cond-ok (eqb (c .at) (g .end)) _ _ s e₄)
 
-  back : (t : Trailer) (region : ℕ) (g : Region) (many : ℕ) → stepBackIn c b t room region g many ≡ ok s → Inverted c b (λ n. stepBackIn c b t n region g many) s
+  back : (t : Trailer) (region : ℕ) (g : Region) (many : ℕ) → UsedIn b t region g → c .order ≡ descending → stepBackIn c b t room region g many ≡ ok s
+      → Inverted c b (λ n. stepBackIn c b t n region g many) s
   unfolding stepBackIn
-  back t region g many e =
+  back t region g many used heads e =
       bind-then (rowEndingAt (c .at) (dataOf b t) g (c .at) (g .start) []) _ s e λ k p₁ e₁.
       guard-then (not (eqb many (numberAt b t region (c .at)))) 18 _ s e₁ λ p₂ e₂.
       let number = numberAt b t region (k .row .start) in
-      let i = gives (backPast c region number (k .row)) region number (k .row) (k .key) (goes-back t region number g k p₁) e₂ in
+      let i = gives (backPast c region number (k .row)) region number (k .row) (k .key) (goes-back t region g k used heads p₁) e₂ in
       record { how = i .how; again = λ n. rw (p₁, p₂) (i .again n) }
 
-  down : (t : Trailer) → stepDown c b t room ≡ ok s → Inverted c b (λ n. stepDown c b t n) s
+  down : (t : Trailer) → trailerOf b ≡ ok t → c .region < t .count → c .order ≡ descending → stepDown c b t room ≡ ok s → Inverted c b (λ n. stepDown c b t n) s
   unfolding stepDown
-  down t e =
+  down t good inside heads e =
       bind-then (regionOf b t (c .region)) _ s e λ g p₁ e₁.
       guard-then (ltb (c .at) (g .start)) 18 _ s e₁ λ p₂ e₂.
       guard-then (ltb (g .end) (c .at)) 18 _ s e₂ λ p₃ e₃.
@@ -89,10 +97,12 @@ module _ (c : Cursor) (b : List ℕ) (room : ℕ) (s : Step) where
       (λ v. let i = none (marked c) ends (v .1) in record { how = i .how; again = λ n. rw (p₁, p₂, p₃, u .0, p₄, v .0) (i .again n) })
       (λ v.
       bind-then (regionOf b t (c .region - 1)) _ s (v .1) λ h p₅ q.
-      let i = back t (c .region - 1) h (numberAt b t (c .region - 1) (c .at)) q in
+      let i = back t (c .region - 1) h (numberAt b t (c .region - 1) (c .at)) (record { trailer-good = good; inside = omega arith; used = p₅ }) heads q in
       record { how = i .how; again = λ n. rw (p₁, p₂, p₃, u .0, p₄, v .0, p₅) (i .again n) })
       (cond-ok (eqb (c .region) 0) _ _ s e₄))
-      (λ u. let i = back t (c .region) g (c .number) (u .1) in record { how = i .how; again = λ n. rw (p₁, p₂, p₃, u .0) (i .again n) })
+      (λ u.
+      let i = back t (c .region) g (c .number) (record { trailer-good = good; inside = inside; used = p₁ }) heads (u .1) in
+      record { how = i .how; again = λ n. rw (p₁, p₂, p₃, u .0) (i .again n) })
       (cond-ok (eqb (c .at) (g .start)) _ _ s e₃)
 
 -- ---- the one inversion
@@ -108,6 +118,7 @@ next-tells c b room s e =
     bind-then (trailerOf b) _ s e λ t p₁ e₁.
     guard-then (leb (t .count) (c .region)) 18 _ s e₁ λ p₂ e₂.
     guard-then (ltb maxKey (c .keyLen)) 18 _ s e₂ λ p₃ e₃.
+    let inside = leb-false (t .count) (c .region) p₂ in
     let few = ltb-false maxKey (c .keyLen) p₃ in
     ⊎-elim
     (λ u.
@@ -115,14 +126,15 @@ next-tells c b room s e =
     let says : (n : ℕ) → next c b n ≡ ok (stepIs c done) = λ n. rw (p₁, p₂, p₃, u .0) in
     record { few = few; how = i .how; again = λ n. says n ∙ i .again n })
     (λ u.
-    let i = along (c .order) refl t (u .1) in
+    let i = along (c .order) refl t p₁ inside (u .0) (u .1) in
     let goes : (n : ℕ) → next c b n ≡ stepAlong (c .order) c b t n = λ n. rw (p₁, p₂, p₃, u .0) in
     record { few = few; how = i .how; again = λ n. goes n ∙ i .again n })
     (cond-ok (c .done) _ _ s e₃)
   where
-    along : (d : Direction) → c .order ≡ d → (t : Trailer) → stepAlong d c b t room ≡ ok s → Inverted c b (λ n. stepAlong d c b t n) s
-    along ascending h t u = up c b room s t h u
-    along descending h t u = down c b room s t u
+    along : (d : Direction) → c .order ≡ d → (t : Trailer) → trailerOf b ≡ ok t → c .region < t .count → c .done ≡ false → stepAlong d c b t room ≡ ok s
+        → Inverted c b (λ n. stepAlong d c b t n) s
+    along ascending h t good inside unmarked u = up c b room s t good inside h unmarked u
+    along descending h t good inside unmarked u = down c b room s t good inside h u
 
 -- ---- what follows
 
@@ -156,7 +168,7 @@ next-given c s b room long e = go s (tells .how) (sym (tells .again room) ∙ e)
     go : (s : Step) → Stepped c b s → askedIn room s ≡ ok s → GivenWell room c (s .cursor) (s .answer)
     go s stays f = (refl, refl)
     go s ends f = (refl, refl)
-    go s (goes-up t g r heads p) f =
+    go s (goes-up t g r used heads unmarked p) f =
         let w = rowIn-ends (dataOf b t) g (c .at) (c .keyLen) r p in
         record {
           some = w .some;
@@ -164,6 +176,7 @@ next-given c s b room long e = go s (tells .how) (sym (tells .again room) ∙ e)
           held = held (c .region) (c .number) r (keyOf (dataOf b t) (c .key) r) (pastRow c g r (keyOf (dataOf b t) (c .key) r)) f;
           whole = keyOf-length (dataOf b t) (c .at) (g .end) (c .key) (eqb (c .at) (g .start)) r (ap (λ (n : ℕ). rowIn (dataOf b t) g (c .at) n) (long (tells .few)) ∙ p);
         }
-    go s (goes-back t region number g k p) f =
+    go s (goes-back t region g k used heads p) f =
+        let number = numberAt b t region (k .row .start) in
         let w = ended (c .at) (dataOf b t) g (c .at) (g .start) [] k p in
         record { some = w .some; fits = w .fits; held = held region number (k .row) (k .key) (backPast c region number (k .row)) f; whole = w .whole }
