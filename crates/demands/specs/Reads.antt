@@ -1,5 +1,5 @@
 -- A block's rows, region by region, each read from its restart to the region's end. The order of rows is not asked: it stands beside, as `Rising`.
-use Prim.Native.Nat.{ℕ, zero, suc, _+_}
+use Prim.Native.Nat.{ℕ, zero, suc, _+_, _<_}
 use mathlib.Core.Path.{_≡_}
 use mathlib.Core.Bool.{cond, not}
 use mathlib.Core.List.{List, [], _∷_, _++_, map}
@@ -30,6 +30,7 @@ rowNumber (suc i) d g at before = bind (rowIn d g at (length before)) λ r. rowN
 -- the pair of region and number names this row of the block
 pub record Names (b : List ℕ) (t : Trailer) (region number : ℕ) (k : Keyed) : Type 0 where
   pub g : Region
+  pub inside : region < t .count
   pub used : regionOf b t region ≡ ok g
   pub is : rowNumber number (dataOf b t) g (g .start) [] ≡ ok k
 

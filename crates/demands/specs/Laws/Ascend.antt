@@ -121,7 +121,7 @@ module _ (b : List ℕ) (t : Trailer) (c : Cursor) (room : ℕ) where
         moved = pastRow c (i .g) r (keyOf (dataOf b t) (c .key) r);
         fits-key = w .fits;
         is-key = keyOf-length (dataOf b t) (c .at) (i .g .end) (c .key) (eqb (c .at) (i .g .start)) r p;
-        named = names-up b t (c .region) (i .g) (i .used) (c .at) (c .key) (c .number) r (i .counted) p;
+        named = names-up b t (c .region) (i .g) (i .used) (i .inside) (c .at) (c .key) (c .number) r (i .counted) p;
         gives = λ f. up i ∙ up-found c b t room (i .g) (i .used) (i .low) (i .high) (right i) ne r p′ f;
         refuses = λ f. up i ∙ up-short c b t room (i .g) (i .used) (i .low) (i .high) (right i) ne r p′ f;
         then-before = ⊎-elim (λ s. handed w (s .0) (s .1)) (λ s. stays w (s .0) (s .1)) (ltb-cases (i .g .reach) (r .next));

@@ -1,6 +1,6 @@
 -- The pair that a step gives names its row. Who has read n rows of a region, each where the one before it ended, stands before the row of that number, and n rows end at or before that
 -- place: `Counted` goes on past each row that is read. So an ascending cursor's count names the next row; a step back counts the rows before the one that it finds.
-use Prim.Native.Nat.{ℕ, zero, suc, _+_}
+use Prim.Native.Nat.{ℕ, zero, suc, _+_, _<_}
 use mathlib.Core.Path.{_≡_, ap, _∙_}
 use mathlib.Core.List.{List, []}
 use mathlib.Core.Logic.{⊎-elim}
@@ -102,11 +102,11 @@ module _ (b : List ℕ) (t : Trailer) (region : ℕ) (g : Region) (u : regionOf 
       rw (counted-true (s .at) (s .before) (c .0) (c .1)) (c .1)
 
   -- the pair of a step up
-  pub names-up : (at : ℕ) (before : Key) (n : ℕ) (r : RowRead) → Counted (dataOf b t) g at before n → rowIn (dataOf b t) g at (length before) ≡ ok r
+  pub names-up : region < t .count → (at : ℕ) (before : Key) (n : ℕ) (r : RowRead) → Counted (dataOf b t) g at before n → rowIn (dataOf b t) g at (length before) ≡ ok r
       → Names b t region n (keyed r (keyOf (dataOf b t) before r))
-  names-up at before n r c e = record { g = g; used = u; is = counted-next (dataOf b t) g at before n c r e }
+  names-up h at before n r c e = record { g = g; inside = h; used = u; is = counted-next (dataOf b t) g at before n c r e }
 
   -- and of a step back, whatever the cursor
-  pub names-back : (left stop : ℕ) (k : Keyed) → rowEndingAt left (dataOf b t) g stop (g .start) [] ≡ ok k → Names b t region (numberAt b t region (k .row .start)) k
-  names-back left stop k e =
-      record { g = g; used = u; is = rw (number-in b t region (k .row .start) g u) (counted-back (dataOf b t) g left stop (g .start) [] 0 k (counted-start (dataOf b t) g) e) }
+  pub names-back : region < t .count → (left stop : ℕ) (k : Keyed) → rowEndingAt left (dataOf b t) g stop (g .start) [] ≡ ok k → Names b t region (numberAt b t region (k .row .start)) k
+  names-back h left stop k e =
+      record { g = g; inside = h; used = u; is = rw (number-in b t region (k .row .start) g u) (counted-back (dataOf b t) g left stop (g .start) [] 0 k (counted-start (dataOf b t) g) e) }

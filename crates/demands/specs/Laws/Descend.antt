@@ -222,7 +222,7 @@ module _ (b : List ℕ) (t : Trailer) (c : Cursor) (room : ℕ) where
         number = numberAt b t region (k .row .start);
         fits-key = w .fits;
         is-key = w .whole;
-        named = names-back b t region g u (c .at) (c .at) k is;
+        named = names-back b t region g u i (c .at) (c .at) k is;
         gives = λ l. e ∙ back-found c b t room region g n k is num l;
         refuses = λ l. e ∙ back-short c b t room region g n k is num l;
         then-after =
