@@ -134,7 +134,7 @@ case-2-decodes = decode-encode 1 1 (98 ∷ []) (rowAB .fields) 14 (rowBytes 1 (9
 
 -- ---- case 8
 
-abbrev block8 : List ℕ
+abbrev pub block8 : List ℕ
 block8 = blockBytes 2 offered8
 
 pub case-8-accepted : check block8 ≡ ok 5
@@ -148,24 +148,24 @@ pub case-8-has-rows : (t : Trailer) × (rows : List Keyed) × Rows block8 5 t ro
 case-8-has-rows = has-rows block8 5 case-8-accepted
 
 -- its rows by computation: five in three regions
-abbrev t8 : Trailer
+abbrev pub t8 : Trailer
 t8 = record { count = 3; size = 64 }
 
 abbrev pub unlessRefused : Res (List (List Keyed)) → List (List Keyed)
 unlessRefused (ok regions) = regions
 unlessRefused (refuse n) = []
 
-abbrev regions8 : List (List Keyed)
+abbrev pub regions8 : List (List Keyed)
 regions8 = unlessRefused (regionsRows 3 block8 t8 0)
 
-abbrev rows8 : List Keyed
+abbrev pub rows8 : List Keyed
 rows8 = allRows regions8
 
-regions-read8 : Reads block8 t8 regions8
+pub regions-read8 : Reads block8 t8 regions8
 unfolding blockBytes blockRows offsets rowsFrom offsetsFrom trailer offsetBytes isRestart shareOf laidRow rowBytes timeBytes big varint varintIn common regionsRows regionRows trailerOf shortAt unbig allOffsets risingFrom regionOf readRow rowAt headTests headAt lengthsAt varintAt readVarint readVarintIn keyLengthTests bodyTests bodyAt fixedAt flagsAt timesAt timeAt
 regions-read8 = record { trailer-good = refl; offsets-good = refl; rows-read = refl }
 
-reads8 : Rows block8 5 t8 rows8
+pub reads8 : Rows block8 5 t8 rows8
 unfolding blockBytes blockRows offsets rowsFrom offsetsFrom trailer offsetBytes isRestart shareOf laidRow rowBytes timeBytes big varint varintIn common regionsRows regionRows allRows trailerOf shortAt unbig allOffsets risingFrom regionOf readRow rowAt headTests headAt lengthsAt varintAt readVarint readVarintIn keyLengthTests bodyTests bodyAt fixedAt flagsAt timesAt timeAt mayFollow below
 reads8 =
     record {

@@ -1,6 +1,7 @@
 pub mod Reads
 pub mod Numbered
 pub mod Counted
+pub mod Named
 pub mod Written
 pub mod Refusals
 pub mod Local
@@ -13,6 +14,7 @@ pub mod Split
 pub mod LandsUp
 pub mod LandsDown
 pub mod AnyOrder
+pub mod Listed
 pub mod Reach
 pub mod Places
 pub mod Laid

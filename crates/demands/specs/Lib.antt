@@ -14,9 +14,13 @@ pub mod Walked
 pub mod CostBlocks
 pub mod CostProof
 pub mod NoGapProof
+pub mod Pairs
+pub mod WhichRowProof
 pub mod Cost
 pub mod NoGap
 pub mod OldBlocks
 pub mod DoubleDebit
+pub mod WhichRow
 pub mod Instances
 pub mod CostInstances
+pub mod WhichRowInstances

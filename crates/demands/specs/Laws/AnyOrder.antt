@@ -72,7 +72,7 @@ search-alike (suc fuel) f g low high e =
     go (refuse n) w ih = refl
 
 module _ (b : List ℕ) (t : Trailer) (rss : List (List Keyed)) (q : Reads b t rss) where
-  many : length rss ≡ t .count
+  pub many : length rss ≡ t .count
   many = regions-many (t .count) b t 0 rss (q .rows-read)
 
   cut : (i : ℕ) → i ≤ t .count → (regionsRows i b t 0 ≡ ok (take i rss)) × (regionsRows (t .count - i) b t i ≡ ok (drop i rss))
@@ -82,7 +82,7 @@ module _ (b : List ℕ) (t : Trailer) (rss : List (List Keyed)) (q : Reads b t r
       (c .0, ap (regionsRows (t .count - i) b t) (sym (zero-add i)) ∙ c .1)
 
   -- region i among them: its rows, which begin with its restart's
-  record Cut (i : ℕ) : Type 0 where
+  pub record Cut (i : ℕ) : Type 0 where
     pub g : Region
     pub used : regionOf b t i ≡ ok g
     pub front : Front b t i (take i rss)
@@ -92,7 +92,7 @@ module _ (b : List ℕ) (t : Trailer) (rss : List (List Keyed)) (q : Reads b t r
     pub are : regionAt rss i ≡ k ∷ ks
     pub key-is : restartKey b t i ≡ ok (firstKey (regionAt rss i))
 
-  cut-at : (i : ℕ) → i < t .count → Cut i
+  pub cut-at : (i : ℕ) → i < t .count → Cut i
   cut-at i h = go (t .count - i) refl (cut i (omega arith) .1)
     where
       s : Split b t (allRows rss) i
