@@ -165,7 +165,7 @@ pub regions-read8 : Reads block8 t8 regions8
 unfolding blockBytes blockRows offsets rowsFrom offsetsFrom trailer offsetBytes isRestart shareOf laidRow rowBytes timeBytes big varint varintIn common regionsRows regionRows trailerOf shortAt unbig allOffsets risingFrom regionOf readRow rowAt headTests headAt lengthsAt varintAt readVarint readVarintIn keyLengthTests bodyTests bodyAt fixedAt flagsAt timesAt timeAt
 regions-read8 = record { trailer-good = refl; offsets-good = refl; rows-read = refl }
 
-pub reads8 : Rows block8 5 t8 rows8
+reads8 : Rows block8 5 t8 rows8
 unfolding blockBytes blockRows offsets rowsFrom offsetsFrom trailer offsetBytes isRestart shareOf laidRow rowBytes timeBytes big varint varintIn common regionsRows regionRows allRows trailerOf shortAt unbig allOffsets risingFrom regionOf readRow rowAt headTests headAt lengthsAt varintAt readVarint readVarintIn keyLengthTests bodyTests bodyAt fixedAt flagsAt timesAt timeAt mayFollow below
 reads8 =
     record {

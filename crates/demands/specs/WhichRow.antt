@@ -16,7 +16,7 @@ use Rattle.layout.specs.Number.{numberAt}
 use Rattle.layout.specs.Cursor.{Direction, Cursor, Keyed, keyed, found, stepIs, next}
 use Rattle.layout.specs.Seek.{Sought, seek}
 use Rattle.demands.specs.Reads.{Reads, allRows, Names}
-use Rattle.demands.specs.Rows.{Rows, BothWays}
+use Rattle.demands.specs.Rows.{BothWays}
 use Rattle.demands.specs.AnyOrder.{regionAt}
 use Rattle.demands.specs.Pairs.{Reached, pairsOf, pairsFrom, NamesEach, endedOf}
 use Rattle.layout.specs.Laws.Trailer.{allOffsets-tell}
@@ -86,10 +86,10 @@ module _ (b : List ℕ) (t : Trailer) (regions : List (List Keyed)) (reads : Rea
   pub rows-named : NamesEach b t (pairsFrom 0 regions) (allRows regions)
   rows-named = rows-each b t regions reads
 
--- A whole walk of an accepted block gives the pairs in that order; backwards, the last first.
-module _ (b : List ℕ) (n : ℕ) (t : Trailer) (rows : List Keyed) (q : Rows b n t rows) (room : ℕ) (both : BothWays b t room rows) where
-  pub pairs-forwards : pairsOf (both .forwards .walks) ≡ pairsFrom 0 (q .regions)
-  pairs-forwards = pairs-up b t (q .regions) (q .reads) rows (q .are) room _ _ (both .forwards .walks)
+  -- A whole walk gives them in that order; backwards, the last first.
+  module _ (rows : List Keyed) (are : rows ≡ allRows regions) (room : ℕ) (both : BothWays b t room rows) where
+    pub pairs-forwards : pairsOf (both .forwards .walks) ≡ pairsFrom 0 regions
+    pairs-forwards = pairs-up b t regions reads rows are room _ _ (both .forwards .walks)
 
-  pub pairs-backwards : pairsOf (both .back .walks) ≡ reverse (pairsFrom 0 (q .regions))
-  pairs-backwards = pairs-down b t (q .regions) (q .reads) rows (q .are) room _ _ (both .back .walks)
+    pub pairs-backwards : pairsOf (both .back .walks) ≡ reverse (pairsFrom 0 regions)
+    pairs-backwards = pairs-down b t regions reads rows are room _ _ (both .back .walks)
