@@ -21,7 +21,7 @@ use Rattle.layout.specs.Laws.Carry.{keyOf-length}
 use Rattle.layout.specs.Laws.Number.{number-in}
 use Rattle.layout.specs.Laws.Tells.{rowIn-ends}
 use Rattle.layout.specs.Laws.Trailer.{regionOf-tells}
-use Rattle.demands.specs.Laws.Reads.{region-at}
+use Rattle.demands.specs.Laws.Reads.{region-at, region-first}
 use Rattle.demands.specs.Laws.Numbered.{number-first, number-next}
 use Rattle.demands.specs.Laws.AnyOrder.{many, cut-at}
 
@@ -43,12 +43,8 @@ module _ (d : List ℕ) (g : Region) where
       (λ over _. absurd (no-number i at before k over e))
       (λ r qs m lt u more enough is. absurd (let z : _≡_ {A = ℕ} 0 1 = cc in omega arith))
   entry (x ∷ xs) left at before p h i k e =
-      region-at left d g at before (x ∷ xs) p h
-      (λ over is. absurd (let z : _≡_ {A = ℕ} 0 1 = cc in omega arith))
-      (λ r qs m lt u more enough is.
-      let first : keyed r (keyOf d before r) ≡ x = cc in
-      let tail : qs ≡ xs = cc in
-      go i e r u first (λ j v. entry xs m (r .next) (keyOf d before r) (more ∙ ap ok tail) enough j k v))
+      region-first left d g at before x xs p h λ r m u first more enough.
+      go i e r u first (λ j v. entry xs m (r .next) (keyOf d before r) more enough j k v)
     where
       go : (i : ℕ) → rowNumber i d g at before ≡ ok k → (r : RowRead) → rowIn d g at (length before) ≡ ok r → keyed r (keyOf d before r) ≡ x
           → ((j : ℕ) → rowNumber j d g (r .next) (keyOf d before r) ≡ ok k → (j < length xs) × (getD xs j k ≡ k)) → (i < length (x ∷ xs)) × (getD (x ∷ xs) i k ≡ k)
@@ -59,12 +55,8 @@ module _ (d : List ℕ) (g : Region) where
       → rowNumber i d g at before ≡ ok (getD ks i k)
   of-entry [] left at before p h i k l = absurd (omega arith)
   of-entry (x ∷ xs) left at before p h i k l =
-      region-at left d g at before (x ∷ xs) p h
-      (λ over is. absurd (let z : _≡_ {A = ℕ} 0 1 = cc in omega arith))
-      (λ r qs m lt u more enough is.
-      let first : keyed r (keyOf d before r) ≡ x = cc in
-      let tail : qs ≡ xs = cc in
-      go i l r u first (λ j v. of-entry xs m (r .next) (keyOf d before r) (more ∙ ap ok tail) enough j k v))
+      region-first left d g at before x xs p h λ r m u first more enough.
+      go i l r u first (λ j v. of-entry xs m (r .next) (keyOf d before r) more enough j k v)
     where
       go : (i : ℕ) → i < length (x ∷ xs) → (r : RowRead) → rowIn d g at (length before) ≡ ok r → keyed r (keyOf d before r) ≡ x
           → ((j : ℕ) → j < length xs → rowNumber j d g (r .next) (keyOf d before r) ≡ ok (getD xs j k)) → rowNumber i d g at before ≡ ok (getD (x ∷ xs) i k)
@@ -76,13 +68,9 @@ module _ (d : List ℕ) (g : Region) where
   unfolding endedOf
   none-ended [] left at before stop p h s = refl
   none-ended (x ∷ xs) left at before stop p h s =
-      region-at left d g at before (x ∷ xs) p h
-      (λ over is. absurd (let z : _≡_ {A = ℕ} 0 1 = cc in omega arith))
-      (λ r qs m lt u more enough is.
-      let first : keyed r (keyOf d before r) ≡ x = cc in
-      let tail : qs ≡ xs = cc in
+      region-first left d g at before x xs p h λ r m u first more enough.
       let on = rowIn-ends d g at (length before) r u .least in
-      rw (← first, lt-ltb stop (r .next) (omega arith)) (none-ended xs m (r .next) (keyOf d before r) stop (more ∙ ap ok tail) enough (omega arith)))
+      rw (← first, lt-ltb stop (r .next) (omega arith)) (none-ended xs m (r .next) (keyOf d before r) stop more enough (omega arith))
 
   rows-ended : (ks : List Keyed) (left at : ℕ) (before : Key) (stop steps : ℕ) → regionRows left d g at before ≡ ok ks → g .end ≤ at + left → stop ≤ at + steps
       → endedFrom steps d g stop at (length before) ≡ endedOf stop ks
@@ -97,20 +85,15 @@ module _ (d : List ℕ) (g : Region) where
           (λ r qs m lt u more enough is. absurd (let z : _≡_ {A = ℕ} 0 1 = cc in omega arith))
       go (refuse n) e = rw e
   rows-ended (x ∷ xs) left at before stop (suc steps) p h s =
-      region-at left d g at before (x ∷ xs) p h
-      (λ over is. absurd (let z : _≡_ {A = ℕ} 0 1 = cc in omega arith))
-      (λ r qs m lt u more enough is.
-      let first : keyed r (keyOf d before r) ≡ x = cc in
-      let tail : qs ≡ xs = cc in
+      region-first left d g at before x xs p h λ r m u first more enough.
       let on = rowIn-ends d g at (length before) r u .least in
-      let more′ : regionRows m d g (r .next) (keyOf d before r) ≡ ok xs = more ∙ ap ok tail in
       rw (← first, u)
       (⊎-elim
-      (λ c. rw (c .0) (sym (none-ended xs m (r .next) (keyOf d before r) stop more′ enough (omega (arith, c .1)))))
+      (λ c. rw (c .0) (sym (none-ended xs m (r .next) (keyOf d before r) stop more enough (omega (arith, c .1)))))
       (λ c.
       rw (c .0, ← keyOf-length d at (g .end) before (eqb at (g .start)) r u)
-      (ap suc (rows-ended xs m (r .next) (keyOf d before r) stop steps more′ enough (omega arith))))
-      (ltb-cases stop (r .next))))
+      (ap suc (rows-ended xs m (r .next) (keyOf d before r) stop steps more enough (omega arith))))
+      (ltb-cases stop (r .next)))
 
 -- ---- in a block whose rows are read
 

@@ -20,7 +20,7 @@ use Rattle.layout.specs.Laws.Res.{bind-then, ok-inj, ltb-cases}
 use Rattle.layout.specs.Laws.Number.{number-in}
 use Rattle.layout.specs.Laws.Tells.{rowIn-ends}
 use Rattle.layout.specs.Laws.Trailer.{regionOf-tells, OffsetsTell, allOffsets-tell}
-use Rattle.demands.specs.Laws.Reads.{RegionsAre, next as next-region, regions-are, regions-none, allRows-none, allRows-next, region-at}
+use Rattle.demands.specs.Laws.Reads.{RegionsAre, next as next-region, regions-are, regions-none, allRows-none, allRows-next, region-first}
 use Rattle.demands.specs.Laws.Counted.{Counted, counted-start, counted-on, counted-here, names-up}
 
 -- ---- the row of a number
@@ -151,14 +151,10 @@ module _ (b : List ℕ) (t : Trailer) where
   unfolding pairsIn
   region-each region g i u [] left at before n c e h = none
   region-each region g i u (k ∷ ks) left at before n c e h =
-      region-at left (dataOf b t) g at before (k ∷ ks) e h
-      (λ over none. absurd (let z : _≡_ {A = ℕ} 0 1 = cc in omega arith))
-      (λ r qs m lt p more enough is.
-      let first : keyed r (keyOf (dataOf b t) before r) ≡ k = cc in
-      let tail : qs ≡ ks = cc in
+      region-first left (dataOf b t) g at before k ks e h λ r m p first more enough.
       also (pairIs region n) k (pairsIn region (suc n) ks) ks
       (rw (← first) (names-up b t region g u i at before n r c p))
-      (region-each region g i u ks m (r .next) (keyOf (dataOf b t) before r) (suc n) (rw (add-one n) at (counted-on (dataOf b t) g at before n c r p)) (more ∙ ap ok tail) enough))
+      (region-each region g i u ks m (r .next) (keyOf (dataOf b t) before r) (suc n) (rw (add-one n) at (counted-on (dataOf b t) g at before n c r p)) more enough)
 
   regions-each : (left region : ℕ) (rss : List (List Keyed)) → region + left ≡ t .count → regionsRows left b t region ≡ ok rss → NamesEach b t (pairsFrom region rss) (allRows rss)
   unfolding pairsFrom

@@ -56,6 +56,15 @@ region-at (suc left) d g at before ks e h {A = A} f k = go ks (region-is left d 
     go ks (over w) f k = f w refl
     go ks (more r qs w p u) f k = k r qs left w p u (omega (arith, rowIn-ends d g at (length before) r p .least)) refl
 
+-- the first of some rows
+pub region-first : (left : ℕ) (d : List ℕ) (g : Region) (at : ℕ) (before : Key) (k : Keyed) (ks : List Keyed) → regionRows left d g at before ≡ ok (k ∷ ks) → g .end ≤ at + left
+    → {A : Type 0} → ((r : RowRead) (m : ℕ) → rowIn d g at (length before) ≡ ok r → keyed r (keyOf d before r) ≡ k → regionRows m d g (r .next) (keyOf d before r) ≡ ok ks
+    → g .end ≤ r .next + m → A) → A
+region-first left d g at before k ks e h f =
+    region-at left d g at before (k ∷ ks) e h
+    (λ over is. absurd (let z : _≡_ {A = ℕ} 0 1 = cc in omega arith))
+    (λ r qs m lt u more enough is. let first : keyed r (keyOf d before r) ≡ k = cc in let tail : qs ≡ ks = cc in f r m u first (more ∙ ap ok tail) enough)
+
 -- the rows of a region that is not over
 pub region-cons : (left : ℕ) (d : List ℕ) (g : Region) (at : ℕ) (before : Key) (r : RowRead) (ks : List Keyed) → at < g .end
     → rowIn d g at (length before) ≡ ok r → regionRows left d g (r .next) (keyOf d before r) ≡ ok ks
