@@ -1,12 +1,13 @@
 -- Which row is this? Every row answer carries its region and its number there, both from 0, and a cursor how many rows of its region end at or before its position.
 --
--- A cursor is `Reached` by opening a block, in either direction, and any calls after: steps with key buffers of any length, seeks with any target, refused ones in between. Its number is true on every block on
--- which it was opened, accepted or not, and so the pair of every answer names the row that came with it (`Names`: row number so-and-so, read from the start of that region). A pair names one row, and a row has
--- one pair. On an accepted block the pairs are the places of the rows in its list of regions, and a whole walk gives them in order. What is spoken of is in Pairs, Reads and Runs; the proofs are in WhichRowProof, Laws/Named and
--- Laws/Listed.
+-- A cursor is `Reached` by opening a block, in either direction, and any calls after: steps with key buffers of any length, seeks with any target, refused ones in between. Its number is true on every
+-- block on which it was opened, accepted or not, and so the pair of every answer names the row that came with it (`Names`: the row of that number, read from the start of that region). A pair
+-- names one row, and a row has one pair. On an accepted block the pairs are the places of the rows in the lists of its regions, and a whole walk gives them in order. What is spoken of is in Pairs,
+-- Reads and Runs; the proofs are in WhichRowProof, Laws/Named and Laws/Listed.
 use Prim.Native.Nat.{ℕ, _<_}
-use mathlib.Core.Path.{_≡_}
+use mathlib.Core.Path.{_≡_, _∙_}
 use mathlib.Core.List.{List, reverse}
+use native.Mathlib.Omega.{arith}
 use lib.ListN.{length, getD}
 use Rattle.layout.specs.Res.{ok}
 use Rattle.layout.specs.Key.{Key}
@@ -20,6 +21,7 @@ use Rattle.demands.specs.Rows.{BothWays}
 use Rattle.demands.specs.AnyOrder.{regionAt}
 use Rattle.demands.specs.Pairs.{Reached, pairsOf, pairsFrom, NamesEach, endedOf}
 use Rattle.layout.specs.Laws.Trailer.{allOffsets-tell}
+use Rattle.demands.specs.Laws.AnyOrder.{many}
 use Rattle.demands.specs.Laws.Named.{names-one, names-number, row-one, rows-each, pairs-up, pairs-down}
 use Rattle.demands.specs.Laws.Listed.{names-entry, entry-named, number-counts}
 use Rattle.demands.specs.WhichRowProof.{reached-true, sought-true, step-true, reached-offsets}
@@ -79,8 +81,11 @@ module _ (b : List ℕ) (t : Trailer) (regions : List (List Keyed)) (reads : Rea
   row-one-pair = row-one b t (allOffsets-tell b t tt (reads .offsets-good))
 
   -- What a cursor counts are the rows of that list.
-  pub number-counts-rows : (region at : ℕ) → region < length regions → numberAt b t region at ≡ endedOf at (regionAt regions region)
-  number-counts-rows = number-counts b t regions reads
+  pub number-counts-rows : (c : Cursor) → Reached b c → (c .region < length regions) × (c .number ≡ endedOf (c .at) (regionAt regions (c .region)))
+  number-counts-rows c r =
+      let n = reached-true b t (reads .trailer-good) c r in
+      let h : c .region < length regions = omega (arith, many b t regions reads, n .inside) in
+      (h, n .is ∙ number-counts b t regions reads (c .region) (c .at) h)
 
   -- The pairs (0, 0), (0, 1), .., region by region, name the block's rows one by one.
   pub rows-named : NamesEach b t (pairsFrom 0 regions) (allRows regions)

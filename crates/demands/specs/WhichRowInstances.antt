@@ -103,7 +103,7 @@ last-row = entry-has-pair block8 t8 regions8 regions-read8 2 0 (keyed row3 (98 �
 
 -- of region 1's two rows one ends at or before 39
 pub one-ended : 1 ≡ endedOf 39 (regionAt regions8 1)
-one-ended = both-true .0 ∙ number-counts-rows block8 t8 regions8 regions-read8 1 39 (its-entry .0)
+one-ended = number-counts-rows block8 t8 regions8 regions-read8 up up-reached .1
 
 -- ---- all five
 
