@@ -2,7 +2,7 @@
 use Prim.Native.Nat.{ℕ, _+_, _-_, _<_, _≤_, min}
 use mathlib.Core.Path.{_≡_, refl, ap, sym, _∙_}
 use mathlib.Core.Bool.{cond}
-use mathlib.Core.List.{List, [], _++_, append-nil}
+use mathlib.Core.List.{List, _++_, append-nil}
 use mathlib.Core.Logic.{⊎-elim}
 use native.Mathlib.Omega.{arith}
 use lib.Dec.{eqb, ltb, leb}
@@ -31,8 +31,9 @@ pub record Knows (d : List ℕ) (key : Key) (k : Known) : Type 0 where
   pub two : k .second + (k .len - k .split) ≤ length d
   pub is : take (k .len) key ≡ take (k .split) (drop (k .first) d) ++ take (k .len - k .split) (drop (k .second) d)
 
-pub knows-none : (d : List ℕ) → Knows d [] (knownIs 0 0 0 0)
-knows-none d = record { inner = omega arith; within = omega arith; one = omega arith; two = omega arith; is = refl }
+-- nothing, of any key
+pub knows-none : (d : List ℕ) (key : Key) → Knows d key (knownIs 0 0 0 0)
+knows-none d key = record { inner = omega arith; within = omega arith; one = omega arith; two = omega arith; is = refl }
 
 pub part-length : (d : List ℕ) (a n : ℕ) → a + n ≤ length d → length (take n (drop a d)) ≡ n
 part-length d a n h = length-take-le n (drop a d) (rw (length-drop a d) (omega arith))

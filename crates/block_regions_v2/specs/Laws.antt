@@ -1,7 +1,7 @@
 -- The tests of what is handed in, by what was met: one law for each exit of the code; and a promise from it. For callers: what a promise tells, and that a
--- region that was read from the block passes the tests, so the definitions of `layout` are left (`step-back-used`, `walk-used`, `last-used`).
+-- region that was read from the block passes the tests, so the definitions of `layout` are left (`step-back-used`, `walk-used`, `last-used`, `rows-used`).
 use Prim.Native.Nat.{ℕ, zero, suc, _+_, _-_, _≤_, _<_, min}
-use mathlib.Core.Path.{_≡_, refl, ap, sym, _∙_}
+use mathlib.Core.Path.{_≡_, refl, ap, ap₂, sym, _∙_}
 use mathlib.Core.Bool.{Bool, true, false, cond, not}
 use mathlib.Core.List.{List, [], _++_}
 use mathlib.Core.Logic.{⊎-elim}
@@ -18,13 +18,15 @@ use Rattle.layout.specs.Place.{splice}
 use Rattle.layout.specs.Plain.{RowSpan, spanOf}
 use Rattle.layout.specs.RowRead.{RowRead, keyLength, keyOf}
 use Rattle.layout.specs.Trailer.{Trailer, trailerOf, dataOf, Region, regionOf, rowIn}
-use Rattle.layout.specs.Cursor.{Cursor, Keyed, keyed, rowEndingAt, found, stepIs, backPast, stepBackIn}
+use Rattle.layout.specs.Number.{endedBy, numberAt}
+use Rattle.layout.specs.Cursor.{Cursor, Keyed, keyed, rowEndingAt, found, Step, stepIs, backPast, stepBackIn}
 use Rattle.layout.specs.Seek.{Stop, stopIs, walkRegion, lastAtOrBelow}
-use Rattle.layout.specs.Laws.Res.{bind-then, ok-inj, cond-ok, ltb-cases, clash}
+use Rattle.layout.specs.Laws.Res.{bind-then, ok-inj, cond-ok, ltb-cases, eqb-cases, clash}
 use Rattle.layout.specs.Laws.Carry.{keyOf-length}
-use Rattle.layout.specs.Laws.Cursor.{ended, back-no, back-short, back-found}
+use Rattle.layout.specs.Laws.Cursor.{ended, back-no, back-wrong, back-short, back-found}
 use Rattle.layout.specs.Laws.Match.{matchAfter, aboveAfter}
-use Rattle.layout.specs.Laws.MatchWalk.{Halt, haltIs, haltOf, MatchingDown, down-more}
+use Rattle.layout.specs.Laws.MatchWalk.{Halt, haltIs, MatchingDown, down-more}
+use Rattle.layout.specs.Laws.Number.{Counting, counting-here, number-in}
 use Rattle.layout.specs.Laws.Plain.{span-no}
 use Rattle.layout.specs.Laws.Splice.{then-write}
 use Rattle.layout.specs.Laws.Tells.{rowIn-ends}
@@ -38,67 +40,79 @@ use Rattle.row_decode_v2.specs.declared.Row.{Row}
 use Rattle.row_span_v2.specs.Promise.{refusedWith, RefusesIn}
 use Rattle.trailer.specs.Says.{regionFrom}
 use Rattle.trailer.specs.declared.Region.{Region as RegionC}
+use Rattle.block_regions_v2.specs.declared.Passed.{Passed}
 use Rattle.block_regions_v2.specs.declared.Ended.{Ended as EndedC}
 use Rattle.block_regions_v2.specs.declared.Ended.the-variants.{Row as EndedRow, Refused as EndedRefused}
 use Rattle.block_regions_v2.specs.declared.Halted.{Halted}
+use Rattle.block_regions_v2.specs.declared.LastRead.{LastRead}
+use Rattle.block_regions_v2.specs.declared.LastRead.the-variants.{Ends}
 use Rattle.block_regions_v2.specs.declared.PlaceRead.{PlaceRead}
 use Rattle.block_regions_v2.specs.declared.PlaceRead.the-variants.{At, Refused as PlaceRefused}
 use Rattle.block_regions_v2.specs.declared.Reached.{Reached}
 use Rattle.block_regions_v2.specs.Climb.{Climbing, climbing-no, was, was-not}
 use Rattle.block_regions_v2.specs.Known.{part-length, known-parts}
 use Rattle.block_regions_v2.specs.Parts.{haltedIs, Halts, Stands, Reaches, reaching-refused, reaching-straddles, reaching-found, reaching-long, reaching-shares}
-use Rattle.block_regions_v2.specs.Promise.{Gives, EndsAt, WalksInto}
-use Rattle.block_regions_v2.specs.Regions.{endingAt, outAfter, given, walkTo, held, walkInto, keyLeft, lastTo}
+use Rattle.block_regions_v2.specs.Count.{counting-ended}
+use Rattle.block_regions_v2.specs.Promise.{Gives, EndsAt, WalksInto, EndsLast}
+use Rattle.block_regions_v2.specs.Regions.{Counted, counted, rowNumbered, haltNumbered, endNumbered, endingAt, outAfter, given, walkTo, held, walkInto, keyLeft, lastTo, rowsIn}
 use Rattle.block_regions_v2.specs.Rows.{Filling, partOf, part-suffix}
-use Rattle.block_regions_v2.specs.Says.{saysPlace}
+use Rattle.block_regions_v2.specs.Says.{passedBy, otherThan, saysPlace, saysLast}
 
 -- ---- the row that ends at a position
 
-module _ (d : List ℕ) (g : Region) (stop room : ℕ) where
-  pub ending-none : stop ≤ g .start → refuse 18 ≡ endingAt d g stop room
+module _ (d : List ℕ) (g : Region) (stop n room : ℕ) where
+  pub ending-none : stop ≤ g .start → refuse 18 ≡ endingAt d g stop n room
   unfolding endingAt
   ending-none h = rw (le-leb stop (g .start) h)
 
   module _ (h : g .start < stop) where
-    pub ending-no : {n : ℕ} → refuse n ≡ rowEndingAt stop d g stop (g .start) [] → refuse n ≡ endingAt d g stop room
+    pub ending-no : {i : ℕ} → refuse i ≡ rowEndingAt stop d g stop (g .start) [] → refuse i ≡ endingAt d g stop n room
     unfolding endingAt
     ending-no e = rw (lt-leb stop (g .start) h, sym e)
 
-    ending-said : (k : Keyed) → rowEndingAt stop d g stop (g .start) [] ≡ ok k → endingAt d g stop room ≡ guard (ltb room (keyLength (k .row))) 19 (ok k)
+    ending-said : (k : Keyed) → rowEndingAt stop d g stop (g .start) [] ≡ ok k
+        → endingAt d g stop n room ≡ guard (not (eqb n (endedBy d g stop))) 18 (guard (ltb room (keyLength (k .row))) 19 (ok k))
     unfolding endingAt
     ending-said k e = rw (lt-leb stop (g .start) h, e)
 
     -- by what the loop found of the first row that reaches the position
     pub ending-given : (r : RowRead) (key : Key) → stop ≤ r .next → (stop < r .next → refuse 18 ≡ rowEndingAt stop d g stop (g .start) [])
-        → (r .next ≡ stop → ok (keyed r key) ≡ rowEndingAt stop d g stop (g .start) []) → given r stop key room ≡ endingAt d g stop room
+        → (r .next ≡ stop → ok (keyed r key) ≡ rowEndingAt stop d g stop (g .start) []) → given r stop (not (eqb n (endedBy d g stop))) key room ≡ endingAt d g stop n room
     ending-given r key k past there =
         ⊎-elim
         (λ t. rw (t .0) (ending-no (past (t .1))))
         (λ t.
-        let n : r .next ≡ stop = le-antisymm (t .1) k in
-        let e = sym (there n) in
+        let e = sym (there (le-antisymm (t .1) k)) in
         rw (t .0, ended stop d g stop (g .start) [] (keyed r key) e .whole) (sym (ending-said (keyed r key) e)))
         (ltb-cases stop (r .next))
 
 -- a refusal leaves the buffer
-pub gives-not : {want : Res Keyed} {x : Refusal} {out out′ : List ℕ} → out′ ≡ out → refuse (number x) ≡ want → Gives want out (EndedRefused x) out′
+pub gives-not : {d : List ℕ} {g : Region} {want : Res Keyed} {x : Refusal} {out out′ : List ℕ} → out′ ≡ out → refuse (number x) ≡ want
+    → Gives d g want out (EndedRefused x) out′
 gives-not q e = rw (sym e) (record { answer = refl; bytes = q })
 
 -- the first row that reaches the position was given
-pub gives-ended : (d : List ℕ) (g : Region) (stop : ℕ) (r : RowRead) (key : Key) (now : List ℕ) {x : EndedC} {out out′ : List ℕ} → now ≡ out
-    → given r stop key (length out) ≡ endingAt d g stop (length out) → Gives (given r stop key (length now)) now x out′ → Gives (endingAt d g stop (length out)) out x out′
-gives-ended d g stop r key now {x} {out} {out′} q e p = rw (sym e) (rw q at p)
+gives-ended : {d : List ℕ} {g : Region} {had want : Res Keyed} {x : EndedC} {out out′ : List ℕ} → had ≡ want → Gives d g had out x out′ → Gives d g want out x out′
+gives-ended e p = rw (sym e) p
 
-module _ (r : Row) (stop : ℕ) (key out : List ℕ) where
-  pub gives-past : stop < r .next → Gives (given (rowFrom r) stop key (length out)) out (EndedRefused BadState) out
+module _ (d : List ℕ) (g : Region) (r : Row) (stop : ℕ) (wrong : Bool) (key out : List ℕ) where
+  abbrev offered : Res Keyed
+  offered = given (rowFrom r) stop wrong key (length out)
+
+  gives-past : stop < r .next → Gives d g offered out (EndedRefused BadState) out
   gives-past h = rw (lt-ltb stop (r .next) h) (record { answer = refl; bytes = refl })
 
   module _ (h : r .next ≤ stop) where
-    pub gives-short : length out < length key → Gives (given (rowFrom r) stop key (length out)) out (EndedRefused KeyBufferTooShort) out
-    gives-short k = rw (le-ltb stop (r .next) h, lt-ltb (length out) (length key) k) (record { answer = refl; bytes = refl })
+    gives-wrong : wrong ≡ true → Gives d g offered out (EndedRefused BadState) out
+    gives-wrong w = rw (le-ltb stop (r .next) h, w) (record { answer = refl; bytes = refl })
 
-    pub gives-row : {out′ : List ℕ} → length key ≤ length out → out′ ≡ splice out 0 key → Gives (given (rowFrom r) stop key (length out)) out (EndedRow r) out′
-    gives-row k e = rw (le-ltb stop (r .next) h, le-ltb (length out) (length key) k) (record { answer = refl; bytes = e })
+    module _ (w : wrong ≡ false) where
+      gives-short : length out < length key → Gives d g offered out (EndedRefused KeyBufferTooShort) out
+      gives-short k = rw (le-ltb stop (r .next) h, w, lt-ltb (length out) (length key) k) (record { answer = refl; bytes = refl })
+
+      gives-row : {n : ℕ} {out′ : List ℕ} → endedBy d g (r .start) ≡ n → length key ≤ length out → out′ ≡ splice out 0 key → Gives d g offered out (EndedRow r n) out′
+      gives-row m k e =
+          rw (le-ltb stop (r .next) h, w, le-ltb (length out) (length key) k) (record { answer = ap (λ (i : ℕ). ok (counted (rowFrom r) i)) (sym m); bytes = e })
 
 -- ---- a region that ends after the data
 
@@ -121,14 +135,20 @@ module _ (d : List ℕ) (g : Region) (target : Key) where
     unfolding lastTo
     last-there = rw (le-ltb (length d) (g .end) h)
 
+-- ---- the promise of the read down
+
+pub last-is : (d : List ℕ) (g : RegionC) (target : Key) {at n : ℕ} → ok at ≡ lastTo d (regionFrom g) target → endedBy d (regionFrom g) at ≡ n → EndsLast d g target (Ends at n)
+last-is d g target {at} e is = rw (sym e) (ap (λ (i : ℕ). ok (counted at i)) (sym is))
+
 -- ---- what the walk met
 
-module _ (d : List ℕ) (g : Region) (target : Key) (at m len from from-len : ℕ) (s : Climbing d g target (length d) at m len from from-len) where
-  pub halts-no : at < g .end → (p : RowSpan) → p ≡ spanOf (rowIn d g at len) → p .next ≡ 0 → {h : Halted} → h ≡ haltedIs at len from from-len false → Halts d g target h
-  halts-no n p e z is = rw is (record { match = m; climbs = s; stopped = λ q. absurd (clash q refl); refused = λ _. (n, span-no d at (g .end) len (eqb at (g .start)) p e z) })
+module _ (d : List ℕ) (g : Region) (target : Key) (at m len from from-len n : ℕ) (s : Climbing d g target (length d) at m len from from-len) (c : Counting d g at len n) where
+  pub halts-no : at < g .end → (p : RowSpan) → p ≡ spanOf (rowIn d g at len) → p .next ≡ 0 → {h : Halted} → h ≡ haltedIs at len n from from-len false → Halts d g target h
+  halts-no u p e z is =
+      rw is (record { match = m; climbs = s; counts = c; stopped = λ q. absurd (clash q refl); refused = λ _. (u, span-no d at (g .end) len (eqb at (g .start)) p e z) })
 
-  pub halts-there : ok (stopIs at (s .before)) ≡ walkRegion (length d) d g target (g .start) [] → {h : Halted} → h ≡ haltedIs at len from from-len true → Halts d g target h
-  halts-there e is = rw is (record { match = m; climbs = s; stopped = λ _. e; refused = λ q. absurd (clash refl q) })
+  pub halts-there : ok (stopIs at (s .before)) ≡ walkRegion (length d) d g target (g .start) [] → {h : Halted} → h ≡ haltedIs at len n from from-len true → Halts d g target h
+  halts-there e is = rw is (record { match = m; climbs = s; counts = c; stopped = λ _. e; refused = λ q. absurd (clash refl q) })
 
 -- ---- the promise of a walk
 
@@ -140,12 +160,15 @@ module _ (d : List ℕ) (g : RegionC) (target key : List ℕ) where
   pub into-strange : length d < g .end → WalksInto d g target key (PlaceRefused BadState) key
   into-strange h = into-not (walk-strange d (regionFrom g) target h)
 
-  module _ (at n : ℕ) (before : Key) (said : walkTo d (regionFrom g) target ≡ ok (stopIs at before)) (long : length before ≡ n) where
-    stopped-end : g .end ≤ at → WalksInto d g target key (At at n) key
+  module _ (at n m : ℕ) (before : Key) (said : walkTo d (regionFrom g) target ≡ ok (stopIs at before)) (long : length before ≡ n) (is-m : endedBy d (regionFrom g) at ≡ m) where
+    halt-is : ok (counted (haltIs at n) m) ≡ haltNumbered d (regionFrom g) (stopIs at before)
+    halt-is = ap₂ (λ (i j : ℕ). ok (counted (haltIs at i) j)) (sym long) (sym is-m)
+
+    stopped-end : g .end ≤ at → WalksInto d g target key (At at n m) key
     unfolding walkInto
     stopped-end u =
         let past = le-ltb at (g .end) u in
-        record { answer = rw (said, past) (ap (λ (i : ℕ). ok (haltIs at i)) (sym long)); bytes = rw (said, past, past) }
+        record { answer = rw (said, past) halt-is; bytes = rw (said, past, past) }
 
     module _ (u : at < g .end) where
       stopped-short : length key < n → WalksInto d g target key (PlaceRefused KeyBufferTooShort) key
@@ -155,16 +178,16 @@ module _ (d : List ℕ) (g : RegionC) (target key : List ℕ) where
           let short = lt-ltb (length key) (length before) (rw long v) in
           record { answer = rw (said, inner, short); bytes = rw (said, inner, short) }
 
-      stopped-there : n ≤ length key → {part : List ℕ} → part ≡ take (length (take n key)) before → WalksInto d g target key (At at n) (part ++ drop n key)
+      stopped-there : n ≤ length key → {part : List ℕ} → part ≡ take (length (take n key)) before → WalksInto d g target key (At at n m) (part ++ drop n key)
       unfolding walkInto splice
       stopped-there v {part} q =
           let inner = lt-ltb at (g .end) u in
           let fits = le-ltb (length key) (length before) (rw long v) in
           let is : part ≡ before = q ∙ take-all (length (take n key)) before (rw (length-take-le n key v) (omega arith)) in
-          let m : n ≡ 0 + length before = omega arith in
+          let from : n ≡ 0 + length before = omega arith in
           record {
-            answer = rw (said, inner, fits) (ap (λ (i : ℕ). ok (haltIs at i)) (sym long));
-            bytes = rw (said, inner, fits, inner, is) (ap (λ (i : ℕ). before ++ drop i key) m);
+            answer = rw (said, inner, fits) halt-is;
+            bytes = rw (said, inner, fits, inner, is) (ap (λ (i : ℕ). before ++ drop i key) from);
           }
 
   module _ (inside : g .end ≤ length d) (h : Halted) (w : Halts d (regionFrom g) target h) where
@@ -184,20 +207,23 @@ module _ (d : List ℕ) (g : RegionC) (target key : List ℕ) where
       said : walkTo d (regionFrom g) target ≡ ok (stopIs (h .at) (w .climbs .before))
       said = sym (w .stopped (was (h .good) good) ∙ walk-there d (regionFrom g) target inside)
 
+      ended-is : endedBy d (regionFrom g) (h .at) ≡ h .number
+      ended-is = counting-here d (regionFrom g) (h .at) (h .len) (h .number) (w .counts)
+
       -- where the region is at its end
-      pub into-end : g .end ≤ h .at → WalksInto d g target key (At (h .at) (h .len)) key
-      into-end u = stopped-end (h .at) (h .len) (w .climbs .before) said (w .climbs .long) u
+      pub into-end : g .end ≤ h .at → WalksInto d g target key (At (h .at) (h .len) (h .number)) key
+      into-end u = stopped-end (h .at) (h .len) (h .number) (w .climbs .before) said (w .climbs .long) ended-is u
 
       module _ (u : h .at < g .end) where
         pub into-short : length key < h .len → WalksInto d g target key (PlaceRefused KeyBufferTooShort) key
-        into-short v = stopped-short (h .at) (h .len) (w .climbs .before) said (w .climbs .long) u v
+        into-short v = stopped-short (h .at) (h .len) (h .number) (w .climbs .before) said (w .climbs .long) ended-is u v
 
         module _ (v : h .len ≤ length key) where
           pub into-room : length (take (h .len) key) ≤ length (w .climbs .before)
           into-room = let l = w .climbs .long in rw (length-take-le (h .len) key v) (omega arith)
 
-          pub into-done : {part : List ℕ} → part ≡ take (length (take (h .len) key)) (w .climbs .before) → WalksInto d g target key (At (h .at) (h .len)) (part ++ drop (h .len) key)
-          into-done q = stopped-there (h .at) (h .len) (w .climbs .before) said (w .climbs .long) u v q
+          pub into-done : {part : List ℕ} → part ≡ take (length (take (h .len) key)) (w .climbs .before) → WalksInto d g target key (At (h .at) (h .len) (h .number)) (part ++ drop (h .len) key)
+          into-done q = stopped-there (h .at) (h .len) (h .number) (w .climbs .before) said (w .climbs .long) ended-is u v q
 
 -- ---- a turn of the read down
 
@@ -255,20 +281,26 @@ module _ (d : List ℕ) (g : Region) (there : Reached) (out : List ℕ) (shared 
 
 -- ---- the row that ends at a position
 
-module _ (d : List ℕ) (g : RegionC) (stop : ℕ) (out : List ℕ) (h : g .start < stop) (q : Reached) (w : Reaches d (regionFrom g) stop q) where
+module _ (d : List ℕ) (g : RegionC) (stop : ℕ) (p : Passed) (out : List ℕ) (h : g .start < stop) (q : Reached) (w : Reaches d (regionFrom g) stop q) where
+  abbrev said-of : ℕ
+  said-of = passedBy p (endedBy d (regionFrom g) stop)
+
+  abbrev wrong-there : Bool
+  wrong-there = otherThan p (endedBy d (regionFrom g) stop)
+
   pub stands : Stands d (regionFrom g) q (w .there .before)
   stands = record { rows = w .there .rows; leads = w .there .leads; knows = w .there .knows }
 
-  pub ended-no : {x : Refusal} → rowIn d (regionFrom g) (q .at) (q .len) ≡ refuse (number x) → EndsAt d g stop out (EndedRefused x) out
-  ended-no e = gives-not refl (ending-no d (regionFrom g) stop (length out) h (reaching-refused d (regionFrom g) stop (q .at) (q .len) (q .known) (w .there) e))
+  pub ended-no : {x : Refusal} → rowIn d (regionFrom g) (q .at) (q .len) ≡ refuse (number x) → EndsAt d g stop p out (EndedRefused x) out
+  ended-no e = gives-not refl (ending-no d (regionFrom g) stop said-of (length out) h (reaching-refused d (regionFrom g) stop (q .at) (q .len) (q .known) (w .there) e))
 
   module _ (r : Row) (e : rowIn d (regionFrom g) (q .at) (q .len) ≡ ok (rowFrom r)) where
     abbrev key : Key
     key = keyOf d (w .there .before) (rowFrom r)
 
-    is-given : given (rowFrom r) stop key (length out) ≡ endingAt d (regionFrom g) stop (length out)
+    is-given : given (rowFrom r) stop wrong-there key (length out) ≡ endingAt d (regionFrom g) stop said-of (length out)
     is-given =
-        ending-given d (regionFrom g) stop (length out) h (rowFrom r) key (w .far (rowFrom r) e) (reaching-straddles d (regionFrom g) stop (q .at) (q .len) (q .known) (w .there) (rowFrom r) e)
+        ending-given d (regionFrom g) stop said-of (length out) h (rowFrom r) key (w .far (rowFrom r) e) (reaching-straddles d (regionFrom g) stop (q .at) (q .len) (q .known) (w .there) (rowFrom r) e)
         (reaching-found d (regionFrom g) stop (q .at) (q .len) (q .known) (w .there) (rowFrom r) e)
 
     key-long : length key ≡ keyLength (rowFrom r)
@@ -277,53 +309,84 @@ module _ (d : List ℕ) (g : RegionC) (stop : ℕ) (out : List ℕ) (h : g .star
     pub ended-shares : r .shared ≤ length (w .there .before)
     ended-shares = reaching-shares d (regionFrom g) stop (q .at) (q .len) (q .known) (w .there) (rowFrom r) e
 
-    pub ended-past : stop < r .next → EndsAt d g stop out (EndedRefused BadState) out
-    ended-past k = gives-ended d (regionFrom g) stop (rowFrom r) key out refl is-given (gives-past r stop key out k)
+    pub ended-past : stop < r .next → EndsAt d g stop p out (EndedRefused BadState) out
+    ended-past k = gives-ended is-given (gives-past d (regionFrom g) r stop wrong-there key out k)
 
-    module _ (k : r .next ≤ stop) where
-      pub ended-short : length out < r .shared + r .«suffix_len» → EndsAt d g stop out (EndedRefused KeyBufferTooShort) out
-      ended-short u = gives-ended d (regionFrom g) stop (rowFrom r) key out refl is-given (gives-short r stop key out k (rw key-long u))
+    number-is : endedBy d (regionFrom g) (r .start) ≡ q .number
+    number-is =
+        ap (endedBy d (regionFrom g)) (rowIn-ends d (regionFrom g) (q .at) (q .len) (rowFrom r) e .starts) ∙ counting-here d (regionFrom g) (q .at) (q .len) (q .number) (w .counts)
 
-      -- what it shares is put, then its suffix
-      pub ended-put : r .shared + r .«suffix_len» ≤ length out → {ys zs : List ℕ} → ys ≡ splice out 0 (take (r .shared) (w .there .before))
-          → zs ≡ splice ys (r .shared) (take (r .«suffix_at» + r .«suffix_len» - r .«suffix_at») (drop (r .«suffix_at») d)) → EndsAt d g stop out (EndedRow r) zs
-      ended-put u {ys} {zs} y z =
-          let p-is : r .«suffix_at» + r .«suffix_len» - r .«suffix_at» ≡ r .«suffix_len» = omega arith in
-          let first-long = length-take-le (r .shared) (w .there .before) ended-shares in
-          let last-long : length (take (r .«suffix_len») (drop (r .«suffix_at») d)) ≡ r .«suffix_len» =
-          part-length d (r .«suffix_at») (r .«suffix_len») (rowIn-ends d (regionFrom g) (q .at) (q .len) (rowFrom r) e .suffix) in
-          gives-ended d (regionFrom g) stop (rowFrom r) key out refl is-given
-          (gives-row r stop key out k (rw key-long u)
-          (then-write out ys zs 0 (r .shared) (take (r .shared) (w .there .before)) (take (r .«suffix_len») (drop (r .«suffix_at») d)) y (omega arith) (omega arith) (rw p-is at z)))
+    module _ (k : r .next ≤ stop) {b : Bool} (t : b ≡ otherThan p (q .number + 1)) where
+      wrong-is : b ≡ wrong-there
+      wrong-is =
+          let all = counting-ended d (regionFrom g) (q .at) (q .len) (q .number) (w .counts) (rowFrom r) e (le-antisymm k (w .far (rowFrom r) e)) in
+          t ∙ ap (otherThan p) (sym all)
+
+      pub ended-wrong : b ≡ true → EndsAt d g stop p out (EndedRefused BadState) out
+      ended-wrong v = gives-ended is-given (gives-wrong d (regionFrom g) r stop wrong-there key out k (sym wrong-is ∙ v))
+
+      module _ (v : b ≡ false) where
+        pub ended-short : length out < r .shared + r .«suffix_len» → EndsAt d g stop p out (EndedRefused KeyBufferTooShort) out
+        ended-short u = gives-ended is-given (gives-short d (regionFrom g) r stop wrong-there key out k (sym wrong-is ∙ v) (rw key-long u))
+
+        -- what it shares is put, then its suffix
+        pub ended-put : r .shared + r .«suffix_len» ≤ length out → {ys zs : List ℕ} → ys ≡ splice out 0 (take (r .shared) (w .there .before))
+            → zs ≡ splice ys (r .shared) (take (r .«suffix_at» + r .«suffix_len» - r .«suffix_at») (drop (r .«suffix_at») d)) → EndsAt d g stop p out (EndedRow r (q .number)) zs
+        ended-put u {ys} {zs} y z =
+            let p-is : r .«suffix_at» + r .«suffix_len» - r .«suffix_at» ≡ r .«suffix_len» = omega arith in
+            let first-long = length-take-le (r .shared) (w .there .before) ended-shares in
+            let last-long : length (take (r .«suffix_len») (drop (r .«suffix_at») d)) ≡ r .«suffix_len» =
+            part-length d (r .«suffix_at») (r .«suffix_len») (rowIn-ends d (regionFrom g) (q .at) (q .len) (rowFrom r) e .suffix) in
+            gives-ended is-given
+            (gives-row d (regionFrom g) r stop wrong-there key out k (sym wrong-is ∙ v) number-is (rw key-long u)
+            (then-write out ys zs 0 (r .shared) (take (r .shared) (w .there .before)) (take (r .«suffix_len») (drop (r .«suffix_at») d)) y (omega arith) (omega arith) (rw p-is at z)))
 
 -- ---- for callers
 
-module _ {want : Res Keyed} {out out′ : List ℕ} where
-  pub ended-row : {r : Row} → Gives want out (EndedRow r) out′ → (k : Keyed) × (want ≡ ok k) × (k .row ≡ rowFrom r) × (out′ ≡ splice out 0 (k .key))
-  ended-row {r} p =
-      bind-then want _ (rowFrom r) (sym (p .answer)) λ k e f.
-      (k, e, ok-inj f, p .bytes ∙ ap (λ (x : Res Keyed). outAfter x out) e)
+module _ {d : List ℕ} {g : Region} {want : Res Keyed} {out out′ : List ℕ} where
+  pub ended-row : {r : Row} {n : ℕ} → Gives d g want out (EndedRow r n) out′
+      → (k : Keyed) × (want ≡ ok k) × (k .row ≡ rowFrom r) × (out′ ≡ splice out 0 (k .key)) × (endedBy d g (k .row .start) ≡ n)
+  ended-row {r} {n} p =
+      bind-then want _ (counted (rowFrom r) n) (sym (p .answer)) λ k e f.
+      (k, e, ap (λ (x : Counted RowRead). x .what) (ok-inj f), p .bytes ∙ ap (λ (x : Res Keyed). outAfter x out) e, ap (λ (x : Counted RowRead). x .number) (ok-inj f))
 
-  pub ended-refused : {x : Refusal} → Gives want out (EndedRefused x) out′ → (want ≡ refuse (number x)) × (out′ ≡ out)
+  pub ended-refused : {x : Refusal} → Gives d g want out (EndedRefused x) out′ → (want ≡ refuse (number x)) × (out′ ≡ out)
   ended-refused {x} p = go want (p .answer) (p .bytes)
     where
-      go : (w : Res Keyed) → refuse (number x) ≡ bind w (λ k. ok (k .row)) → out′ ≡ outAfter w out → (w ≡ refuse (number x)) × (out′ ≡ out)
+      go : (w : Res Keyed) → refuse (number x) ≡ bind w (rowNumbered d g) → out′ ≡ outAfter w out → (w ≡ refuse (number x)) × (out′ ≡ out)
       go (ok k) e q = absurd (apart (sym e))
       go (refuse n) e q = (cc, q)
 
 -- the step back of a cursor that stands in the region
-pub step-back-used : (c : Cursor) (b : List ℕ) (t : Trailer) (room region : ℕ) (g : Region) → g .start < c .at
-    → stepBackIn c b t room region g ≡ bind (endingAt (dataOf b t) g (c .at) room) λ k. ok (stepIs (backPast c region (k .row)) (found (k .row) (k .key)))
-step-back-used c b t room region g h = go (rowEndingAt (c .at) (dataOf b t) g (c .at) (g .start) []) refl
-  where
-    go : (x : Res Keyed) → rowEndingAt (c .at) (dataOf b t) g (c .at) (g .start) [] ≡ x
-        → stepBackIn c b t room region g ≡ bind (endingAt (dataOf b t) g (c .at) room) λ k. ok (stepIs (backPast c region (k .row)) (found (k .row) (k .key)))
-    go (refuse n) e = rw (sym (ending-no (dataOf b t) g (c .at) room h (sym e))) (back-no c b t room region g e)
-    go (ok k) e =
-        ⊎-elim
-        (λ u. rw (ending-said (dataOf b t) g (c .at) room h k e, u .0) (back-short c b t room region g k e (u .1)))
-        (λ u. rw (ending-said (dataOf b t) g (c .at) room h k e, u .0) (back-found c b t room region g k e (u .1)))
-        (ltb-cases room (keyLength (k .row)))
+module _ (c : Cursor) (b : List ℕ) (t : Trailer) (room region : ℕ) (g : Region) (n : ℕ) (is : regionOf b t region ≡ ok g) where
+  abbrev number-of : ℕ → ℕ
+  number-of at = endedBy (dataOf b t) g at
+
+  abbrev found-by : Keyed → ℕ → Res Step
+  found-by k m = ok (stepIs (backPast c region m (k .row)) (found region m (k .row) (k .key)))
+
+  abbrev found-back : Keyed → Res Step
+  found-back k = found-by k (number-of (k .row .start))
+
+  in-region : (at : ℕ) → numberAt b t region at ≡ number-of at
+  in-region at = number-in b t region at g is
+
+  pub step-back-used : g .start < c .at → stepBackIn c b t room region g n ≡ bind (endingAt (dataOf b t) g (c .at) n room) found-back
+  step-back-used h = go (rowEndingAt (c .at) (dataOf b t) g (c .at) (g .start) []) refl
+    where
+      go : (x : Res Keyed) → rowEndingAt (c .at) (dataOf b t) g (c .at) (g .start) [] ≡ x → stepBackIn c b t room region g n ≡ bind (endingAt (dataOf b t) g (c .at) n room) found-back
+      go (refuse i) e = rw (sym (ending-no (dataOf b t) g (c .at) n room h (sym e))) (back-no c b t room region g n e)
+      go (ok k) e =
+          let said = ending-said (dataOf b t) g (c .at) n room h k e in
+          ⊎-elim
+          (λ v.
+          let w = v .1 ∙ sym (in-region (c .at)) in
+          ⊎-elim
+          (λ u. rw (said, v .0, u .0) (back-short c b t room region g n k e w (u .1)))
+          (λ u. rw (said, v .0, u .0) (back-found c b t room region g n k e w (u .1) ∙ ap (found-by k) (in-region (k .row .start))))
+          (ltb-cases room (keyLength (k .row))))
+          (λ v. rw (said, v .0) (back-wrong c b t room region g n k e (λ w. v .1 (w ∙ in-region (c .at)))))
+          (eqb-cases n (number-of (c .at)))
 
 -- the key that a walk leaves is one that is allowed
 walk-few : (d : List ℕ) (g : Region) (fuel : ℕ) (target : Key) (at : ℕ) (before : Key) (s : Stop) → walkRegion fuel d g target at before ≡ ok s → length before ≤ maxKey → length (s .before) ≤ maxKey
@@ -365,6 +428,9 @@ module _ (b : List ℕ) (t : Trailer) (i : ℕ) (g : RegionC) (target : Key) (re
   abbrev walked : Res Stop
   walked = walkRegion (t .size) (dataOf b t) (regionFrom g) target (g .start) []
 
+  abbrev numbered : Stop → Res (Counted Halt)
+  numbered = haltNumbered (dataOf b t) (regionFrom g)
+
   into-used : walkInto (dataOf b t) (regionFrom g) target (length key) ≡ walked
   unfolding walkInto
   into-used = rw (walk-used b t i (regionFrom g) target read is) (go walked refl)
@@ -379,14 +445,46 @@ module _ (b : List ℕ) (t : Trailer) (i : ℕ) (g : RegionC) (target : Key) (re
           (ltb-cases (s .at) (g .end))
 
   module _ (r : PlaceRead) (key′ : List ℕ) (w : WalksInto (dataOf b t) g target key r key′) where
-    pub into-stopped : {at n : ℕ} → r ≡ At at n → (s : Stop) × (walked ≡ ok s) × (s .at ≡ at) × (length (s .before) ≡ n) × (key′ ≡ cond (ltb (s .at) (g .end)) (splice key 0 (s .before)) key)
-    into-stopped {at} {n} e =
-        bind-then walked _ (haltIs at n) (sym (sym (ap saysPlace e) ∙ w .answer ∙ ap (λ (x : Res Stop). bind x haltOf) into-used)) λ s q f.
-        (s, q, ap (λ (x : Halt). x .at) (ok-inj f), ap (λ (x : Halt). x .keyLen) (ok-inj f), w .bytes ∙ ap (λ (x : Res Stop). keyLeft (regionFrom g) x key) (into-used ∙ q))
+    pub into-stopped : {at n m : ℕ} → r ≡ At at n m
+        → (s : Stop) × (walked ≡ ok s) × (s .at ≡ at) × (length (s .before) ≡ n) × (key′ ≡ cond (ltb (s .at) (g .end)) (splice key 0 (s .before)) key) × (endedBy (dataOf b t) (regionFrom g) (s .at) ≡ m)
+    into-stopped {at} {n} {m} e =
+        bind-then walked _ (counted (haltIs at n) m) (sym (sym (ap saysPlace e) ∙ w .answer ∙ ap (λ (x : Res Stop). bind x numbered) into-used)) λ s q f.
+        let is = ok-inj f in
+        (s, q, ap (λ (x : Counted Halt). x .what .at) is, ap (λ (x : Counted Halt). x .what .keyLen) is, w .bytes ∙ ap (λ (x : Res Stop). keyLeft (regionFrom g) x key) (into-used ∙ q), ap (λ (x : Counted Halt). x .number) is)
 
     pub into-refused : {n : ℕ} → saysPlace r ≡ refuse n → (walked ≡ refuse n) × (key′ ≡ key)
-    into-refused {n} e = go walked (sym e ∙ w .answer ∙ ap (λ (y : Res Stop). bind y haltOf) into-used) (w .bytes ∙ ap (λ (y : Res Stop). keyLeft (regionFrom g) y key) into-used)
+    into-refused {n} e = go walked (sym e ∙ w .answer ∙ ap (λ (y : Res Stop). bind y numbered) into-used) (w .bytes ∙ ap (λ (y : Res Stop). keyLeft (regionFrom g) y key) into-used)
       where
-        go : (y : Res Stop) → refuse n ≡ bind y haltOf → key′ ≡ keyLeft (regionFrom g) y key → (y ≡ refuse n) × (key′ ≡ key)
+        go : (y : Res Stop) → refuse n ≡ bind y numbered → key′ ≡ keyLeft (regionFrom g) y key → (y ≡ refuse n) × (key′ ≡ key)
         go (ok s) f q = absurd (apart (sym f))
         go (refuse m) f q = (cc, q)
+
+-- the read of a region of the block for its last row at or below a target
+module _ (b : List ℕ) (t : Trailer) (i : ℕ) (g : RegionC) (target : Key) (read : trailerOf b ≡ ok t) (is : regionOf b t i ≡ ok (regionFrom g)) where
+  abbrev lowered : Res ℕ
+  lowered = lastAtOrBelow (t .size) (dataOf b t) (regionFrom g) target (g .start) [] (g .start)
+
+  module _ (r : LastRead) (w : EndsLast (dataOf b t) g target r) where
+    said-last : saysLast r ≡ bind lowered (endNumbered (dataOf b t) (regionFrom g))
+    said-last = w ∙ ap (λ (x : Res ℕ). bind x (endNumbered (dataOf b t) (regionFrom g))) (last-used b t i (regionFrom g) target read is)
+
+    pub last-ended : {at n : ℕ} → r ≡ Ends at n → (lowered ≡ ok at) × (endedBy (dataOf b t) (regionFrom g) at ≡ n)
+    last-ended {at} {n} e =
+        bind-then lowered _ (counted at n) (sym (sym (ap saysLast e) ∙ said-last)) λ best q f.
+        let same : best ≡ at = ap (λ (x : Counted ℕ). x .what) (ok-inj f) in
+        (q ∙ ap ok same, ap (endedBy (dataOf b t) (regionFrom g)) (sym same) ∙ ap (λ (x : Counted ℕ). x .number) (ok-inj f))
+
+    pub last-refused : {n : ℕ} → saysLast r ≡ refuse n → lowered ≡ refuse n
+    last-refused {n} e = go lowered (sym e ∙ said-last)
+      where
+        go : (y : Res ℕ) → refuse n ≡ bind y (endNumbered (dataOf b t) (regionFrom g)) → y ≡ refuse n
+        go (ok at) f = absurd (apart (sym f))
+        go (refuse m) f = cc
+
+-- the rows of the block's last region are those that end at or before the data's end
+pub rows-used : (b : List ℕ) (t : Trailer) (g : Region) → regionOf b t (t .count - 1) ≡ ok g
+    → rowsIn (dataOf b t) g ≡ bind (rowEndingAt (t .size) (dataOf b t) g (t .size) (g .start) []) λ _. ok (numberAt b t (t .count - 1) (t .size))
+unfolding rowsIn
+rows-used b t g is =
+    let w = regionOf-tells b t (t .count - 1) g is in
+    rw (lt-leb (g .end) (g .start) (w .rises), number-in b t (t .count - 1) (t .size) g is, w .last (omega arith) .0)

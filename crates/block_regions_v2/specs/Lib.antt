@@ -6,4 +6,5 @@ pub mod Says
 pub mod Promise
 pub mod OneOutcome
 pub mod Parts
+pub mod Count
 pub mod Laws

@@ -16,6 +16,7 @@ use Rattle.layout.specs.Cursor.{Keyed, keyed, rowEndingAt}
 use Rattle.layout.specs.Seek.{stopIs, walkRegion}
 use Rattle.layout.specs.Laws.Res.{spend}
 use Rattle.layout.specs.Laws.Carry.{keyOf-length}
+use Rattle.layout.specs.Laws.Number.{Counting}
 use Rattle.layout.specs.Laws.Plain.{span-row}
 use Rattle.layout.specs.Laws.Tells.{row-shares, rowIn-ends}
 use Rattle.block_regions_v2.specs.declared.Halted.{Halted}
@@ -27,13 +28,14 @@ use Rattle.block_regions_v2.specs.Rows.{Rows, rows-on}
 
 -- ---- the walk up
 
-abbrev pub haltedIs : ℕ → ℕ → ℕ → ℕ → Bool → Halted
-haltedIs at len from from-len good = record { at = at; len = len; from = from; «from_len» = from-len; good = good }
+abbrev pub haltedIs : ℕ → ℕ → ℕ → ℕ → ℕ → Bool → Halted
+haltedIs at len n from from-len good = record { at = at; len = len; number = n; from = from; «from_len» = from-len; good = good }
 
 -- where the walk stopped, or a row of the region that is refused
 pub record Halts (d : List ℕ) (g : Region) (target : Key) (h : Halted) : Type 0 where
   pub match : ℕ
   pub climbs : Climbing d g target (length d) (h .at) match (h .len) (h .from) (h .«from_len»)
+  pub counts : Counting d g (h .at) (h .len) (h .number)
   pub stopped : h .good ≡ true → ok (stopIs (h .at) (climbs .before)) ≡ walkRegion (length d) d g target (g .start) []
   pub refused : h .good ≡ false → (h .at < g .end) × ((r : RowRead) → rowIn d g (h .at) (h .len) ≡ ok r → ⊥)
 
@@ -62,11 +64,12 @@ module _ (d : List ℕ) (g : Region) (stop : ℕ) where
 
   pub record Reaches (r : Reached) : Type 0 where
     pub there : Reaching (r .at) (r .len) (r .known)
+    pub counts : Counting d g (r .at) (r .len) (r .number)
     pub far : (x : RowRead) → rowIn d g (r .at) (r .len) ≡ ok x → stop ≤ x .next
 
   pub reaching-start : g .start < stop → Reaching (g .start) 0 (knownIs 0 0 0 0)
   reaching-start h =
-      record { left = stop; before = []; rows = []; enough = omega arith; near = h; long = refl; makes = refl; leads = (refl, refl); knows = knows-none d }
+      record { left = stop; before = []; rows = []; enough = omega arith; near = h; long = refl; makes = refl; leads = (refl, refl); knows = knows-none d [] }
 
   module _ (at len : ℕ) (k : Known) (s : Reaching at len k) where
     read-near : {x : Res RowRead} → rowIn d g at len ≡ x → rowIn d g at (length (s .before)) ≡ x
@@ -76,6 +79,21 @@ module _ (d : List ℕ) (g : Region) (stop : ℕ) where
     taken f =
         spend (λ (n : ℕ). rowEndingAt n d g stop at (s .before)) (s .left) (λ z. absurd (omega (arith, s .enough, s .near))) (s .makes)
         λ more is q. f more (omega (arith, s .enough)) q
+
+    -- where the key stands may be forgotten
+    pub reaching-only : Reaching at len (knownIs 0 0 0 0)
+    reaching-only =
+        record {
+          left = s .left;
+          before = s .before;
+          rows = s .rows;
+          enough = s .enough;
+          near = s .near;
+          long = s .long;
+          makes = s .makes;
+          leads = s .leads;
+          knows = knows-none d (s .before);
+        }
 
     pub reaching-refused : {n : ℕ} → rowIn d g at len ≡ refuse n → refuse n ≡ ends
     unfolding rowEndingAt

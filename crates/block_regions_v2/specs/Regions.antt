@@ -1,30 +1,58 @@
 -- The reads of a whole restart region by a caller who may hand in any region and any position: 18 where these can't belong together, then the rules' own
 -- reads.
 use Prim.Native.Nat.{ℕ}
-use mathlib.Core.Bool.{cond}
+use mathlib.Core.Bool.{Bool, cond, not}
 use mathlib.Core.List.{List, []}
-use lib.Dec.{ltb, leb}
+use lib.Dec.{ltb, leb, eqb}
 use lib.ListN.{length}
 use Rattle.layout.specs.Res.{Res, ok, refuse, bind, _when_else_}
 use Rattle.layout.specs.Place.{splice}
 use Rattle.layout.specs.Key.{Key}
 use Rattle.layout.specs.RowRead.{RowRead, keyLength}
 use Rattle.layout.specs.Trailer.{Region}
+use Rattle.layout.specs.Number.{endedBy}
 use Rattle.layout.specs.Cursor.{Keyed, keyed, rowEndingAt}
 use Rattle.layout.specs.Seek.{Stop, walkRegion, lastAtOrBelow}
+use Rattle.layout.specs.Laws.MatchWalk.{Halt, haltOf}
 
--- the row that ends at `stop`, whose key a buffer of `room` bytes is to hold: 18 where no row of the region can, the rows' own refusals, 18, 19
-unfoldable pub endingAt : List ℕ → Region → ℕ → ℕ → Res Keyed
-endingAt d g stop room =
+-- ---- what was found, and how many rows of its region end at or before it
+
+pub record Counted (A : Type 0) : Type 0 where
+  pub what : A
+  pub number : ℕ
+
+abbrev pub counted : {A : Type 0} → A → ℕ → Counted A
+counted a n = record { what = a; number = n }
+
+-- a row
+abbrev pub rowNumbered : List ℕ → Region → Keyed → Res (Counted RowRead)
+rowNumbered d g k = ok (counted (k .row) (endedBy d g (k .row .start)))
+
+-- where a walk stopped, with how long the key of the row before is
+abbrev pub haltNumbered : List ℕ → Region → Stop → Res (Counted Halt)
+haltNumbered d g s = bind (haltOf s) λ h. ok (counted h (endedBy d g (h .at)))
+
+-- where a row ends
+abbrev pub endNumbered : List ℕ → Region → ℕ → Res (Counted ℕ)
+endNumbered d g at = ok (counted at (endedBy d g at))
+
+-- ---- the reads
+
+-- the row that ends at `stop`, at or before which n rows are said to, and whose key a buffer of `room` bytes is to hold: 18 where no row of the region can, the
+-- rows' own refusals, 18, 18 where another number of rows does, 19
+unfoldable pub endingAt : List ℕ → Region → ℕ → ℕ → ℕ → Res Keyed
+endingAt d g stop n room =
     18 when leb stop (g .start) else
     bind (rowEndingAt stop d g stop (g .start) []) λ k.
+    18 when not (eqb n (endedBy d g stop)) else
     19 when ltb room (keyLength (k .row)) else
     ok k
 
 -- the first row that reaches `stop`, with its key
-abbrev pub given : RowRead → ℕ → Key → ℕ → Res Keyed
-given r stop key room =
+abbrev pub given : RowRead → ℕ → Bool → Key → ℕ → Res Keyed
+given r stop wrong key room =
     18 when ltb stop (r .next) else
+    18 when wrong else
     19 when ltb room (length key) else
     ok (keyed r key)
 
@@ -56,3 +84,10 @@ unfoldable pub lastTo : List ℕ → Region → Key → Res ℕ
 lastTo d g target =
     18 when ltb (length d) (g .end) else
     lastAtOrBelow (length d) d g target (g .start) [] (g .start)
+
+-- how many rows a region has: 18 for one that can't have any, then the rows' own refusals
+unfoldable pub rowsIn : List ℕ → Region → Res ℕ
+rowsIn d g =
+    18 when leb (g .end) (g .start) else
+    bind (rowEndingAt (g .end) d g (g .end) (g .start) []) λ _.
+    ok (endedBy d g (g .end))

@@ -1,6 +1,7 @@
-// The three reads of a whole restart region that the block iterator makes: back to the row that ends at a position, up to a target, and for the last row
-// at or below one. None carries a key: a walk to a target carries how many bytes the key before begins with in common with it, the read back where in the
-// data the first bytes of the key before stand. A key that is wanted is put together at the end, once all tests are made.
+// The reads of a whole restart region that the block iterator makes: back to the row that ends at a position, up to a target, for the last row at or below
+// one, and to count its rows. Each counts the rows that it reads, so that it can say which row of the region it found. None carries a key: a walk to a target
+// carries how many bytes the key before begins with in common with it, the read back where in the data the first bytes of the key before stand. A key that is
+// wanted is put together at the end, once all tests are made.
 // Follows slatedb 0.16.0, src/block_iterator_v2.rs (Apache License 2.0), and is changed: no rows are cached, no key is carried, and what the bytes or the
 // numbers handed in can break is a refusal that writes nothing.
 ghost use mathlib.Core.Path.{_≡_};
@@ -15,34 +16,51 @@ ghost use Rattle.block_regions_v2.specs.Rows.{clipped, Filling};
 ghost use Rattle.block_regions_v2.specs.Climb.{Based};
 ghost use Rattle.block_regions_v2.specs.Known.{knownAfter};
 ghost use Rattle.block_regions_v2.specs.Parts.{haltedIs, Halts, Stands, Reaches};
-ghost use Rattle.block_regions_v2.specs.Promise.{EndsAt, WalksInto, EndsLast};
+ghost use Rattle.block_regions_v2.specs.Says.{otherThan};
+ghost use Rattle.block_regions_v2.specs.Promise.{EndsAt, WalksInto, EndsLast, CountsRows};
 use basics::Refusal;
 use row_decode_v2::Row;
 use row_decode_v2::RowRead;
 use trailer::Region;
 
-// The row that ends at a position. Its key stands in the lent buffer.
+// How many rows of a region are said to end at or before a position: so many, or as many as do.
+pub enum Passed {
+    Rows(usize),
+    All,
+}
+
+// The row that ends at a position, and its number in the region. Its key stands in the lent buffer.
 pub enum Ended {
-    Row(Row),
+    Row { row: Row, number: usize },
     Refused(Refusal),
 }
 
-// Where a walk stopped, and how long the key of the row before is.
+// Where a walk stopped, how long the key of the row before is, and how many rows of the region end at or before it.
 pub enum PlaceRead {
-    At { at: usize, key_len: usize },
+    At {
+        at: usize,
+        key_len: usize,
+        number: usize,
+    },
     Refused(Refusal),
 }
 
 pub enum LastRead {
-    Ends(usize),
+    Ends { at: usize, number: usize },
     Refused(Refusal),
 }
 
-// Where a walk stopped, or the row that is refused (not `good`), with the length of the key before; and the last row that shared no more than the match, with
-// the length of the key before that one.
+pub enum CountRead {
+    Rows(usize),
+    Refused(Refusal),
+}
+
+// Where a walk stopped, or the row that is refused (not `good`), with the length of the key before and how many rows were read before; and the last row that
+// shared no more than the match, with the length of the key before that one.
 struct Halted {
     at: usize,
     len: usize,
+    number: usize,
     from: usize,
     from_len: usize,
     good: bool,
@@ -56,10 +74,12 @@ struct Known {
     len: usize,
 }
 
-// The first row that reaches a position, or that is refused, with the length of the key before it and what is known of that key.
+// The first row that reaches a position, or that is refused, with how many rows were read before it, the length of the key before it, and what is known of that
+// key.
 struct Reached {
     at: usize,
     len: usize,
+    number: usize,
     known: Known,
 }
 
@@ -120,12 +140,13 @@ fn latest(matched: usize, shared: usize, old: usize, new: usize) -> usize
     if matched < shared { old } else { new }
 }
 
-fn halt(at: usize, len: usize, from: usize, from_len: usize, good: bool) -> Halted
-    ensures { λ r. ⌜ r ≡ haltedIs at len from «from_len» good ⌝ }
+fn halt(at: usize, len: usize, number: usize, from: usize, from_len: usize, good: bool) -> Halted
+    ensures { λ r. ⌜ r ≡ haltedIs at len number from «from_len» good ⌝ }
 {
     Halted {
         at,
         len,
+        number,
         from,
         from_len,
         good,
@@ -139,27 +160,29 @@ fn walk_place(data: &[u8], region: Region, target: &[u8]) -> Halted
 {
     let mut at = region.start;
     let mut len: usize = 0;
+    let mut number: usize = 0;
     let mut matched: usize = 0;
     let mut from = region.start;
     let mut from_len: usize = 0;
     while at < region.end {
         let row = row_span_v2::span_in(data, at, region.start, region.end, len);
         if row.next == 0 {
-            return halt(at, len, from, from_len, false);
+            return halt(at, len, number, from, from_len, false);
         }
         let start = row.suffix_at;
         let end = start + row.suffix_len;
         let now = match_keys::match_up(target, matched, row.shared, &data[start..end]);
         if !now.below {
-            return halt(at, len, from, from_len, true);
+            return halt(at, len, number, from, from_len, true);
         }
         from = latest(matched, row.shared, from, at);
         from_len = latest(matched, row.shared, from_len, len);
         matched = now.len;
         len = row.shared + row.suffix_len;
         at = row.next;
+        number += 1;
     }
-    halt(at, len, from, from_len, true)
+    halt(at, len, number, from, from_len, true)
 }
 
 // The first bytes of the key of the row before the place where a walk stopped, as many as `key` has. What the row to start from shares, the target has too.
@@ -181,30 +204,39 @@ pub fn walk_into(data: &[u8], region: Region, target: &[u8], key: &mut [u8]) -> 
     let there = walk_place(data, region, target);
     let at = there.at;
     let key_len = there.len;
+    let number = there.number;
     if !there.good {
         let refusal = row_span_v2::refusal_in(data, at, region.start, region.end, key_len);
         return PlaceRead::Refused(refusal);
     }
     if region.end <= at {
-        return PlaceRead::At { at, key_len };
+        return PlaceRead::At {
+            at,
+            key_len,
+            number,
+        };
     }
     if key.len() < key_len {
         return PlaceRead::Refused(Refusal::KeyBufferTooShort);
     }
     rebuild_from(data, region, there, target, &mut key[..key_len]);
-    PlaceRead::At { at, key_len }
+    PlaceRead::At {
+        at,
+        key_len,
+        number,
+    }
 }
 
 // ---- down to a target
 
-// Where the last row at or below the target ends so far.
+// Where the last row at or below the target ends so far, and how many rows end there.
 fn later(above: bool, best: usize, next: usize) -> usize
     ensures { λ r. ⌜ r ≡ cond above best next ⌝ }
 {
     if above { best } else { next }
 }
 
-// Reads a whole region: where its last row at or below the target ends, or the region's start if there is none. (`load_restart_region` and the search for the
+// Reads a whole region: where its last row at or below the target ends, or the region's start if there is none, and how many rows end there. (`load_restart_region` and the search for the
 // first greater row in the Rust's `seek` descending.)
 pub fn last_at_or_below(data: &[u8], region: Region, target: &[u8]) -> LastRead
     ensures { λ r. ⌜ EndsLast (now («data» .entry)) region (now (target .entry)) r ⌝ }
@@ -216,7 +248,9 @@ pub fn last_at_or_below(data: &[u8], region: Region, target: &[u8]) -> LastRead
     let mut len: usize = 0;
     let mut matched: usize = 0;
     let mut above = false;
+    let mut number: usize = 0;
     let mut best = region.start;
+    let mut best_number: usize = 0;
     while at < region.end {
         let row = row_span_v2::span_in(data, at, region.start, region.end, len);
         if row.next == 0 {
@@ -230,9 +264,14 @@ pub fn last_at_or_below(data: &[u8], region: Region, target: &[u8]) -> LastRead
         above = now.below;
         len = row.shared + row.suffix_len;
         at = row.next;
+        number += 1;
         best = later(above, best, at);
+        best_number = later(above, best_number, number);
     }
-    LastRead::Ends(best)
+    LastRead::Ends {
+        at: best,
+        number: best_number,
+    }
 }
 
 // ---- back to a position
@@ -274,6 +313,7 @@ fn reach(data: &[u8], region: Region, stop: usize) -> Reached
 {
     let mut at = region.start;
     let mut len: usize = 0;
+    let mut number: usize = 0;
     let mut known = Known {
         first: 0,
         split: 0,
@@ -283,14 +323,25 @@ fn reach(data: &[u8], region: Region, stop: usize) -> Reached
     loop {
         let row = row_span_v2::span_in(data, at, region.start, region.end, len);
         if row.next == 0 {
-            return Reached { at, len, known };
+            return Reached {
+                at,
+                len,
+                number,
+                known,
+            };
         }
         if stop <= row.next {
-            return Reached { at, len, known };
+            return Reached {
+                at,
+                len,
+                number,
+                known,
+            };
         }
         len = row.shared + row.suffix_len;
         known = known_after(known, row.suffix_at, row.shared, len);
         at = row.next;
+        number += 1;
     }
 }
 
@@ -314,10 +365,26 @@ fn put_shared(data: &[u8], region: Region, there: Reached, shared: usize, out: &
     buf_mut::copy_in(out, n, &data[second..last]);
 }
 
+// Whether another number of rows is said to end at a position than do.
+fn other_than(passed: Passed, ended: usize) -> bool
+    ensures { λ r. ⌜ r ≡ otherThan passed ended ⌝ }
+{
+    match passed {
+        Passed::Rows(n) => n != ended,
+        Passed::All => false,
+    }
+}
+
 // The row of a region that ends at `stop`, with its key at the start of `out`: rows up to there are tested as they are read, and no row after it is; then
-// 18, 19. (`load_restart_region` in the Rust, which keeps all rows.)
-pub fn row_ending_at(data: &[u8], region: Region, stop: usize, out: &mut [u8]) -> Ended
-    ensures { λ r. ⌜ EndsAt (now («data» .entry)) region stop (now (out .entry)) r (now (out .exit)) ⌝ }
+// 18, where none ends there or another number of rows is said to, and 19. (`load_restart_region` in the Rust, which keeps all rows.)
+pub fn row_ending_at(
+    data: &[u8],
+    region: Region,
+    stop: usize,
+    passed: Passed,
+    out: &mut [u8],
+) -> Ended
+    ensures { λ r. ⌜ EndsAt (now («data» .entry)) region stop passed (now (out .entry)) r (now (out .exit)) ⌝ }
 {
     if stop <= region.start {
         return Ended::Refused(Refusal::BadState);
@@ -331,6 +398,11 @@ pub fn row_ending_at(data: &[u8], region: Region, stop: usize, out: &mut [u8]) -
     if stop < row.next {
         return Ended::Refused(Refusal::BadState);
     }
+    let number = there.number;
+    let ended = number + 1;
+    if other_than(passed, ended) {
+        return Ended::Refused(Refusal::BadState);
+    }
     let shared = row.shared;
     if out.len() < shared + row.suffix_len {
         return Ended::Refused(Refusal::KeyBufferTooShort);
@@ -339,5 +411,32 @@ pub fn row_ending_at(data: &[u8], region: Region, stop: usize, out: &mut [u8]) -
     let start = row.suffix_at;
     let end = start + row.suffix_len;
     buf_mut::copy_in(out, shared, &data[start..end]);
-    Ended::Row(row)
+    Ended::Row { row, number }
+}
+
+// ---- how many rows
+
+// Reads a whole region: how many rows it has. (`load_restart_region` in the Rust, of which the descending iterator takes the last place.)
+pub fn count_rows(data: &[u8], region: Region) -> CountRead
+    ensures { λ r. ⌜ CountsRows (now («data» .entry)) region r ⌝ }
+{
+    if region.end <= region.start {
+        return CountRead::Refused(Refusal::BadState);
+    }
+    let mut at = region.start;
+    let mut len: usize = 0;
+    let mut rows: usize = 0;
+    loop {
+        let row = row_span_v2::span_in(data, at, region.start, region.end, len);
+        if row.next == 0 {
+            let refusal = row_span_v2::refusal_in(data, at, region.start, region.end, len);
+            return CountRead::Refused(refusal);
+        }
+        rows += 1;
+        if region.end <= row.next {
+            return CountRead::Rows(rows);
+        }
+        len = row.shared + row.suffix_len;
+        at = row.next;
+    }
 }
