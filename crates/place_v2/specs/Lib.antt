@@ -1,4 +1,4 @@
 pub mod Says
-pub mod Parts
 pub mod Promise
+pub mod Parts
 pub mod OneOutcome

@@ -21,6 +21,7 @@ viewIn p key =
       order = saysOrder (p .order);
       region = p .region;
       at = p .at;
+      number = p .number;
       keyLen = p .«key_len»;
       key = take (p .«key_len») key;
       done = p .done;
@@ -36,7 +37,7 @@ saysEmpty (EmptyRefused r) = refuse (number r)
 pub viewIn-one : (p q : Place) (k l : List ℕ) → viewIn p k ≡ viewIn q l → p ≡ q
 viewIn-one p q k l e =
     let o = saysOrder-one (p .order) (q .order) (ap (λ (x : Cursor). x .order) e) in
-    ap (λ (x : Cursor). record { order = p .order; region = x .region; at = x .at; «key_len» = x .keyLen; done = x .done }) e ∙ rw o
+    ap (λ (x : Cursor). record { order = p .order; region = x .region; at = x .at; number = x .number; «key_len» = x .keyLen; done = x .done }) e ∙ rw o
 
 pub saysEmpty-one : (a b : EmptyRead) → saysEmpty a ≡ saysEmpty b → a ≡ b
 saysEmpty-one (Is a) (Is b) e = ap Is (ok-inj e)

@@ -1,11 +1,9 @@
--- `open_place` keeps its promise: 14, then all of 15, each refusal beside the cursor at 0 in region 0; else the cursor of the order asked.
+-- `open_place` keeps its promise: 14, then all of 15, each refusal beside the cursor at 0 in region 0; else the order asked.
 -- Each exit is a law of the opening, over what was read on the way to it.
 use mathlib.Core.Path.{_≡_, refl, sym, _∙_}
-use native.Mathlib.Omega.{arith}
 use Rattle.layout.specs.Res.{ok}
 use Rattle.layout.specs.Trailer.{trailerOf, allOffsets}
-use Rattle.layout.specs.Laws.Trailer.{trailerOf-tells}
-use Rattle.layout.specs.Laws.Cursor.{open-trailer, open-offsets, open-good}
+use Rattle.layout.specs.Laws.Cursor.{open-trailer, open-offsets, open-along}
 use Rattle.basics.specs.Answers.{yes, no, saysVerdict}
 use Rattle.trailer.specs.Says.{trailerFrom, saysTrailer, refusalOfTrailer}
 use Rattle.trailer.specs.Laws.{offsets-used}
@@ -31,23 +29,21 @@ returns-2 c =
     let offsets = sym (offsets-used _ _ (trailer-read k)) ∙ yes saysVerdict (c .before .before .before .all-offsets .ensures) (c .before .offsets .given .1) in
     opens-not _ _ _ (open-offsets _ _ _ (trailer-read k) offsets) (k .before .before .before .before .fresh .ensures)
 
-sub-fresh : tie.Need-sub-fresh
-sub-fresh c = omega (arith, trailerOf-tells _ _ (trailer-read (c .before .before .before .before .before .before)) .1)
+open-down-requires : tie.Need-open-down-requires
+open-down-requires c κs = trailer-read (c .before .before .before .before .before)
 
 returns-3 : tie.Need-returns-3
 returns-3 c =
     let k = c .before .before in
-    opens-up _ _ _ _ (open-good _ _ _ (trailer-read (k .before .before .before)) (offsets-good k)) (c .enum-told3 .given .1) (k .before .before .before .before .before .before .before .fresh .ensures)
+    opens-up _ _ _ (open-along _ _ _ (trailer-read (k .before .before .before)) (offsets-good k)) _ (c .enum-told3 .given .1) (k .before .before .before .before .before .before .before .fresh .ensures)
 
 returns-4 : tie.Need-returns-4
 returns-4 c =
-    let k = c .before .before .before .before in
-    opens-down _ _ _ _ (open-good _ _ _ (trailer-read (k .before .before .before)) (offsets-good k)) (c .before .before .enum-told4 .given .1) (c .fresh2 .ensures)
+    let k = c .before .before .before in
+    opens-down _ _ _ (open-along _ _ _ (trailer-read (k .before .before .before)) (offsets-good k)) (c .before .enum-told4 .given .1) (c .open-down .ensures)
 
 pub open-place-spec : {M : Type 1} → statement M
 open-place-spec =
     tie.close
     (tie.spec
-    (search needs) (search needs) (search needs) (search needs) (search needs) returns (search needs)
-    (search needs) returns-2 (search needs) (search needs) (search needs) sub-fresh (search needs) returns-3
-    returns-4)
+    (search needs) (search needs) (search needs) (search needs) (search needs) returns (search needs) (search needs) returns-2 (search needs) (search needs) (search needs) open-down-requires returns-3 returns-4)
