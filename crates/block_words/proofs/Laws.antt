@@ -50,10 +50,11 @@ module _ (ws : List ℕ) (h : length ws ≡ cursorCount) {d : Direction} (o : or
   cursor-read m key = counted-so ws cursorCount _ h ∙ rw (o, m) refl
 
 pub cursor-loaded : (ws : List ℕ) (p : Place) → length ws ≡ cursorCount → orderIn (wordAt ws 0) ≡ ok (saysOrder (p .order)) → truthIn (wordAt ws 4) ≡ ok (p .done)
-    → p .region ≡ wordAt ws 1 → p .at ≡ wordAt ws 2 → p .«key_len» ≡ wordAt ws 3 → (key : List ℕ) → saysCursor key (IsCursor p) ≡ cursorIn ws key
-cursor-loaded ws p h o m r a k key = rw (r, a, k) (sym (cursor-read ws h o m key))
+    → p .region ≡ wordAt ws 1 → p .at ≡ wordAt ws 2 → p .«key_len» ≡ wordAt ws 3 → p .number ≡ wordAt ws 5
+    → (key : List ℕ) → saysCursor key (IsCursor p) ≡ cursorIn ws key
+cursor-loaded ws p h o m r a k n key = rw (r, a, k, n) (sym (cursor-read ws h o m key))
 
--- what is a cursor has its five words
+-- what is a cursor has its six words
 pub cursor-counts : (ws key : List ℕ) (c : Cursor) → cursorIn ws key ≡ ok c → length ws ≡ cursorCount
 unfolding cursorIn
 cursor-counts ws key c e = guard-then (not (eqb (length ws) cursorCount)) badWords _ c e λ t q. eqb-true (length ws) cursorCount (not-false (eqb (length ws) cursorCount) t)

@@ -22,22 +22,26 @@ use Rattle.block_words.proofs.Starts.{step-bad}
 
 module _ (d : Cursor) (ws key out row ws′ key′ out′ : List ℕ) (w : ws′ ≡ cursorWords d) (k : take (d .keyLen) key′ ≡ d .key) where
   -- with the step taken apart into its cursor and its answer
-  found-row : (a : Answer) (r : RowReadL) {row′ : List ℕ} → ok (toldOf a) ≡ ok (row-told r) → out′ ≡ keyAfter (ok (stepIs d a)) out → row′ ≡ rowWords r
+  found-row : (a : Answer) (region number : ℕ) (r : RowReadL) {row′ : List ℕ} → ok (toldOf a) ≡ ok (row-told region number r) → out′ ≡ keyAfter (ok (stepIs d a)) out
+      → row′ ≡ rowWords region number r
       → StepsAs (ok (stepIs d a)) ws key out row 0 ws′ key′ out′ row′
-  found-row (found s given) r e o q = record { answer = refl; state = w; key-bytes = k; lent = o; row-words = q ∙ sym (ap rowWords (told-row (ok-inj e))) }
-  found-row done r e o q = absurd (told-apart (sym (ok-inj e)))
+  found-row (found i n s given) region number r e o q =
+      let t = told-row (ok-inj e) in
+      record { answer = refl; state = w; key-bytes = k; lent = o; row-words = q ∙ rw (t .0, t .1, t .2) }
+  found-row done region number r e o q = absurd (told-apart (sym (ok-inj e)))
 
   none-left : (a : Answer) → ok (toldOf a) ≡ ok none → out′ ≡ keyAfter (ok (stepIs d a)) out → StepsAs (ok (stepIs d a)) ws key out row doneCode ws′ key′ out′ row
-  none-left (found s given) e o = absurd (told-apart (ok-inj e))
+  none-left (found i n s given) e o = absurd (told-apart (ok-inj e))
   none-left done e o = record { answer = refl; state = w; key-bytes = k; lent = o; row-words = refl }
 
   module _ (c : Cursor) where
-    pub stepped : (want : Res Step) (r : RowReadL) {row′ : List ℕ} → bind want told ≡ ok (row-told r) → d ≡ cursorAfter want c → out′ ≡ keyAfter want out → row′ ≡ rowWords r
+    pub stepped : (want : Res Step) (region number : ℕ) (r : RowReadL) {row′ : List ℕ} → bind want told ≡ ok (row-told region number r) → d ≡ cursorAfter want c → out′ ≡ keyAfter want out
+        → row′ ≡ rowWords region number r
         → StepsAs want ws key out row 0 ws′ key′ out′ row′
-    stepped (ok s) r {row′} e v o q =
+    stepped (ok s) region number r {row′} e v o q =
         subst (λ (x : Cursor). StepsAs (ok (stepIs x (s .answer))) ws key out row 0 ws′ key′ out′ row′) v
-        (found-row (s .answer) r e o q)
-    stepped (refuse n) r e v o q = absurd (apart (sym e))
+        (found-row (s .answer) region number r e o q)
+    stepped (refuse n) region number r e v o q = absurd (apart (sym e))
 
     pub ended : (want : Res Step) → bind want told ≡ ok none → d ≡ cursorAfter want c → out′ ≡ keyAfter want out → StepsAs want ws key out row doneCode ws′ key′ out′ row
     ended (ok s) e v o =

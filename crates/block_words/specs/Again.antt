@@ -9,7 +9,7 @@ use native.Mathlib.Omega.{arith}
 use lib.ListN.{length, take}
 use Rattle.layout.specs.Res.{ok}
 use Rattle.layout.specs.Builder.{Builder, add}
-use Rattle.layout.specs.Cursor.{Direction, ascending, descending, Cursor, Step}
+use Rattle.layout.specs.Cursor.{Direction, ascending, descending, Cursor, keptCursor, Step}
 use Rattle.layout.specs.Key.{Key}
 use Rattle.layout.specs.Limits.{maxKey}
 use Rattle.layout.specs.Laws.Made.{add-tells}
@@ -21,18 +21,18 @@ use Rattle.block_words.specs.Exports.{AddsAs, StepsAs}
 
 -- ---- a cursor
 
-parts : (d : Direction) (region at keyLen : ℕ) (m : Bool) (key : List ℕ)
-    → cursorIn (orderWord d ∷ region ∷ at ∷ keyLen ∷ truthWord m ∷ []) key ≡ ok (record { order = d; region = region; at = at; keyLen = keyLen; key = take keyLen key; done = m })
+parts : (d : Direction) (region at number keyLen : ℕ) (m : Bool) (key : List ℕ)
+    → cursorIn (orderWord d ∷ region ∷ at ∷ keyLen ∷ truthWord m ∷ number ∷ []) key ≡ ok (keptCursor d region at number keyLen key m)
 unfolding cursorIn
-parts ascending region at keyLen true key = refl
-parts ascending region at keyLen false key = refl
-parts descending region at keyLen true key = refl
-parts descending region at keyLen false key = refl
+parts ascending region at number keyLen true key = refl
+parts ascending region at number keyLen false key = refl
+parts descending region at number keyLen true key = refl
+parts descending region at number keyLen false key = refl
 
 pub cursor-again : (c : Cursor) (key : List ℕ) → take (c .keyLen) key ≡ c .key → cursorIn (cursorWords c) key ≡ ok c
 cursor-again c key h =
-    parts (c .order) (c .region) (c .at) (c .keyLen) (c .done) key
-    ∙ ap (λ (k : List ℕ). ok (record { order = c .order; region = c .region; at = c .at; keyLen = c .keyLen; key = k; done = c .done })) h
+    parts (c .order) (c .region) (c .at) (c .number) (c .keyLen) (c .done) key
+    ∙ ap (λ (k : List ℕ). ok (record { order = c .order; region = c .region; at = c .at; number = c .number; keyLen = c .keyLen; key = k; done = c .done })) h
 
 -- after a step that found a row or said "done", the next call reads the cursor that the step left
 pub step-again : (s : Step) (ws key out row : List ℕ) (code : ℕ) (ws′ key′ out′ row′ : List ℕ) → StepsAs (ok s) ws key out row code ws′ key′ out′ row′ → cursorIn ws′ key′ ≡ ok (s .cursor)

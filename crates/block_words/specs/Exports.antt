@@ -36,7 +36,7 @@ KeyLeft (refuse n) left key key′ = key′ ≡ key
 
 -- "done" has a code of its own
 abbrev pub answerCode : Answer → ℕ
-answerCode (found r key) = 0
+answerCode (found region number r key) = 0
 answerCode done = doneCode
 
 abbrev pub stepCode : Res Step → ℕ
@@ -44,7 +44,7 @@ stepCode (ok s) = answerCode (s .answer)
 stepCode (refuse n) = n
 
 abbrev pub rowGiven : List ℕ → Answer → List ℕ
-rowGiven row (found r key) = rowWords r
+rowGiven row (found region number r key) = rowWords region number r
 rowGiven row done = row
 
 pub record StepsAs (want : Res Step) (ws key out row : List ℕ) (code : ℕ) (ws′ key′ out′ row′ : List ℕ) : Type 0 where

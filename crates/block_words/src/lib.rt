@@ -23,7 +23,7 @@ pub const DONE: u8 = 255;
 
 // ---- how many words there are
 
-pub const CURSOR_WORDS: usize = 5;
+pub const CURSOR_WORDS: usize = 6;
 
 pub const BUILDER_WORDS: usize = 6;
 
@@ -99,6 +99,7 @@ pub fn cursor_in(words: &[u64]) -> CursorRead
         at: size(words[2]),
         key_len: size(words[3]),
         done,
+        number: size(words[5]),
     })
 }
 
@@ -115,6 +116,7 @@ pub fn put_cursor(words: &mut [u64], p: Place) -> bool
     words[2] = p.at as u64;
     words[3] = p.key_len as u64;
     words[4] = row_words::truth_word(p.done);
+    words[5] = p.number as u64;
     true
 }
 
