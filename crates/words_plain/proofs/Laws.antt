@@ -49,7 +49,7 @@ unmade want ws key out row e k o = rw e (record { answer = refl; after = record 
 
 -- the place and the row that the code makes of a step
 abbrev placeTo : Stepped → Place
-placeTo x = record { order = Ascending; region = x .region; at = x .next; «key_len» = x .«key_len»; done = false }
+placeTo x = record { order = Ascending; region = x .region; at = x .next; number = x .number; «key_len» = x .«key_len»; done = false }
 
 abbrev rowTo : ℕ → Stepped → Row
 rowTo at x =
@@ -66,8 +66,9 @@ rowTo at x =
     }
 
 -- the words of that place are those of the cursor
-words-to : (c : Cursor) (x : Stepped) (r : RowRead) (k : Key) → x ≡ steppedTo c (found r k) → c .order ≡ ascending → c .done ≡ false → cursorWords (viewIn (placeTo x) []) ≡ cursorWords c
-words-to c x r k e h m = ap (λ (y : Stepped). cursorWords (viewIn (placeTo y) [])) e ∙ rw (h, m)
+words-to : (c : Cursor) (x : Stepped) (region number : ℕ) (r : RowRead) (k : Key) → x ≡ steppedTo c (found region number r k) → c .order ≡ ascending → c .done ≡ false
+    → cursorWords (viewIn (placeTo x) []) ≡ cursorWords c
+words-to c x region number r k e h m = ap (λ (y : Stepped). cursorWords (viewIn (placeTo y) [])) e ∙ rw (h, m)
 
 module _ (b ws key out row : List ℕ) where
   few : (not (eqb (length ws) cursorCount) || not (eqb (length row) rowCount)) ≡ true → plainFlat b ws key (length out) row ≡ refuse 0
@@ -89,34 +90,34 @@ module _ (b ws key out row : List ℕ) where
     pub flat-other : (not (eqb (wordAt ws 0) 0) || not (eqb (wordAt ws 4) 0)) ≡ true → Made (plainFlat b ws key (length out) row) ws key out row false ws key out row
     flat-other e = unmade (plainFlat b ws key (length out) row) ws key out row (odd e) refl refl
 
-    module _ (u : (not (eqb (wordAt ws 0) 0) || not (eqb (wordAt ws 4) 0)) ≡ false) {region at keyLen : ℕ} (eg : region ≡ wordAt ws 1) (ea : at ≡ wordAt ws 2) (ek : keyLen ≡ wordAt ws 3) (x : Stepped) {key′ out′ : List ℕ} (g : StepsPlain region at keyLen key b out x key′ out′) where
-      is : plainFlat b ws key (length out) row ≡ plainStep region at keyLen key b (length out)
+    module _ (u : (not (eqb (wordAt ws 0) 0) || not (eqb (wordAt ws 4) 0)) ≡ false) {region at number keyLen : ℕ} (eg : region ≡ wordAt ws 1) (ea : at ≡ wordAt ws 2) (ek : keyLen ≡ wordAt ws 3) (en : number ≡ wordAt ws 5) (x : Stepped) {key′ out′ : List ℕ} (g : StepsPlain region at number keyLen key b out x key′ out′) where
+      is : plainFlat b ws key (length out) row ≡ plainStep region at number keyLen key b (length out)
       unfolding plainFlat
-      is = rw (t, u, eg, ea, ek)
+      is = rw (t, u, eg, ea, ek, en)
 
       pub flat-not : x .next ≡ 0 → Made (plainFlat b ws key (length out) row) ws key out row false ws key′ out′ row
       flat-not z =
-          let n = not-told region at keyLen key b out x g z in
+          let n = not-told region at number keyLen key b out x g z in
           let h = subst (λ (w : Res Step). Goes w key out x key′ out′) n g in
           unmade (plainFlat b ws key (length out) row) ws key out row (is ∙ n) (h .key-bytes) (h .lent)
 
       module _ (n : x .next ≡ 0 → ⊥) where
         -- its places are numbers of the block
         pub flat-ends : at + 12 + x .unshared + x .«value_len» ≡ x .next
-        flat-ends = told region at keyLen key b out x g n .ends
+        flat-ends = told region at number keyLen key b out x g n .ends
 
-        pub flat-made : {r q : Bool} {ws′ row′ : List ℕ} → PutsCursor (placeTo x) ws r ws′ → PutsRow (rowTo at x) row q row′ → Made (plainFlat b ws key (length out) row) ws key out row true ws′ key′ out′ row′
+        pub flat-made : {r q : Bool} {ws′ row′ : List ℕ} → PutsCursor (placeTo x) ws r ws′ → PutsRow region number (rowTo at x) row q row′ → Made (plainFlat b ws key (length out) row) ws key out row true ws′ key′ out′ row′
         flat-made p q =
-            let m = told region at keyLen key b out x g n in
+            let m = told region at number keyLen key b out x g n in
             let h = subst (λ (w : Res Step). Goes w key out x key′ out′) (m .is) g in
             let c = flat-words in
             made (plainFlat b ws key (length out) row) (is ∙ m .is)
             (record {
               answer = refl;
-              state = p .state ∙ ap (λ (y : Bool). cond y (cursorWords (viewIn (placeTo x) [])) ws) (eq-eqb (length ws) cursorCount (c .0)) ∙ words-to (m .cursor) x (rowMade at x) (m .key) (m .to) (m .heads) (m .unmarked);
+              state = p .state ∙ ap (λ (y : Bool). cond y (cursorWords (viewIn (placeTo x) [])) ws) (eq-eqb (length ws) cursorCount (c .0)) ∙ words-to (m .cursor) x region number (rowMade at x) (m .key) (m .to) (m .heads) (m .unmarked);
               key-bytes = h .key-bytes;
               lent = h .lent;
-              row-words = q .state ∙ ap (λ (y : Bool). cond y (rowWords (rowFrom (rowTo at x))) row) (eq-eqb (length row) rowCount (c .1));
+              row-words = q .state ∙ ap (λ (y : Bool). cond y (rowWords region number (rowFrom (rowTo at x))) row) (eq-eqb (length row) rowCount (c .1));
             })
           where
             made : (want : Res Step) {s : Step} {ws′ key′ out′ row′ : List ℕ} → want ≡ ok s → StepsAs (ok s) ws key out row 0 ws′ key′ out′ row′ → Made want ws key out row true ws′ key′ out′ row′
@@ -135,9 +136,9 @@ module _ (b ws key out row : List ℕ) where
       (λ y.
       let n = both (length ws) cursorCount (length row) rowCount (x .0) in
       let w = both (wordAt ws 0) 0 (wordAt ws 4) 0 (y .0) in
-      let p = plainStep-tells (wordAt ws 1) (wordAt ws 2) (wordAt ws 3) key b (length out) s (y .1) in
+      let p = plainStep-tells (wordAt ws 1) (wordAt ws 2) (wordAt ws 5) (wordAt ws 3) key b (length out) s (y .1) in
       rw (eq-eqb (length row) rowCount (n .1), eq-eqb (length key) maxKey (p .0), eq-eqb (length ws) cursorCount (n .0), eq-eqb (wordAt ws 0) 0 (w .0), eq-eqb (wordAt ws 4) 0 (w .1)) (p .1))
-      (cond-ok (not (eqb (wordAt ws 0) 0) || not (eqb (wordAt ws 4) 0)) (refuse 0) (plainStep (wordAt ws 1) (wordAt ws 2) (wordAt ws 3) key b (length out)) s (x .1)))
+      (cond-ok (not (eqb (wordAt ws 0) 0) || not (eqb (wordAt ws 4) 0)) (refuse 0) (plainStep (wordAt ws 1) (wordAt ws 2) (wordAt ws 5) (wordAt ws 3) key b (length out)) s (x .1)))
       (cond-ok (not (eqb (length ws) cursorCount) || not (eqb (length row) rowCount)) (refuse 0) _ s e)
 
   module _ {r : Bool} {ws′ key′ out′ row′ : List ℕ} (m : StepsFlatPlain b ws key out row r ws′ key′ out′ row′) where

@@ -17,7 +17,7 @@ unfoldable pub plainFlat : List ℕ → List ℕ → List ℕ → ℕ → List �
 plainFlat b ws key room row =
     cond (not (eqb (length ws) cursorCount) || not (eqb (length row) rowCount)) (refuse 0)
     (cond (not (eqb (wordAt ws 0) 0) || not (eqb (wordAt ws 4) 0)) (refuse 0)
-    (plainStep (wordAt ws 1) (wordAt ws 2) (wordAt ws 3) key b room))
+    (plainStep (wordAt ws 1) (wordAt ws 2) (wordAt ws 5) (wordAt ws 3) key b room))
 
 abbrev pub isMade : Res Step → Bool
 isMade (ok s) = true

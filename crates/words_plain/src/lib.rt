@@ -33,7 +33,8 @@ pub fn plain_next(
     let region = size(cursor[1]);
     let at = size(cursor[2]);
     let key_len = size(cursor[3]);
-    let r = step_plain_v2::plain_step(key, region, at, key_len, block, out);
+    let number = size(cursor[5]);
+    let r = step_plain_v2::plain_step(key, region, at, number, key_len, block, out);
     if r.next == 0 {
         return false;
     }
@@ -43,6 +44,7 @@ pub fn plain_next(
         at: r.next,
         key_len: r.key_len,
         done: false,
+        number: r.number,
     };
     let suffix_at = at + 3;
     let found = Row {
@@ -60,6 +62,6 @@ pub fn plain_next(
         create: Time::Absent,
     };
     block_words::put_cursor(cursor, place);
-    row_words::put_row(row, found);
+    row_words::put_row(row, region, number, found);
     true
 }
