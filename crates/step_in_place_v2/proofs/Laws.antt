@@ -14,8 +14,10 @@ use Rattle.layout.specs.Place.{splice}
 use Rattle.layout.specs.Key.{Key}
 use Rattle.layout.specs.RowRead.{RowRead, keyOf}
 use Rattle.layout.specs.Trailer.{Trailer, dataOf, offsetAt, Region, regionOf}
+use Rattle.layout.specs.Number.{endedBy, numberAt}
 use Rattle.layout.specs.Cursor.{Direction, ascending, Cursor, cursorIs, marked, found, done, Step, stepIs, stepUp, Keyed, backPast, stepBackIn, stepDown, next}
 use Rattle.layout.specs.Laws.Carry.{Carries, read-carried, keyOf-length, suffixOf, key-new, carries-on}
+use Rattle.layout.specs.Laws.Number.{number-in}
 use Rattle.layout.specs.Laws.Trailer.{trailerOf-tells, regionOf-tells}
 use Rattle.basics.specs.Answers.{yes}
 use Rattle.basics.specs.Number.{number}
@@ -27,12 +29,14 @@ use Rattle.trailer.specs.Says.{regionFrom}
 use Rattle.trailer.specs.declared.Region.{Region as RegionC}
 use Rattle.block_regions_v2.specs.declared.Ended.{Ended}
 use Rattle.block_regions_v2.specs.declared.Ended.the-variants.{Row as EndedRow, Refused as EndedRefused}
+use Rattle.block_regions_v2.specs.declared.Passed.{Passed}
+use Rattle.block_regions_v2.specs.Says.{passedBy}
 use Rattle.block_regions_v2.specs.Laws.{ended-row, ended-refused, step-back-used}
 use Rattle.block_regions_v2.specs.Promise.{EndsAt}
 use Rattle.block_regions_v2.specs.Regions.{endingAt}
 use Rattle.place_v2.specs.declared.Place.{Place}
 use Rattle.step_in_place_v2.specs.declared.Moved.{Moved}
-use Rattle.step_in_place_v2.specs.declared.Moved.the-variants.{Found, Done, Refused}
+use Rattle.step_in_place_v2.specs.declared.Moved.the-variants.{Done, Refused}
 use Rattle.step_in_place_v2.specs.declared.Ahead.{Ahead}
 use Rattle.step_in_place_v2.specs.declared.Ahead.the-variants.{At, End, Refused as AheadRefused}
 use Rattle.step_in_place_v2.specs.declared.Behind.{Behind}
@@ -41,14 +45,14 @@ use Rattle.step_in_place_v2.specs.declared.Standing.{Standing}
 use Rattle.step_in_place_v2.specs.Lent.{nextIn, lent-other, lent-whole}
 use Rattle.step_in_place_v2.specs.Says.{row}
 use Rattle.place_v2.specs.Says.{viewIn}
-use Rattle.step_in_place_v2.specs.Parts.{refusalOfEnded, finished, Stands, Going, StandsAs, passed, saysAhead, Fits, Ready, LooksAhead, saysBehind, Before, LooksBehind}
+use Rattle.step_in_place_v2.specs.Parts.{refusalOfEnded, finished, foundAt, Stands, Going, StandsAs, passed, saysAhead, Fits, Ready, LooksAhead, saysBehind, Before, LooksBehind}
 use Rattle.step_in_place_v2.specs.Promise.{Moves}
 
 -- ---- a step
 
--- a place whose region, position and key length are set
-abbrev pub movedTo : Place → ℕ → ℕ → ℕ → Place
-movedTo p region at len = record { order = p .order; region = region; at = at; «key_len» = len; done = p .done }
+-- a place whose region, position, number and key length are set
+abbrev pub movedTo : Place → ℕ → ℕ → ℕ → ℕ → Place
+movedTo p region at n len = record { order = p .order; region = region; at = at; number = n; «key_len» = len; done = p .done }
 
 module _ (want : Res Step) (p : Place) (key out : List ℕ) where
   pub moves-not : {x : Refusal} → want ≡ refuse (number x) → Moves want p key out (Refused x) key out
@@ -107,8 +111,8 @@ module _ (p : Place) (b : List ℕ) (t : Trailer) where
   pub behind-start : ((k : List ℕ) (room : ℕ) → stepDown (viewIn p k) b t room ≡ ok (stepIs (marked (viewIn p k)) done)) → LooksBehind p b t Start
   behind-start e = record { says = λ k room. sym (e k room); before = tt }
 
-  pub behind-in : {n : ℕ} {g : RegionC} → g .start < p .at → ((k : List ℕ) (room : ℕ) → stepDown (viewIn p k) b t room ≡ stepBackIn (viewIn p k) b t room n (regionFrom g))
-      → LooksBehind p b t (In n g)
+  pub behind-in : {n : ℕ} {g : RegionC} {s : Passed} → (g .start < p .at) × (regionOf b t n ≡ ok (regionFrom g))
+      → ((k : List ℕ) (room : ℕ) → stepDown (viewIn p k) b t room ≡ stepBackIn (viewIn p k) b t room n (regionFrom g) (passedBy s (numberAt b t n (p .at)))) → LooksBehind p b t (In n g s)
   behind-in h e = record { says = λ k room. sym (e k room); before = h }
 
 -- the region before starts before
@@ -129,15 +133,15 @@ behind-said p k b t room l e = yes (saysBehind (viewIn p k) b t room) (l .says k
 pub ready-row : (p : Place) (d : List ℕ) (room : ℕ) {a : Ahead} {r : Row} {g : RegionC} → Ready p d room a → a ≡ At r g → Fits p d (regionFrom g) room (rowFrom r)
 ready-row p d room m e = subst (Ready p d room) e m
 
-pub before-in : (p : Place) {a : Behind} {n : ℕ} {g : RegionC} → Before p a → a ≡ In n g → g .start < p .at
-before-in p m e = subst (Before p) e m
+pub before-in : (p : Place) (b : List ℕ) (t : Trailer) {a : Behind} {n : ℕ} {g : RegionC} {s : Passed} → Before p b t a → a ≡ In n g s → (g .start < p .at) × (regionOf b t n ≡ ok (regionFrom g))
+before-in p b t m e = subst (Before p b t) e m
 
 -- ---- the writes past a row
 
 -- a cursor that carries a key
-pub carries-key : (region at : ℕ) {n : ℕ} {k key : Key} → k ≡ key → length key ≡ n
-    → record { order = ascending; region = region; at = at; keyLen = n; key = k; done = false } ≡ cursorIs ascending region at key false
-carries-key region at e l = rw (e, l)
+pub carries-key : (region at m : ℕ) {n : ℕ} {k key : Key} → k ≡ key → length key ≡ n
+    → record { order = ascending; region = region; at = at; number = m; keyLen = n; key = k; done = false } ≡ cursorIs ascending region at m key false
+carries-key region at m e l = rw (e, l)
 
 module _ (p : Place) (key b : List ℕ) (t : Trailer) (g : RegionC) (r : Row) (out key′ : List ℕ) (whole : length key ≡ maxKey) (s : Stands ascending p b t) (f : Fits p (dataOf b t) (regionFrom g) (length out) (rowFrom r)) (q : key′ ≡ splice key (r .shared) (suffixOf (dataOf b t) (rowFrom r))) where
   carries : Carries key (p .«key_len»)
@@ -164,40 +168,54 @@ module _ (p : Place) (key b : List ℕ) (t : Trailer) (g : RegionC) (r : Row) (o
     lent-is = o ∙ ap (splice out 0) key-is
 
     -- a finished region hands over
-    pub pass-over : g .reach < r .next
-        → Moves (ok (passed (viewIn p key) (dataOf b t) (regionFrom g) (rowFrom r))) p key out (Found (movedTo p (p .region + 1) (r .next) 0) r) key′ out′
-    pass-over h = record { answer = refl; view = rw (lt-ltb (g .reach) (r .next) h, s .heads, s .unmarked); whole = tt; lent = lent-is }
+    pub pass-over : g .reach < r .next → {x : Moved} → x ≡ foundAt (movedTo p (p .region + 1) (r .next) 0 0) (p .region) (p .number) r
+        → Moves (ok (passed (viewIn p key) (dataOf b t) (regionFrom g) (rowFrom r))) p key out x key′ out′
+    pass-over h is = rw is (record { answer = refl; view = rw (lt-ltb (g .reach) (r .next) h, s .heads, s .unmarked); whole = tt; lent = lent-is })
 
-    pub pass-stay : r .next ≤ g .reach
-        → Moves (ok (passed (viewIn p key) (dataOf b t) (regionFrom g) (rowFrom r))) p key out (Found (movedTo p (p .region) (r .next) (r .shared + r .«suffix_len»)) r) key′ out′
-    pass-stay h =
-        record {
+    pub pass-stay : r .next ≤ g .reach → {x : Moved} → x ≡ foundAt (movedTo p (p .region) (r .next) (p .number + 1) (r .shared + r .«suffix_len»)) (p .region) (p .number) r
+        → Moves (ok (passed (viewIn p key) (dataOf b t) (regionFrom g) (rowFrom r))) p key out x key′ out′
+    pass-stay h is =
+        rw is
+        (record {
           answer = refl;
-          view = rw (le-ltb (g .reach) (r .next) h, s .heads, s .unmarked) (carries-key (p .region) (r .next) key-is long);
+          view = rw (le-ltb (g .reach) (r .next) h, s .heads, s .unmarked) (carries-key (p .region) (r .next) (p .number + 1) key-is long);
           whole = tt;
           lent = lent-is;
-        }
+        })
 
 -- ---- back before a row
 
--- what the row that was found makes of a cursor
-abbrev gone : Cursor → ℕ → Keyed → Res Step
-gone c n k = ok (stepIs (backPast c n (k .row)) (found (k .row) (k .key)))
+module _ (p : Place) (key b : List ℕ) (t : Trailer) (n : ℕ) (g : RegionC) (h : g .start < p .at) (used : regionOf b t n ≡ ok (regionFrom g)) (s : Passed) (out out′ : List ℕ) {a : Ended} (m : EndsAt (dataOf b t) g (p .at) s out a out′) where
+  abbrev number-of : ℕ → ℕ
+  number-of at = endedBy (dataOf b t) (regionFrom g) at
 
-module _ (p : Place) (key b : List ℕ) (t : Trailer) (n : ℕ) (g : RegionC) (h : g .start < p .at) (out out′ : List ℕ) {a : Ended} (m : EndsAt (dataOf b t) g (p .at) out a out′) where
-  used : stepBackIn (viewIn p key) b t (length out) n (regionFrom g) ≡ bind (endingAt (dataOf b t) (regionFrom g) (p .at) (length out)) (gone (viewIn p key) n)
-  used = step-back-used (viewIn p key) b t (length out) n (regionFrom g) h
+  -- what the row that was found makes of the cursor
+  abbrev gone : Keyed → Res Step
+  gone k = ok (stepIs (backPast (viewIn p key) n (number-of (k .row .start)) (k .row)) (found n (number-of (k .row .start)) (k .row) (k .key)))
 
-  pub back-to : {r : Row} → a ≡ EndedRow r
-      → Moves (stepBackIn (viewIn p key) b t (length out) n (regionFrom g)) p key out (Found (movedTo p n (r .start) (p .«key_len»)) r) key out′
-  back-to {r} e =
-      let q = ended-row (subst (λ (x : Ended). EndsAt (dataOf b t) g (p .at) out x out′) e m) in
-      let want = used ∙ ap (λ (x : Res Keyed). bind x (gone (viewIn p key) n)) (q .1) in
-      rw want (record { answer = ap (λ (x : RowRead). ok (row x)) (sym (q .2)); view = ap (λ (x : RowRead). backPast (viewIn p key) n x) (sym (q .2)); whole = tt; lent = q .3 })
+  abbrev wanted : Res Step
+  wanted = stepBackIn (viewIn p key) b t (length out) n (regionFrom g) (passedBy s (numberAt b t n (p .at)))
 
-  pub back-not : {x y : Refusal} → a ≡ EndedRefused y → x ≡ refusalOfEnded a → Moves (stepBackIn (viewIn p key) b t (length out) n (regionFrom g)) p key out (Refused x) key out′
+  wanted-is : wanted ≡ bind (endingAt (dataOf b t) (regionFrom g) (p .at) (passedBy s (number-of (p .at))) (length out)) gone
+  wanted-is =
+      ap (λ (i : ℕ). stepBackIn (viewIn p key) b t (length out) n (regionFrom g) (passedBy s i)) (number-in b t n (p .at) (regionFrom g) used)
+      ∙ step-back-used (viewIn p key) b t (length out) n (regionFrom g) (passedBy s (number-of (p .at))) used h
+
+  pub back-to : {r : Row} {i : ℕ} {x : Moved} → a ≡ EndedRow r i → x ≡ foundAt (movedTo p n (r .start) i (p .«key_len»)) n i r → Moves wanted p key out x key out′
+  back-to {r} {i} e is =
+      let q = ended-row (subst (λ (x : Ended). EndsAt (dataOf b t) g (p .at) s out x out′) e m) in
+      let want = wanted-is ∙ ap (λ (x : Res Keyed). bind x gone) (q .1) in
+      rw (is, want, q .4)
+      (record {
+        answer = ap (λ (x : RowRead). ok (row n i x)) (sym (q .2));
+        view = ap (λ (x : RowRead). backPast (viewIn p key) n i x) (sym (q .2));
+        whole = tt;
+        lent = q .3;
+      })
+
+  pub back-not : {x y : Refusal} → a ≡ EndedRefused y → x ≡ refusalOfEnded a → Moves wanted p key out (Refused x) key out′
   back-not {x} {y} e is =
-      let q = ended-refused (subst (λ (z : Ended). EndsAt (dataOf b t) g (p .at) out z out′) e m) in
+      let q = ended-refused (subst (λ (z : Ended). EndsAt (dataOf b t) g (p .at) s out z out′) e m) in
       let same : y ≡ x = sym (is ∙ ap refusalOfEnded e) in
-      let want = used ∙ ap (λ (z : Res Keyed). bind z (gone (viewIn p key) n)) (q .0 ∙ ap (λ (z : Refusal). refuse (number z)) same) in
-      rw (q .1) (moves-not _ p key out want)
+      let want = wanted-is ∙ ap (λ (z : Res Keyed). bind z gone) (q .0 ∙ ap (λ (z : Refusal). refuse (number z)) same) in
+      rw (q .1) (moves-not wanted p key out want)

@@ -10,26 +10,34 @@ ghost use Rattle.layout.specs.Res.{ok};
 ghost use Rattle.layout.specs.Cursor.{ascending, descending, stepUp, stepDown, stepBackIn};
 ghost use Rattle.layout.specs.Laws.Carry.{suffixOf};
 ghost use Rattle.layout.specs.Limits.{maxKey};
+ghost use Rattle.layout.specs.Number.{numberAt};
 ghost use Rattle.layout.specs.Place.{splice};
-ghost use Rattle.layout.specs.Trailer.{trailerOf, dataOf};
+ghost use Rattle.layout.specs.Trailer.{trailerOf, dataOf, regionOf};
 ghost use Rattle.basics.specs.Says.{saysOrder};
 ghost use Rattle.row_decode_v2.specs.Says.{rowFrom};
 ghost use Rattle.trailer.specs.Says.{trailerFrom, regionFrom};
+ghost use Rattle.block_regions_v2.specs.Says.{passedBy};
 ghost use Rattle.place_v2.specs.Says.{viewIn};
-ghost use Rattle.step_in_place_v2.specs.Parts.{refusalOfEnded, finished, Stands, StandsAs, passed, Fits, LooksAhead, LooksBehind};
+ghost use Rattle.step_in_place_v2.specs.Parts.{refusalOfEnded, finished, foundAt, Stands, StandsAs, passed, Fits, LooksAhead, LooksBehind};
 ghost use Rattle.step_in_place_v2.specs.Promise.{Moves, StepsInPlace};
 use basics::IterationOrder;
 use basics::Refusal;
 use block_regions_v2::Ended;
+use block_regions_v2::Passed;
 use place_v2::Place;
 use row_decode_v2::Row;
 use row_decode_v2::RowRead;
 use trailer::Region;
 use trailer::Trailer;
 
-// What a step answers, with the place past the row. A refusal moves nothing.
+// What a step answers: the row, its region and its number there, with the place past it. A refusal moves nothing.
 pub enum Moved {
-    Found { place: Place, row: Row },
+    Found {
+        place: Place,
+        region: usize,
+        number: usize,
+        row: Row,
+    },
     Done(Place),
     Refused(Refusal),
 }
@@ -48,9 +56,14 @@ enum Ahead {
     Refused(Refusal),
 }
 
-// The region, with its number, whose row before the position of a descending cursor comes next; or the start of the first one.
+// The region, with its index, whose row before the position of a descending cursor comes next, and how many of its rows are said to end there; or the start of
+// the first one.
 enum Behind {
-    In { number: usize, region: Region },
+    In {
+        index: usize,
+        region: Region,
+        passed: Passed,
+    },
     Start,
     Refused(Refusal),
 }
@@ -62,7 +75,7 @@ fn ended_refusal(a: Ended) -> Refusal
 {
     match a {
         Ended::Refused(refusal) => refusal,
-        Ended::Row(_) => Refusal::BadState,
+        Ended::Row { row: _, number: _ } => Refusal::BadState,
     }
 }
 
@@ -95,9 +108,21 @@ fn finished(p: Place) -> Moved
     Moved::Done(place)
 }
 
+// The one place where a row's region and number are put into an answer.
+fn found(place: Place, region: usize, number: usize, row: Row) -> Moved
+    ensures { λ r. ⌜ r ≡ foundAt place region number row ⌝ }
+{
+    Moved::Found {
+        place,
+        region,
+        number,
+        row,
+    }
+}
+
 // ---- ascending
 
-// All that an ascending step tests once the mark is tested, with nothing written: 15 for the region, 18 for the position, the row, 19.
+// All that an ascending step tests once the mark is tested, with nothing written: 15 for the region, 18 for the position and the number, the row, 19.
 // The trailer has the region, so that one that is all 0 is refused with 15. (`decode_entry_at_current_offset` in the Rust.)
 fn look_ahead(p: Place, block: &[u8], t: Trailer, room: usize) -> Ahead
     requires { ⌜ Stands ascending p (now block) (trailerFrom t) ⌝ }
@@ -115,6 +140,9 @@ fn look_ahead(p: Place, block: &[u8], t: Trailer, room: usize) -> Ahead
     if region.reach < at {
         return Ahead::Refused(Refusal::BadState);
     }
+    if basics::wrong_after(at - region.start, p.number) {
+        return Ahead::Refused(Refusal::BadState);
+    }
     if at == region.end {
         return Ahead::End;
     }
@@ -128,7 +156,8 @@ fn look_ahead(p: Place, block: &[u8], t: Trailer, room: usize) -> Ahead
     Ahead::At { row, region }
 }
 
-// Moves past a row and gives its key. A finished region hands over to the next at once, then with no key. (`advance_past_current_entry` in the Rust.)
+// Moves past a row and gives its key. A finished region hands over to the next at once, then with no row passed and no key. (`advance_past_current_entry` in
+// the Rust.)
 fn pass(
     key: &mut [u8],
     p: Place,
@@ -151,11 +180,13 @@ fn pass(
     place.at = row.next;
     if region.reach < row.next {
         place.region += 1;
+        place.number = 0;
         place.key_len = 0;
-        return Moved::Found { place, row };
+        return found(place, p.region, p.number, row);
     }
+    place.number += 1;
     place.key_len = n;
-    Moved::Found { place, row }
+    found(place, p.region, p.number, row)
 }
 
 fn next_ascending(key: &mut [u8], p: Place, block: &[u8], t: Trailer, out: &mut [u8]) -> Moved
@@ -174,14 +205,14 @@ fn next_ascending(key: &mut [u8], p: Place, block: &[u8], t: Trailer, out: &mut 
 // ---- descending: the key is neither used nor changed, whatever its bytes are
 
 // The region that a descending step reads once the mark is tested: 15 for the cursor's region, 18 for the position unless a row can end there; at the
-// region's start the region before, and 15 for it. The trailer has both regions. (`move_to_previous_region` in the Rust.)
+// region's start 18 for a number that is not 0, then the region before, and 15 for it. The trailer has both regions. (`move_to_previous_region` in the Rust.)
 fn look_behind(p: Place, block: &[u8], t: Trailer) -> Behind
     requires { ⌜ Stands descending p (now block) (trailerFrom t) ⌝ }
     ensures { λ r. ⌜ LooksBehind p (now (block .entry)) (trailerFrom t) r ⌝ }
 {
     let at = p.at;
-    let number = p.region;
-    let region = trailer::plain_region(block, t, number);
+    let index = p.region;
+    let region = trailer::plain_region(block, t, index);
     if region.end == 0 {
         return Behind::Refused(Refusal::BadOffset);
     }
@@ -192,35 +223,52 @@ fn look_behind(p: Place, block: &[u8], t: Trailer) -> Behind
         return Behind::Refused(Refusal::BadState);
     }
     if region.start < at {
-        return Behind::In { number, region };
+        return Behind::In {
+            index,
+            region,
+            passed: Passed::Rows(p.number),
+        };
     }
-    if number == 0 {
+    if 0 < p.number {
+        return Behind::Refused(Refusal::BadState);
+    }
+    if index == 0 {
         return Behind::Start;
     }
-    let region = trailer::plain_region(block, t, number - 1);
+    let region = trailer::plain_region(block, t, index - 1);
     if region.end == 0 {
         return Behind::Refused(Refusal::BadOffset);
     }
     Behind::In {
-        number: number - 1,
+        index: index - 1,
         region,
+        passed: Passed::All,
     }
 }
 
 // Moves before the row that ends where the cursor stands, read from the start of its region, and gives its key.
-fn back(p: Place, block: &[u8], t: Trailer, number: usize, region: Region, out: &mut [u8]) -> Moved
-    requires { ⌜ (trailerOf (now block) ≡ ok (trailerFrom t)) × (region .start < p .at) ⌝ }
-    ensures { λ r. ⌜ ((k : List ℕ) → Moves (stepBackIn (viewIn p k) (now (block .entry)) (trailerFrom t) (length (now (out .entry))) number (regionFrom region)) p k (now (out .entry)) r k (now (out .exit))) ⌝ }
+fn back(
+    p: Place,
+    block: &[u8],
+    t: Trailer,
+    index: usize,
+    region: Region,
+    passed: Passed,
+    out: &mut [u8],
+) -> Moved
+    requires { ⌜ (trailerOf (now block) ≡ ok (trailerFrom t)) × (region .start < p .at) × (regionOf (now block) (trailerFrom t) index ≡ ok (regionFrom region)) ⌝ }
+    ensures { λ r. ⌜ ((k : List ℕ) → Moves (stepBackIn (viewIn p k) (now (block .entry)) (trailerFrom t) (length (now (out .entry))) index (regionFrom region) (passedBy passed (numberAt (now (block .entry)) (trailerFrom t) index (p .at)))) p k (now (out .entry)) r k (now (out .exit))) ⌝ }
 {
     let size = t.size;
-    let ended = block_regions_v2::row_ending_at(&block[..size], region, p.at, out);
-    let Ended::Row(row) = ended else {
+    let ended = block_regions_v2::row_ending_at(&block[..size], region, p.at, passed, out);
+    let Ended::Row { row, number } = ended else {
         return Moved::Refused(ended_refusal(ended));
     };
     let mut place = p;
-    place.region = number;
+    place.region = index;
     place.at = row.start;
-    Moved::Found { place, row }
+    place.number = number;
+    found(place, index, number, row)
 }
 
 fn next_descending(p: Place, block: &[u8], t: Trailer, out: &mut [u8]) -> Moved
@@ -229,7 +277,11 @@ fn next_descending(p: Place, block: &[u8], t: Trailer, out: &mut [u8]) -> Moved
 {
     let behind = look_behind(p, block, t);
     match behind {
-        Behind::In { number, region } => back(p, block, t, number, region, out),
+        Behind::In {
+            index,
+            region,
+            passed,
+        } => back(p, block, t, index, region, passed, out),
         Behind::Start => finished(p),
         Behind::Refused(refusal) => Moved::Refused(refusal),
     }

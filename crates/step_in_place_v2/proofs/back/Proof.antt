@@ -16,19 +16,17 @@ slice-aggregate-row-ending-at c =
 
 returns : tie.Need-returns
 returns c =
-    let r = c .before .before .before .before .before in
-    let s = r .before .before .before .before .before in
-    λ key. back-not (s .args .p) key _ _ _ _ (s .pre .1) _ _ (r .row-ending-at .ensures) (c .before .enum-told .given .1) (c .ended-refusal .ensures)
+    let s = c .before .before .before .before .before .before .before .before .before .before in
+    λ key. back-not (s .args .p) key _ _ _ _ (s .pre .1) (s .pre .2) (s .args .passed) _ _ (c .before .before .before .before .before .row-ending-at .ensures) (c .before .enum-told .given .1) (c .ended-refusal .ensures)
 
 returns-2 : tie.Need-returns-2
 returns-2 c =
-    let r = c .before .before .before .before .before in
-    let s = r .before .before .before .before .before in
-    λ key. back-to (s .args .p) key _ _ _ _ (s .pre .1) _ _ (r .row-ending-at .ensures) (c .before .ended .given .1)
+    let s = c .before .before .before .before .before .before .before .before .before .before .before in
+    λ key. back-to (s .args .p) key _ _ _ _ (s .pre .1) (s .pre .2) (s .args .passed) _ _ (c .before .before .before .before .before .before .row-ending-at .ensures) (c .before .before .ended .given .1) (c .found .ensures)
 
 pub back-spec : {M : Type 1} → statement M
 back-spec =
     tie.close
     (tie.spec
     slice-aggregate-row-ending-at (λ c κs. search needs) (search needs) (search needs)
-    (λ c κs. search needs) (search needs) returns (search needs) returns-2)
+    (λ c κs. search needs) (search needs) returns (λ c κs. search needs) (search needs) returns-2)

@@ -8,7 +8,8 @@ use Rattle.step_in_place_v2.proofs.next_descending.Tie as tie
 back-requires : tie.Need-back-requires
 back-requires c κs =
     let l = c .before .before .before .before in
-    (l .before .before .before .pre .read, before-in _ (l .look-behind .ensures .before) (c .before .before .behind .given .1))
+    let b = before-in _ _ _ (l .look-behind .ensures .before) (c .before .before .behind .given .1) in
+    (l .before .before .before .pre .read, b .0, b .1)
 
 returns : tie.Need-returns
 returns c = λ key. moves-as _ _ _ _ (behind-said _ _ _ _ _ (c .before .before .before .before .before .before .before .look-behind .ensures) (c .before .before .before .before .before .behind .given .1)) (c .before .before .back .ensures key)
