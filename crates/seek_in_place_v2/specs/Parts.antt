@@ -22,11 +22,11 @@ use Rattle.seek_in_place_v2.specs.declared.Found.the-variants.{Landed, D
 -- ---- the refusal that an answer hands on: where an answer is none, it does not matter which
 
 abbrev pub refusalOfPlace : PlaceRead → Refusal
-refusalOfPlace (PlaceAt at n) = BadState
+refusalOfPlace (PlaceAt at len n) = BadState
 refusalOfPlace (PlaceRefused r) = r
 
 abbrev pub refusalOfLast : LastRead → Refusal
-refusalOfLast (Ends n) = BadState
+refusalOfLast (Ends at n) = BadState
 refusalOfLast (LastRefused r) = r
 
 abbrev pub refusalOfStart : StartRead → Refusal
@@ -35,11 +35,11 @@ refusalOfStart (StartRefused r) = r
 
 -- ---- where a seek ends
 
-abbrev pub landedAt : IterationOrder → ℕ → ℕ → ℕ → ℕ → Found
-landedAt order region at n reads = Landed (record { order = order; region = region; at = at; «key_len» = n; done = false }) reads
+abbrev pub landedAt : IterationOrder → ℕ → ℕ → ℕ → ℕ → ℕ → Found
+landedAt order region at n len reads = Landed (record { order = order; region = region; at = at; number = n; «key_len» = len; done = false }) reads
 
-abbrev pub overAt : IterationOrder → ℕ → ℕ → ℕ → Found
-overAt order region at reads = Done (record { order = order; region = region; at = at; «key_len» = 0; done = true }) reads
+abbrev pub overAt : IterationOrder → ℕ → ℕ → ℕ → ℕ → Found
+overAt order region at n reads = Done (record { order = order; region = region; at = at; number = n; «key_len» = 0; done = true }) reads
 
 -- ---- a seek, once the search is made
 

@@ -38,7 +38,11 @@ fn place_refusal(a: PlaceRead) -> Refusal
 {
     match a {
         PlaceRead::Refused(refusal) => refusal,
-        PlaceRead::At { at: _, key_len: _ } => Refusal::BadState,
+        PlaceRead::At {
+            at: _,
+            key_len: _,
+            number: _,
+        } => Refusal::BadState,
     }
 }
 
@@ -47,7 +51,7 @@ fn last_refusal(a: LastRead) -> Refusal
 {
     match a {
         LastRead::Refused(refusal) => refusal,
-        LastRead::Ends(_) => Refusal::BadState,
+        LastRead::Ends { at: _, number: _ } => Refusal::BadState,
     }
 }
 
@@ -62,14 +66,22 @@ fn start_refusal(a: StartRead) -> Refusal
 
 // ---- where a seek ends
 
-fn landed(order: IterationOrder, region: usize, at: usize, key_len: usize, reads: usize) -> Found
-    ensures { λ r. ⌜ r ≡ landedAt order region at «key_len» reads ⌝ }
+fn landed(
+    order: IterationOrder,
+    region: usize,
+    at: usize,
+    number: usize,
+    key_len: usize,
+    reads: usize,
+) -> Found
+    ensures { λ r. ⌜ r ≡ landedAt order region at number «key_len» reads ⌝ }
 {
     Found::Landed {
         place: Place {
             order,
             region,
             at,
+            number,
             key_len,
             done: false,
         },
@@ -78,14 +90,15 @@ fn landed(order: IterationOrder, region: usize, at: usize, key_len: usize, reads
 }
 
 // "Done" leaves the cursor marked, with no key.
-fn over(order: IterationOrder, region: usize, at: usize, reads: usize) -> Found
-    ensures { λ r. ⌜ r ≡ overAt order region at reads ⌝ }
+fn over(order: IterationOrder, region: usize, at: usize, number: usize, reads: usize) -> Found
+    ensures { λ r. ⌜ r ≡ overAt order region at number reads ⌝ }
 {
     Found::Done {
         place: Place {
             order,
             region,
             at,
+            number,
             key_len: 0,
             done: true,
         },
@@ -95,28 +108,48 @@ fn over(order: IterationOrder, region: usize, at: usize, reads: usize) -> Found
 
 // ---- the walks. The trailer has each region that they read, so that one that is all 0 is refused with 15
 
-// From region to region, up to the first row at or above the target.
+// From region to region, up to the first row at or above the target; past the last one stand as many rows as it has.
 fn walk_up(key: &mut [u8], block: &[u8], t: Trailer, target: &[u8], start: Start) -> Found
     requires { ⌜ (length (now key) ≡ maxKey) × SetsOut (now block) (trailerFrom t) (start .region) ⌝ }
     ensures { λ r. ⌜ ((p : Place) → Finds (bind (walkUp (t .count - start .region) (now (block .entry)) (trailerFrom t) (now (target .entry)) (start .region)) (sought (start .reads))) p (now (key .entry)) r (now (key .exit))) ⌝ }
 {
     let size = t.size;
-    let mut number = start.region;
-    while number < t.count {
-        let region = trailer::plain_region(block, t, number);
+    let mut index = start.region;
+    let mut passed: usize = 0;
+    while index < t.count {
+        let region = trailer::plain_region(block, t, index);
         if region.end == 0 {
             return Found::Refused(Refusal::BadOffset);
         }
         let stop = block_regions_v2::walk_into(&block[..size], region, target, key);
-        let PlaceRead::At { at, key_len } = stop else {
+        let PlaceRead::At {
+            at,
+            key_len,
+            number,
+        } = stop
+        else {
             return Found::Refused(place_refusal(stop));
         };
         if at < region.end {
-            return landed(IterationOrder::Ascending, number, at, key_len, start.reads);
+            return landed(
+                IterationOrder::Ascending,
+                index,
+                at,
+                number,
+                key_len,
+                start.reads,
+            );
         }
-        number += 1;
+        passed = number;
+        index += 1;
     }
-    over(IterationOrder::Ascending, t.count - 1, size, start.reads)
+    over(
+        IterationOrder::Ascending,
+        t.count - 1,
+        size,
+        passed,
+        start.reads,
+    )
 }
 
 // From region to region, down to the last row at or below the target. The key is neither used nor changed.
@@ -125,23 +158,30 @@ fn walk_down(block: &[u8], t: Trailer, target: &[u8], start: Start) -> Found
     ensures { λ r. ⌜ ((p : Place) (k : List ℕ) → Finds (bind (walkDown (suc (start .region)) (now (block .entry)) (trailerFrom t) (now (target .entry)) (start .region)) (sought (start .reads))) p k r k) ⌝ }
 {
     let size = t.size;
-    let mut number = start.region;
+    let mut index = start.region;
     loop {
-        let region = trailer::plain_region(block, t, number);
+        let region = trailer::plain_region(block, t, index);
         if region.end == 0 {
             return Found::Refused(Refusal::BadOffset);
         }
         let last = block_regions_v2::last_at_or_below(&block[..size], region, target);
-        let LastRead::Ends(end) = last else {
+        let LastRead::Ends { at, number } = last else {
             return Found::Refused(last_refusal(last));
         };
-        if region.start < end {
-            return landed(IterationOrder::Descending, number, end, 0, start.reads);
+        if region.start < at {
+            return landed(
+                IterationOrder::Descending,
+                index,
+                at,
+                number,
+                0,
+                start.reads,
+            );
         }
-        if number == 0 {
-            return over(IterationOrder::Descending, 0, 0, start.reads);
+        if index == 0 {
+            return over(IterationOrder::Descending, 0, 0, 0, start.reads);
         }
-        number -= 1;
+        index -= 1;
     }
 }
 

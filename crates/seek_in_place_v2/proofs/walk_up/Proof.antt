@@ -18,7 +18,7 @@ use Rattle.trailer.specs.Says.{trailerFrom, regionFrom}
 use Rattle.block_regions_v2.specs.Laws.{into-refused}
 use Rattle.block_regions_v2.specs.Says.{saysPlace}
 use Rattle.seek_in_place_v2.specs.Parts.{refusalOfPlace}
-use Rattle.seek_in_place_v2.proofs.Walks.{walked-not, walked-off, walked-up, stopped}
+use Rattle.seek_in_place_v2.proofs.Walks.{walked-not, walked-off, walked-up, stopped, past-none, past-region, PastLast}
 use Rattle.seek_in_place_v2.proofs.walk_up.Statement.{statement}
 use Rattle.seek_in_place_v2.proofs.walk_up.Tie as tie
 
@@ -26,25 +26,26 @@ use Rattle.seek_in_place_v2.proofs.walk_up.Tie as tie
 -- Each exit is a law over the walk of that region.
 
 abbrev Inv-loop : tie.InvT-loop
-Inv-loop key₀ block t target start size number₀ key number = Climbing block (trailerFrom t) target (start .region) number × (key ≡ key₀)
+Inv-loop key₀ block t target start size index₀ passed₀ key index passed =
+    Climbing block (trailerFrom t) target (start .region) index × (key ≡ key₀) × PastLast block (trailerFrom t) (start .region) index passed
 
 abbrev μ-loop : tie.MeasureT-loop
-μ-loop key₀ block t target start size number₀ key number = t .count - number
+μ-loop key₀ block t target start size index₀ passed₀ key index passed = t .count - index
 
 -- the trailer has a region of the number at hand
 module _ (q : tie.After-plain-region Inv-loop μ-loop) where
-  has : let a = q .before .before .before .before .before .before .before .args in (a .t .size + (2 + 2 * a .t .count) ≡ length (a .block .now)) × (q .before .before .before .loop .number < a .t .count)
+  has : let a = q .before .before .before .before .before .before .before .args in (a .t .size + (2 + 2 * a .t .count) ≡ length (a .block .now)) × (q .before .before .before .loop .index < a .t .count)
   has = (trailerOf-tells _ _ (q .before .before .before .before .before .before .before .pre .1 .read) .0, q .before .if1 .taken)
 
 module _ (k : tie.Else2 Inv-loop μ-loop) where
-  region-read : let q = k .before .before in let s = q .before .before .before .before .before .before .before .args in regionOf (s .block .now) (trailerFrom (s .t)) (q .before .before .before .loop .number) ≡ ok (regionFrom (q .plain-region .result))
+  region-read : let q = k .before .before in let s = q .before .before .before .before .before .before .before .args in regionOf (s .block .now) (trailerFrom (s .t)) (q .before .before .before .loop .index) ≡ ok (regionFrom (q .plain-region .result))
   region-read = let q = k .before .before in known-is _ _ _ (has q) _ (q .plain-region .ensures) (k .if2 .left)
 
   whole : length (k .before .before .before .before .before .loop .key) ≡ maxKey
   whole = ap length (k .before .before .before .before .before .loop .inv .1) ∙ k .before .before .before .before .before .before .before .before .before .pre .0
 
 loop-holds : tie.Need-loop-holds Inv-loop μ-loop
-loop-holds c = (climbing-start _ _ _ _, refl)
+loop-holds c = (climbing-start _ _ _ _, refl, past-none _ _ _ _)
 
 returns : tie.Need-returns Inv-loop μ-loop
 returns c =
@@ -80,7 +81,7 @@ returns-3 c =
     let st = stopped _ _ _ _ _ (s .pre .1 .read) (region-read k) _ (whole k) _ _ (m .before .before .before .before .before .walk-into .ensures) (m .before .stop .given .1) in
     λ p. walked-up _ _ p _ _ _ _ (st .before)
     (climbing-found _ _ _ _ _ (k .before .before .before .before .before .loop .inv .0) (omega (arith, s .pre .1 .inside)) (k .before .before .before .if1 .taken) _ (region-read k) _ (st .walked) (c .before .if3 .taken))
-    (st .long) (st .inner (c .before .if3 .taken) ∙ ap (λ (b : Key). splice b 0 (st .before)) (k .before .before .before .before .before .loop .inv .1)) (c .landed .ensures)
+    (st .counts) (st .long) (st .inner (c .before .if3 .taken) ∙ ap (λ (b : Key). splice b 0 (st .before)) (k .before .before .before .before .before .loop .inv .1)) (c .landed .ensures)
 
 loop-less : tie.Need-loop-less Inv-loop μ-loop
 loop-less c = omega arith
@@ -91,7 +92,7 @@ loop-again c =
     let k = m .before .before .before .before .before .before .before .before in
     let s = k .before .before .before .before .before .before .before .before .before in
     let st = stopped _ _ _ _ _ (s .pre .1 .read) (region-read k) _ (whole k) _ _ (m .before .before .before .before .before .walk-into .ensures) (m .before .stop .given .1) in
-    (climbing-more _ _ _ _ _ (k .before .before .before .before .before .loop .inv .0) (omega (arith, s .pre .1 .inside)) (k .before .before .before .if1 .taken) _ (region-read k) _ (st .walked) (c .if3 .left), st .outer (c .if3 .left) ∙ k .before .before .before .before .before .loop .inv .1)
+    (climbing-more _ _ _ _ _ (k .before .before .before .before .before .loop .inv .0) (omega (arith, s .pre .1 .inside)) (k .before .before .before .if1 .taken) _ (region-read k) _ (st .walked) (c .if3 .left), st .outer (c .if3 .left) ∙ k .before .before .before .before .before .loop .inv .1, past-region _ _ _ _ _ _ _ _ _ _ _ (region-read k) st (c .if3 .left))
 
 sub-over : tie.Need-sub-over Inv-loop μ-loop
 sub-over c = omega (arith, trailerOf-tells _ _ (c .before .before .before .before .before .before .before .pre .1 .read) .1)
@@ -99,7 +100,9 @@ sub-over c = omega (arith, trailerOf-tells _ _ (c .before .before .before .befor
 returns-4 : tie.Need-returns-4 Inv-loop μ-loop
 returns-4 c =
     let s = c .before .before .before .before .before .before .before .before in
-    λ p. walked-off _ _ p _ Ascending _ _ (climbing-over _ _ _ _ _ (c .before .before .before .before .loop .inv .0) (omega (arith, s .pre .1 .inside)) (c .before .before .if1 .left)) (c .over .ensures)
+    let l = c .before .before .before .before .loop in
+    λ p. walked-off _ _ p _ Ascending _ _ (climbing-over _ _ _ _ _ (l .inv .0) (omega (arith, s .pre .1 .inside)) (c .before .before .if1 .left))
+    (l .inv .2 (omega (arith, s .pre .1 .inside, c .before .before .if1 .left)) (omega (arith, s .pre .1 .inside, c .before .before .if1 .left, l .inv .0 .regions))) (c .over .ensures)
 
 pub walk-up-spec : {M : Type 1} → statement M
 walk-up-spec =
