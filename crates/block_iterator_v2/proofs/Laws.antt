@@ -31,7 +31,7 @@ abbrev pub cursorIs : Place → List ℕ → BlockIteratorV2
 cursorIs p key = record { place = p; key = key }
 
 same-said : (m : Moved) → saysNext (answerOf m) ≡ saysMoved m
-same-said (StepFound p r) = refl
+same-said (StepFound p g n r) = refl
 same-said (StepDone p) = refl
 same-said (StepRefused r) = refl
 
@@ -39,7 +39,7 @@ same-said (StepRefused r) = refl
 all-kept : (want : Res Step) (self : BlockIteratorV2) (m : Moved) (key′ : List ℕ) → saysMoved m ≡ bind want told → Kept want key′ (self .key)
     → Whole want (cursorIs (placeAfter m (self .place)) key′) self
 all-kept (ok s) self m key′ e k = tt
-all-kept (refuse n) self (StepFound p r) key′ e k = absurd (apart e)
+all-kept (refuse n) self (StepFound p g i r) key′ e k = absurd (apart e)
 all-kept (refuse n) self (StepDone p) key′ e k = absurd (apart e)
 all-kept (refuse n) self (StepRefused r) key′ e k = ap (cursorIs (self .place)) k
 

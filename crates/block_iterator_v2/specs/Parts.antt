@@ -10,7 +10,7 @@ use Rattle.block_iterator_v2.specs.declared.SeekAnswer.the-variants.{Lan
 
 -- what the step over the key's bytes answers
 abbrev pub answerOf : Moved → NextAnswer
-answerOf (StepFound p r) = Found r
+answerOf (StepFound p g n r) = Found g n r
 answerOf (StepDone p) = NextDone
 answerOf (StepRefused r) = NextRefused r
 

@@ -23,7 +23,7 @@ abbrev pub viewOf : BlockIteratorV2 → Cursor
 viewOf c = viewIn (c .place) (c .key)
 
 abbrev pub saysNext : NextAnswer → Res Told
-saysNext (Found r) = ok (row (rowFrom r))
+saysNext (Found g n r) = ok (row g n (rowFrom r))
 saysNext NextDone = ok none
 saysNext (NextRefused r) = refuse (number r)
 
@@ -40,13 +40,15 @@ viewOf-one a b e k =
     ap₂ (λ (p : Place) (x : List ℕ). record { place = p; key = x }) (viewIn-one (a .place) (b .place) (a .key) (b .key) e) k
 
 pub saysNext-one : (a b : NextAnswer) → saysNext a ≡ saysNext b → a ≡ b
-saysNext-one (Found r) (Found q) e = ap Found (rowFrom-one r q (told-row (ok-inj e)))
-saysNext-one (Found r) NextDone e = absurd (told-apart (ok-inj e))
-saysNext-one (Found r) (NextRefused q) e = absurd (apart e)
-saysNext-one NextDone (Found q) e = absurd (told-apart (sym (ok-inj e)))
+saysNext-one (Found g m r) (Found h n q) e =
+    let t = told-row (ok-inj e) in
+    rw (t .0, t .1, rowFrom-one r q (t .2))
+saysNext-one (Found g m r) NextDone e = absurd (told-apart (ok-inj e))
+saysNext-one (Found g m r) (NextRefused q) e = absurd (apart e)
+saysNext-one NextDone (Found h n q) e = absurd (told-apart (sym (ok-inj e)))
 saysNext-one NextDone NextDone e = refl
 saysNext-one NextDone (NextRefused q) e = absurd (apart e)
-saysNext-one (NextRefused r) (Found q) e = absurd (apart (sym e))
+saysNext-one (NextRefused r) (Found h n q) e = absurd (apart (sym e))
 saysNext-one (NextRefused r) NextDone e = absurd (apart (sym e))
 saysNext-one (NextRefused r) (NextRefused q) e = ap NextRefused (refused-one e)
 

@@ -36,7 +36,12 @@ pub struct Opened {
 }
 
 pub enum NextAnswer {
-    Found(Row),
+    // The row, its region and its number there.
+    Found {
+        region: usize,
+        number: usize,
+        row: Row,
+    },
     Done,
     Refused(Refusal),
 }
@@ -75,7 +80,12 @@ fn place_after(moved: Moved, came: Place) -> Place
     ensures { λ r. ⌜ r ≡ placeAfter moved came ⌝ }
 {
     match moved {
-        Moved::Found { place, row: _ } => place,
+        Moved::Found {
+            place,
+            region: _,
+            number: _,
+            row: _,
+        } => place,
         Moved::Done(place) => place,
         Moved::Refused(_) => came,
     }
@@ -85,7 +95,16 @@ fn answer_of(moved: Moved) -> NextAnswer
     ensures { λ r. ⌜ r ≡ answerOf moved ⌝ }
 {
     match moved {
-        Moved::Found { place: _, row } => NextAnswer::Found(row),
+        Moved::Found {
+            place: _,
+            region,
+            number,
+            row,
+        } => NextAnswer::Found {
+            region,
+            number,
+            row,
+        },
         Moved::Done(_) => NextAnswer::Done,
         Moved::Refused(refusal) => NextAnswer::Refused(refusal),
     }
@@ -123,7 +142,7 @@ fn answer_sought(found: Found) -> SeekAnswer
 }
 
 impl BlockIteratorV2 {
-    // Opens a block with all its offsets tested. Beside a refusal stands a cursor at 0 in region 0.
+    // Opens a block with all its offsets tested, backwards its last region read. Beside a refusal stands a cursor at 0 in region 0.
     pub fn new(block: &[u8], order: IterationOrder) -> Opened
         ensures { λ r. ⌜ Opens (now (block .entry)) order r ⌝ }
     {
