@@ -22,7 +22,11 @@ fn step(cursor: BlockIteratorV2, block: &[u8]) {
     let mut key = [0u8; 8192];
     let answer = cursor.next(block, &mut key).answer;
     match answer {
-        NextAnswer::Found(row) => {
+        NextAnswer::Found {
+            region: _,
+            number: _,
+            row,
+        } => {
             say::text(b"a key of ");
             rows::count(std::num::wrapping_add_usize(row.shared, row.suffix_len));
         }

@@ -35,7 +35,11 @@ fn step(cursor: BlockIteratorV2, block: &[u8]) -> BlockIteratorV2 {
     let next = cursor.next(block, &mut key);
     let answer = next.answer;
     match answer {
-        NextAnswer::Found(row) => {
+        NextAnswer::Found {
+            region: _,
+            number: _,
+            row,
+        } => {
             say::text(b" row ");
             say::number(number_of(row.start));
         }

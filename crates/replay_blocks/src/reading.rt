@@ -20,7 +20,11 @@ pub const EMPTY: usize = 3;
 // What a step gave, in a word.
 fn say(answer: NextAnswer, key: &[u8], block: &[u8]) {
     match answer {
-        NextAnswer::Found(row) => {
+        NextAnswer::Found {
+            region: _,
+            number: _,
+            row,
+        } => {
             let len = std::num::wrapping_add_usize(row.shared, row.suffix_len);
             show::bytes(key, 0, len);
             show::row(block, row);
