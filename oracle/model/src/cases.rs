@@ -1,9 +1,9 @@
-//! 01's cases 1 to 11, and edges of 01 that are easily got wrong. Expected values come from 01 and the readings, none from the
-//! model itself.
+//! 01's cases 1 to 11, and edges of 01 and 02 that are easily got wrong. Expected values come from these and the readings, none
+//! from the model itself.
 use crate::block::{Block, Region};
 use crate::builder::Builder;
 use crate::check::check;
-use crate::cursor::{Cursor, Order, Order::*};
+use crate::cursor::{Cursor, Given, Order, Order::*};
 use crate::row::{self, Fields, Kind, Place};
 use crate::seek::Sought;
 use crate::{varint, Key, Refusal, INTERVAL_LIMIT, KEY_LIMIT};
@@ -75,8 +75,8 @@ fn in_order<K: Ord>(rows: &[(K, u64)]) -> bool {
     rows.windows(2).all(|pair| pair[0].0 < pair[1].0 || pair[0].0 == pair[1].0 && pair[0].1 > pair[1].1)
 }
 
-fn cursor(order: Order, region: usize, at: usize, key: &[u8]) -> Cursor {
-    Cursor { order, region, at, key: Key::of(key), done: false }
+fn cursor(order: Order, region: usize, at: usize, number: usize, key: &[u8]) -> Cursor {
+    Cursor { order, region, at, number, key: Key::of(key), done: false }
 }
 
 /// One step with a big key buffer: the key given, or "done". A refused step must change nothing.
@@ -93,8 +93,8 @@ fn step(cursor: &mut Cursor, block: &[u8]) -> Result<Option<Vec<u8>>, Refusal> {
     Ok(answer?.map(|_| out[..end].to_vec()))
 }
 
-fn step_from(block: &[u8], order: Order, region: usize, at: usize, key: &[u8]) -> Result<Option<Vec<u8>>, Refusal> {
-    step(&mut cursor(order, region, at, key), block)
+fn step_from(block: &[u8], order: Order, region: usize, at: usize, number: usize, key: &[u8]) -> Result<Option<Vec<u8>>, Refusal> {
+    step(&mut cursor(order, region, at, number, key), block)
 }
 
 fn gives(key: &[u8]) -> Result<Option<Vec<u8>>, Refusal> {
@@ -104,8 +104,8 @@ fn gives(key: &[u8]) -> Result<Option<Vec<u8>>, Refusal> {
 /// The seqs of all rows, in the order they come.
 fn walk(block: &[u8], mut cursor: Cursor) -> Result<Vec<u64>, Refusal> {
     let (mut seqs, mut out) = (Vec::new(), [0; KEY_LIMIT]);
-    while let Some(row) = cursor.next(block, &mut out)? {
-        seqs.push(row.fields.seq);
+    while let Some(given) = cursor.next(block, &mut out)? {
+        seqs.push(given.row.fields.seq);
     }
     Ok(seqs)
 }
@@ -114,7 +114,7 @@ fn walk(block: &[u8], mut cursor: Cursor) -> Result<Vec<u64>, Refusal> {
 fn entries(block: &[u8]) -> Vec<(Vec<u8>, u64)> {
     let mut cursor = Cursor::open(block, Ascending).unwrap();
     let (mut entries, mut out) = (Vec::new(), [0; KEY_LIMIT]);
-    while let Some(row) = cursor.next(block, &mut out).unwrap() {
+    while let Some(Given { row, .. }) = cursor.next(block, &mut out).unwrap() {
         entries.push((out[..row.shared + row.suffix_len].to_vec(), row.fields.seq));
     }
     entries
@@ -123,12 +123,12 @@ fn entries(block: &[u8]) -> Vec<(Vec<u8>, u64)> {
 /// The seq of the row a seek lands on, and the number of restart keys read.
 fn seek(block: &[u8], order: Order, target: &[u8]) -> Result<(Option<u64>, usize), Refusal> {
     // A seek starts afresh: everything but the direction is forged.
-    let mut cursor = Cursor { order, region: usize::MAX, at: usize::MAX, key: Key::of(&[7; 3_000]), done: true };
+    let mut cursor = Cursor { order, region: usize::MAX, at: usize::MAX, number: usize::MAX, key: Key::of(&[7; 3_000]), done: true };
     let before = cursor.clone();
     let sought = cursor.seek(block, target).inspect_err(|_| assert_eq!(cursor, before))?;
-    let row = cursor.next(block, &mut [0; KEY_LIMIT])?;
-    assert_eq!(row.is_some(), sought.found);
-    Ok((row.map(|row| row.fields.seq), sought.reads))
+    let given = cursor.next(block, &mut [0; KEY_LIMIT])?;
+    assert_eq!(given.is_some(), sought.found);
+    Ok((given.map(|given| given.row.fields.seq), sought.reads))
 }
 
 // ---- the eleven cases
@@ -644,7 +644,7 @@ fn trailers() {
         assert_eq!(Block::new(block).err(), Some(14));
         for order in [Ascending, Descending] {
             assert_eq!(Cursor::open(block, order), Err(14));
-            let mut wrong = Cursor { done: true, ..cursor(order, 9, 9, &[1; KEY_LIMIT + 1]) };
+            let mut wrong = Cursor { done: true, ..cursor(order, 9, 9, 9, &[1; KEY_LIMIT + 1]) };
             assert_eq!(step(&mut wrong, block), Err(14));
             assert_eq!(wrong.is_empty(block), Err(14));
             assert_eq!(wrong.seek(block, b""), Err(14));
@@ -748,10 +748,38 @@ fn finished_blocks_are_accepted_in_order_only() {
 #[test]
 fn opening() {
     let block = b4();
-    assert_eq!(Cursor::open(&block, Ascending), Ok(cursor(Ascending, 0, 0, b"")));
-    assert_eq!(Cursor::open(&block, Descending), Ok(cursor(Descending, 1, 28, b"")));
-    // Opening reads no row.
+    assert_eq!(Cursor::open(&block, Ascending), Ok(cursor(Ascending, 0, 0, 0, b"")));
+    assert_eq!(Cursor::open(&block, Descending), Ok(cursor(Descending, 1, 28, 1, b"")));
+    // Opening ascending reads no row.
     assert!(Cursor::open(&block_of(&[&[255; 9]], &[0]), Ascending).is_ok());
+}
+
+/// "Opening backwards now reads the last region and may give its row refusals."
+#[test]
+fn opening_backwards() {
+    let flags_9 = flagged(9)[..13].to_vec();
+    let b_row = [&[0, 1, 0, b'b'], &R[4..]].concat();
+    let opened = |rows: &[&[u8]], offsets: &[u16]| Cursor::open(&block_of(rows, offsets), Descending).map(|cursor| cursor.number);
+    // All rows of the last region count, and no others.
+    assert_eq!(opened(&[&R, &AB], &[0]), Ok(2));
+    assert_eq!(opened(&[&R, &AB_RESTART], &[0, 13]), Ok(1));
+    assert_eq!(opened(&[&R, &AB, &R, &AB], &[0, 27]), Ok(2));
+    assert_eq!(Cursor::open(&built(1_024, &[&b"k"[..]; 300]), Descending).unwrap().number, 300);
+    // Its rows are read as a step would read them, the first fault first; those of other regions are not read.
+    assert_eq!(opened(&[&R, &flags_9], &[0, 13]), Err(12));
+    assert_eq!(opened(&[&R, &flags_9, &R], &[0]), Err(12));
+    assert_eq!(opened(&[&R, &flagged(16)[..13], &flags_9], &[0]), Err(11));
+    assert_eq!(opened(&[&flags_9, &R], &[0, 13]), Ok(1));
+    assert_eq!(opened(&[&R, &AB], &[0, 13]), Err(13));
+    assert_eq!(opened(&[&R, &[0x80, 0]], &[0]), Err(10));
+    assert_eq!(opened(&[&[255; 9]], &[0]), Err(10));
+    assert_eq!(opened(&[&R, &b_row, &[0]], &[0, 13]), Err(9));
+    // It asks for no order, and 15 comes first.
+    assert_eq!(opened(&[&b_row, &R], &[0]), Ok(2));
+    assert_eq!(opened(&[&R, &flags_9], &[0, 13, 13]), Err(15));
+    assert_eq!(opened(&[&flags_9], &[1]), Err(15));
+    // The key is any allowed one: no buffer is lent, so never 19.
+    assert_eq!(Cursor::open(&built(16, &[&[b'k'; KEY_LIMIT]]), Descending).unwrap().number, 1);
 }
 
 #[test]
@@ -759,20 +787,20 @@ fn ascending_steps() {
     // One region: the key is carried, and stays after the last row and after "done".
     let mut one = Cursor::open(&b2(), Ascending).unwrap();
     assert_eq!(step(&mut one, &b2()), gives(b"a"));
-    assert_eq!(one, cursor(Ascending, 0, 13, b"a"));
+    assert_eq!(one, cursor(Ascending, 0, 13, 1, b"a"));
     assert_eq!(step(&mut one, &b2()), gives(b"ab"));
-    assert_eq!(one, cursor(Ascending, 0, 27, b"ab"));
+    assert_eq!(one, cursor(Ascending, 0, 27, 2, b"ab"));
     assert_eq!(one.is_empty(&b2()), Ok(true));
     for _ in 0..2 {
         assert_eq!(step(&mut one, &b2()), Ok(None));
-        assert_eq!(one, Cursor { done: true, ..cursor(Ascending, 0, 27, b"ab") });
+        assert_eq!(one, Cursor { done: true, ..cursor(Ascending, 0, 27, 2, b"ab") });
     }
     // Two regions: handed over at once, then with no key.
     let mut two = Cursor::open(&b4(), Ascending).unwrap();
     assert_eq!(step(&mut two, &b4()), gives(b"a"));
-    assert_eq!(two, cursor(Ascending, 1, 13, b""));
+    assert_eq!(two, cursor(Ascending, 1, 13, 0, b""));
     assert_eq!(step(&mut two, &b4()), gives(b"ab"));
-    assert_eq!(two, cursor(Ascending, 1, 28, b"ab"));
+    assert_eq!(two, cursor(Ascending, 1, 28, 1, b"ab"));
     assert_eq!(step(&mut two, &b4()), Ok(None));
 }
 
@@ -781,34 +809,34 @@ fn descending_steps() {
     // The key is neither used nor changed; a region's start stays in its region until the next step.
     let mut back = Cursor { key: Key::of(b"zzz"), ..Cursor::open(&b4(), Descending).unwrap() };
     assert_eq!(step(&mut back, &b4()), gives(b"ab"));
-    assert_eq!(back, cursor(Descending, 1, 13, b"zzz"));
+    assert_eq!(back, cursor(Descending, 1, 13, 0, b"zzz"));
     assert_eq!(step(&mut back, &b4()), gives(b"a"));
-    assert_eq!(back, cursor(Descending, 0, 0, b"zzz"));
+    assert_eq!(back, cursor(Descending, 0, 0, 0, b"zzz"));
     assert_eq!(back.is_empty(&b4()), Ok(false));
     for _ in 0..2 {
         assert_eq!(step(&mut back, &b4()), Ok(None));
-        assert_eq!(back, Cursor { done: true, ..cursor(Descending, 0, 0, b"zzz") });
+        assert_eq!(back, Cursor { done: true, ..cursor(Descending, 0, 0, 0, b"zzz") });
     }
     assert_eq!(back.is_empty(&b4()), Ok(true));
     let mut in_one = Cursor::open(&b2(), Descending).unwrap();
-    let row = in_one.next(&b2(), &mut [0; 2]).unwrap().unwrap();
+    let Given { row, .. } = in_one.next(&b2(), &mut [0; 2]).unwrap().unwrap();
     assert_eq!((row.start, row.next, row.shared, row.suffix_at, row.value_at, row.value_len), (13, 27, 1, 16, 17, 1));
-    assert_eq!(in_one, cursor(Descending, 0, 13, b""));
+    assert_eq!(in_one, cursor(Descending, 0, 13, 1, b""));
 }
 
 #[test]
 fn the_two_places_of_18() {
     // Region number and key before 15; the position after it.
     let wrong_first = off(1, 13, 26);
-    assert_eq!(step_from(&wrong_first, Ascending, 0, 99, b""), Err(15));
-    assert_eq!(step_from(&wrong_first, Ascending, 3, 0, b""), Err(18));
-    assert_eq!(step_from(&wrong_first, Descending, 0, 99, &[1; KEY_LIMIT + 1]), Err(18));
-    assert_eq!(step_from(&wrong_first, Descending, 0, 99, &[1; KEY_LIMIT]), Err(15));
-    assert_eq!(step_from(&wrong_first, Ascending, usize::MAX, usize::MAX, b""), Err(18));
+    assert_eq!(step_from(&wrong_first, Ascending, 0, 99, 1, b""), Err(15));
+    assert_eq!(step_from(&wrong_first, Ascending, 3, 0, 0, b""), Err(18));
+    assert_eq!(step_from(&wrong_first, Descending, 0, 99, 1, &[1; KEY_LIMIT + 1]), Err(18));
+    assert_eq!(step_from(&wrong_first, Descending, 0, 99, 1, &[1; KEY_LIMIT]), Err(15));
+    assert_eq!(step_from(&wrong_first, Ascending, usize::MAX, usize::MAX, 0, b""), Err(18));
     // A marked cursor: after 14 and the first 18, before any 15.
     for (region, key, answer) in [(0, &b""[..], Ok(None)), (3, b"", Err(18)), (0, &[1; KEY_LIMIT + 1], Err(18))] {
         for order in [Ascending, Descending] {
-            let mut marked = Cursor { done: true, ..cursor(order, region, 99, key) };
+            let mut marked = Cursor { done: true, ..cursor(order, region, 99, 99, key) };
             let before = marked.clone();
             assert_eq!(step(&mut marked, &wrong_first), answer);
             assert_eq!(marked, before);
@@ -819,48 +847,48 @@ fn the_two_places_of_18() {
 #[test]
 fn offsets_as_they_are_used() {
     // Only the pair; no look at the left neighbour.
-    assert_eq!(step_from(&off(0, 26, 13), Ascending, 2, 13, b""), gives(b"a"));
-    assert_eq!(step_from(&off(0, 26, 13), Ascending, 1, 26, b""), Err(15));
+    assert_eq!(step_from(&off(0, 26, 13), Ascending, 2, 13, 0, b""), gives(b"a"));
+    assert_eq!(step_from(&off(0, 26, 13), Ascending, 1, 26, 0, b""), Err(15));
     // Handing over does not use the next region.
     let block = off(0, 13, 39);
-    let mut on = cursor(Ascending, 0, 0, b"");
+    let mut on = cursor(Ascending, 0, 0, 0, b"");
     assert_eq!(step(&mut on, &block), gives(b"a"));
-    assert_eq!(on, cursor(Ascending, 1, 13, b""));
+    assert_eq!(on, cursor(Ascending, 1, 13, 0, b""));
     assert_eq!(step(&mut on, &block), Err(15));
     // The offset next to the region used must itself be below the data length.
-    assert_eq!(step_from(&off(0, 39, 13), Ascending, 0, 0, b""), Err(15));
+    assert_eq!(step_from(&off(0, 39, 13), Ascending, 0, 0, 0, b""), Err(15));
     // Descending at a region's start: the pair of r, the position, then the pair of r - 1.
-    assert_eq!(step_from(&off(1, 13, 26), Descending, 1, 13, b""), Err(15));
-    assert_eq!(step_from(&off(1, 13, 26), Descending, 1, 12, b""), Err(18));
-    assert_eq!(step_from(&off(1, 13, 26), Descending, 2, 26, b""), gives(b"a"));
-    assert_eq!(step_from(&off(0, 13, 39), Descending, 1, 13, b""), Err(15));
+    assert_eq!(step_from(&off(1, 13, 26), Descending, 1, 13, 0, b""), Err(15));
+    assert_eq!(step_from(&off(1, 13, 26), Descending, 1, 12, 0, b""), Err(18));
+    assert_eq!(step_from(&off(1, 13, 26), Descending, 2, 26, 0, b""), gives(b"a"));
+    assert_eq!(step_from(&off(0, 13, 39), Descending, 1, 13, 0, b""), Err(15));
     // Region 0's start: offsets tested, then "done".
-    assert_eq!(step_from(&off(1, 13, 26), Descending, 0, 0, b""), Err(15));
-    assert_eq!(step_from(&off(0, 13, 26), Descending, 0, 0, b""), Ok(None));
+    assert_eq!(step_from(&off(1, 13, 26), Descending, 0, 0, 0, b""), Err(15));
+    assert_eq!(step_from(&off(0, 13, 26), Descending, 0, 0, 0, b""), Ok(None));
 }
 
 #[test]
 fn right_positions() {
-    assert_eq!(step_from(&b4(), Ascending, 0, 13, b""), Err(18));
-    assert_eq!(step_from(&b4(), Ascending, 1, 12, b""), Err(18));
-    assert_eq!(step_from(&b4(), Ascending, 1, 28, b""), Ok(None));
-    assert_eq!(step_from(&b4(), Ascending, 1, 29, b""), Err(18));
-    assert_eq!(step_from(&b4(), Ascending, 1, usize::MAX, b""), Err(18));
-    assert_eq!(step_from(&b4(), Descending, 0, 13, b""), gives(b"a"));
-    assert_eq!(step_from(&b4(), Descending, 0, 14, b""), Err(18));
-    assert_eq!(step_from(&b4(), Descending, 1, 12, b""), Err(18));
-    assert_eq!(step_from(&b4(), Descending, 1, 14, b""), Err(18));
-    assert_eq!(step_from(&b4(), Descending, 1, usize::MAX, b""), Err(18));
+    assert_eq!(step_from(&b4(), Ascending, 0, 13, 1, b""), Err(18));
+    assert_eq!(step_from(&b4(), Ascending, 1, 12, 0, b""), Err(18));
+    assert_eq!(step_from(&b4(), Ascending, 1, 28, 1, b""), Ok(None));
+    assert_eq!(step_from(&b4(), Ascending, 1, 29, 1, b""), Err(18));
+    assert_eq!(step_from(&b4(), Ascending, 1, usize::MAX, 1, b""), Err(18));
+    assert_eq!(step_from(&b4(), Descending, 0, 13, 1, b""), gives(b"a"));
+    assert_eq!(step_from(&b4(), Descending, 0, 14, 1, b""), Err(18));
+    assert_eq!(step_from(&b4(), Descending, 1, 12, 0, b""), Err(18));
+    assert_eq!(step_from(&b4(), Descending, 1, 14, 1, b""), Err(18));
+    assert_eq!(step_from(&b4(), Descending, 1, usize::MAX, 1, b""), Err(18));
     // Ascending, row boundaries are not tested, and the carried key is what it says.
-    assert_eq!(step_from(&b2(), Ascending, 0, 13, b"z"), gives(b"zb"));
-    assert_eq!(step_from(&b2(), Ascending, 0, 13, b""), Err(13));
+    assert_eq!(step_from(&b2(), Ascending, 0, 13, 1, b"z"), gives(b"zb"));
+    assert_eq!(step_from(&b2(), Ascending, 0, 13, 1, b""), Err(13));
     // At a restart it is unused.
-    assert_eq!(step_from(&b2(), Ascending, 0, 0, b"z"), gives(b"a"));
-    assert_eq!(step_from(&block_of(&[&AB], &[0]), Ascending, 0, 0, b"z"), Err(13));
+    assert_eq!(step_from(&b2(), Ascending, 0, 0, 0, b"z"), gives(b"a"));
+    assert_eq!(step_from(&block_of(&[&AB], &[0]), Ascending, 0, 0, 0, b"z"), Err(13));
     // Bytes past the length of a carried key change no answer.
     let mut bytes = [b'!'; KEY_LIMIT];
     bytes[0] = b'z';
-    let mut stale = Cursor { key: Key { len: 1, bytes }, ..cursor(Ascending, 0, 13, b"") };
+    let mut stale = Cursor { key: Key { len: 1, bytes }, ..cursor(Ascending, 0, 13, 1, b"") };
     assert_eq!(step(&mut stale, &b2()), gives(b"zb"));
 }
 
@@ -869,34 +897,34 @@ fn rows_tested_on_the_way_back() {
     let flags_9 = flagged(9)[..13].to_vec();
     // The row that straddles the position is read, and its own refusal beats 18.
     let block = block_of(&[&R, &flags_9, &R], &[0]);
-    assert_eq!(step_from(&block, Descending, 0, 20, b""), Err(12));
-    assert_eq!(step_from(&off(0, 13, 26), Descending, 1, 20, b""), Err(18));
+    assert_eq!(step_from(&block, Descending, 0, 20, 1, b""), Err(12));
+    assert_eq!(step_from(&off(0, 13, 26), Descending, 1, 20, 1, b""), Err(18));
     // Rows from the position on are not.
-    assert_eq!(step_from(&block, Descending, 0, 13, b""), gives(b"a"));
-    assert_eq!(step_from(&block, Descending, 0, 39, b""), Err(12));
+    assert_eq!(step_from(&block, Descending, 0, 13, 1, b""), gives(b"a"));
+    assert_eq!(step_from(&block, Descending, 0, 39, 3, b""), Err(12));
     // Outside the region no row is read.
-    assert_eq!(step_from(&block_of(&[&flags_9], &[0]), Descending, 0, 14, b""), Err(18));
-    assert_eq!(step_from(&block_of(&[&R, &flags_9], &[0, 13]), Descending, 1, 12, b""), Err(18));
-    assert_eq!(step_from(&block_of(&[&R, &flags_9], &[0, 13]), Descending, 1, 25, b""), Err(12));
+    assert_eq!(step_from(&block_of(&[&flags_9], &[0]), Descending, 0, 14, 1, b""), Err(18));
+    assert_eq!(step_from(&block_of(&[&R, &flags_9], &[0, 13]), Descending, 1, 12, 0, b""), Err(18));
+    assert_eq!(step_from(&block_of(&[&R, &flags_9], &[0, 13]), Descending, 1, 25, 1, b""), Err(12));
     // A row that runs into the next region reads its flags there; 16 is last.
     let over = [0, 1, 0, b'a', 0, 0, 0, 0, 0, 0, 0, 0];
-    assert_eq!(step_from(&block_of(&[&over, &[9], &R], &[0, 12]), Ascending, 0, 0, b""), Err(12));
-    assert_eq!(step_from(&block_of(&[&over, &R], &[0, 12]), Ascending, 0, 0, b""), Err(16));
-    assert_eq!(step_from(&block_of(&[&over, &R], &[0, 12]), Descending, 0, 12, b""), Err(16));
-    assert_eq!(step_from(&block_of(&[&over, &R], &[0, 12]), Descending, 1, 12, b""), Err(16));
+    assert_eq!(step_from(&block_of(&[&over, &[9], &R], &[0, 12]), Ascending, 0, 0, 0, b""), Err(12));
+    assert_eq!(step_from(&block_of(&[&over, &R], &[0, 12]), Ascending, 0, 0, 0, b""), Err(16));
+    assert_eq!(step_from(&block_of(&[&over, &R], &[0, 12]), Descending, 0, 12, 1, b""), Err(16));
+    assert_eq!(step_from(&block_of(&[&over, &R], &[0, 12]), Descending, 1, 12, 0, b""), Err(16));
 }
 
 #[test]
 fn the_lent_key_buffer() {
     let mut out = [0xEE; 3];
-    let mut on = cursor(Ascending, 0, 13, b"a");
+    let mut on = cursor(Ascending, 0, 13, 1, b"a");
     assert_eq!(on.next(&b2(), &mut out[..1]), Err(19));
-    assert_eq!((on.clone(), out), (cursor(Ascending, 0, 13, b"a"), [0xEE; 3]));
+    assert_eq!((on.clone(), out), (cursor(Ascending, 0, 13, 1, b"a"), [0xEE; 3]));
     assert!(on.next(&b2(), &mut out).unwrap().is_some());
     assert_eq!(out, [b'a', b'b', 0xEE]);
     // "Done" needs no buffer; row tests come before 19.
     assert_eq!(on.next(&b2(), &mut []), Ok(None));
-    assert_eq!(cursor(Ascending, 0, 0, b"").next(&block_of(&[&flagged(9)], &[0]), &mut []), Err(12));
+    assert_eq!(cursor(Ascending, 0, 0, 0, b"").next(&block_of(&[&flagged(9)], &[0]), &mut []), Err(12));
     // Only the key that is given counts.
     let block = built(16, &[b"aaaaaaaaa", b"b"]);
     let mut back = Cursor::open(&block, Descending).unwrap();
@@ -909,14 +937,207 @@ fn the_lent_key_buffer() {
 #[test]
 fn is_empty_follows_position_and_mark() {
     let block = b2();
-    let marked = |order, at| Cursor { done: true, ..cursor(order, 99, at, &[0; 5_000]) };
+    let marked = |order, at| Cursor { done: true, ..cursor(order, 99, at, 99, &[0; 5_000]) };
     assert_eq!(marked(Ascending, 0).is_empty(&block), Ok(true));
     assert_eq!(marked(Descending, 0).is_empty(&block), Ok(true));
-    assert_eq!(cursor(Ascending, 99, 26, b"").is_empty(&block), Ok(false));
-    assert_eq!(cursor(Ascending, 0, 27, b"").is_empty(&block), Ok(true));
-    assert_eq!(cursor(Ascending, 0, usize::MAX, b"").is_empty(&block), Ok(true));
+    assert_eq!(cursor(Ascending, 99, 26, 2, b"").is_empty(&block), Ok(false));
+    assert_eq!(cursor(Ascending, 0, 27, 2, b"").is_empty(&block), Ok(true));
+    assert_eq!(cursor(Ascending, 0, usize::MAX, 2, b"").is_empty(&block), Ok(true));
     for at in [0, 27, usize::MAX] {
-        assert_eq!(cursor(Descending, 0, at, b"").is_empty(&block), Ok(false));
+        assert_eq!(cursor(Descending, 0, at, 0, b"").is_empty(&block), Ok(false));
+    }
+}
+
+// ---- which row is this?
+
+/// The cursor before each step, and after it the pair that its answer carries, until "done": what stands in the cursors is their
+/// region, position and number.
+fn named(block: &[u8], mut cursor: Cursor) -> (Vec<(usize, usize, usize)>, Vec<(usize, usize)>) {
+    let (mut cursors, mut pairs) = (vec![(cursor.region, cursor.at, cursor.number)], Vec::new());
+    while let Some(given) = cursor.next(block, &mut [0; KEY_LIMIT]).unwrap() {
+        cursors.push((cursor.region, cursor.at, cursor.number));
+        pairs.push((given.region, given.number));
+    }
+    // "A "done" sets only the mark", and says it again.
+    assert_eq!(cursors.last(), Some(&(cursor.region, cursor.at, cursor.number)));
+    assert_eq!(cursor.next(block, &mut []), Ok(None));
+    assert_eq!(cursors.last(), Some(&(cursor.region, cursor.at, cursor.number)));
+    (cursors, pairs)
+}
+
+fn reversed<T: Clone>(list: &[T]) -> Vec<T> {
+    list.iter().rev().cloned().collect()
+}
+
+const CASE_8_PAIRS: [(usize, usize); 5] = [(0, 0), (0, 1), (1, 0), (1, 1), (2, 0)];
+
+#[test]
+fn case_8_with_every_pair_and_number() {
+    let block = case_8_block();
+    let (up, pairs) = named(&block, Cursor::open(&block, Ascending).unwrap());
+    assert_eq!(pairs, CASE_8_PAIRS);
+    // Handed over with 0; at the data's end the last region's row count.
+    assert_eq!(up, [(0, 0, 0), (0, 13, 1), (1, 26, 0), (1, 39, 1), (2, 51, 0), (2, 64, 1)]);
+    let (down, pairs) = named(&block, Cursor::open(&block, Descending).unwrap());
+    assert_eq!(pairs, reversed(&CASE_8_PAIRS));
+    assert_eq!(down, [(2, 64, 1), (2, 51, 0), (1, 39, 1), (1, 26, 0), (0, 13, 1), (0, 0, 0)]);
+}
+
+#[test]
+fn case_8_sought_with_every_pair() {
+    let block = case_8_block();
+    let after = |order, target: &[u8]| {
+        let mut cursor = cursor(order, 77, 77, 77, b"old");
+        cursor.seek(&block, target).unwrap();
+        let (cursors, pairs) = named(&block, cursor);
+        (cursors[0], pairs)
+    };
+    for (target, landed, first) in [(&b""[..], (0, 0, 0), 0), (b"b", (0, 13, 1), 1), (b"bb", (2, 51, 0), 4), (b"d", (2, 64, 1), 5)] {
+        assert_eq!(after(Ascending, target), (landed, CASE_8_PAIRS[first..].to_vec()));
+    }
+    for (target, landed, rows) in [(&b""[..], (0, 0, 0), 0), (b"a", (0, 13, 1), 1), (b"b", (1, 51, 2), 4), (b"bb", (1, 51, 2), 4), (b"d", (2, 64, 1), 5)] {
+        assert_eq!(after(Descending, target), (landed, reversed(&CASE_8_PAIRS[..rows])));
+    }
+}
+
+/// One region of three rows that start at 0, 13 and 25; the data has 39 bytes.
+fn three_rows() -> Vec<u8> {
+    block_of(&[&R, &[1, 0, 0, 0, 0, 0, 0, 0, 0, 0, 0, 0], &AB], &[0])
+}
+
+/// What a step answers: the pair and the number of the moved cursor.
+fn counted(block: &[u8], order: Order, region: usize, at: usize, number: usize) -> Result<Option<(usize, usize, usize)>, Refusal> {
+    let mut cursor = cursor(order, region, at, number, b"a");
+    let before = cursor.clone();
+    let answer = cursor.next(block, &mut [0; KEY_LIMIT]);
+    if !matches!(answer, Ok(Some(_))) {
+        assert_eq!((cursor.number, cursor.at, cursor.region), (before.number, before.at, before.region));
+    }
+    Ok(answer?.map(|given| (given.region, given.number, cursor.number)))
+}
+
+const HUGE: [usize; 4] = [usize::MAX, usize::MAX / 12, usize::MAX / 12 + 1, 1 << 61];
+
+/// "One that is 0 past the region's start or above a twelfth of the bytes passed there."
+#[test]
+fn wrong_numbers_ascending() {
+    let block = three_rows();
+    // At the start only 0.
+    assert_eq!(counted(&block, Ascending, 0, 0, 0), Ok(Some((0, 0, 1))));
+    assert_eq!(counted(&block, Ascending, 0, 0, 1), Err(18));
+    // Past it not 0, and at most a twelfth: positions inside rows are right ascending, so every edge can be asked for.
+    for at in 1..39 {
+        for number in (0..6).chain(HUGE) {
+            let wrong = number == 0 || number > at / 12;
+            assert_eq!(counted(&block, Ascending, 0, at, number) == Err(18), wrong, "{number} at {at}");
+        }
+    }
+    assert_eq!(counted(&block, Ascending, 0, 25, 2), Ok(Some((0, 2, 3))));
+    // A plausible wrong one is handed on and counted from.
+    let mut one_off = cursor(Ascending, 0, 25, 1, b"a");
+    assert_eq!(one_off.next(&block, &mut [0; 9]).unwrap().map(|given| (given.region, given.number)), Some((0, 1)));
+    assert_eq!(one_off, cursor(Ascending, 0, 39, 2, b"ab"));
+    // At the data's end too, where it is told before "done", which leaves it.
+    for (number, answer) in [(0, Err(18)), (1, Ok(None)), (2, Ok(None)), (3, Ok(None)), (4, Err(18)), (usize::MAX, Err(18))] {
+        assert_eq!(counted(&block, Ascending, 0, 39, number), answer);
+    }
+    // Only bytes of its own region count; a hand-over sets 0, whatever came.
+    let two = block_of(&[&three_rows()[..39], &R], &[0, 39]);
+    assert_eq!(counted(&two, Ascending, 1, 39, 0), Ok(Some((1, 0, 1))));
+    assert_eq!(counted(&two, Ascending, 1, 39, 1), Err(18));
+    assert_eq!(counted(&two, Ascending, 1, 52, 1), Ok(None));
+    assert_eq!(counted(&two, Ascending, 1, 52, 2), Err(18));
+    for number in [1, 2] {
+        assert_eq!(counted(&two, Ascending, 0, 25, number), Ok(Some((0, number, 0))));
+    }
+}
+
+/// "Descending after the rows read for it."
+#[test]
+fn wrong_numbers_descending() {
+    let block = three_rows();
+    for (at, right) in [(13, 1), (25, 2), (39, 3)] {
+        for number in (0..6).chain(HUGE) {
+            let answer = if number == right { Ok(Some((0, right - 1, right - 1))) } else { Err(18) };
+            assert_eq!(counted(&block, Descending, 0, at, number), answer);
+        }
+    }
+    // "At a region's start, where none are read, the number must be 0 before the region before is used, and in region 0 before
+    // "done" is said."
+    assert_eq!(counted(&block, Descending, 0, 0, 0), Ok(None));
+    for number in [1, 3].into_iter().chain(HUGE) {
+        assert_eq!(counted(&block, Descending, 0, 0, number), Err(18));
+        assert_eq!(counted(&off(1, 13, 26), Descending, 1, 13, number), Err(18));
+    }
+    assert_eq!(counted(&off(1, 13, 26), Descending, 1, 13, 0), Err(15));
+    // The region before is entered with all its rows.
+    let two = block_of(&[&three_rows()[..39], &R], &[0, 39]);
+    assert_eq!(counted(&two, Descending, 1, 39, 0), Ok(Some((0, 2, 2))));
+    assert_eq!(counted(&two, Descending, 1, 39, 3), Err(18));
+}
+
+#[test]
+fn where_the_number_is_tested() {
+    let flags_9 = flagged(9)[..13].to_vec();
+    let block = block_of(&[&R, &flags_9, &R], &[0]);
+    // Ascending before the row, descending after the rows, which beat it; then 19.
+    assert_eq!(counted(&block, Ascending, 0, 13, 1), Err(12));
+    assert_eq!(counted(&block, Ascending, 0, 13, 0), Err(18));
+    assert_eq!(counted(&block, Ascending, 0, 13, 2), Err(18));
+    for number in [0, 1, 2, 3, usize::MAX] {
+        assert_eq!(counted(&block, Descending, 0, 26, number), Err(12));
+        assert_eq!(counted(&block, Descending, 0, 13, number).is_ok(), number == 1);
+        assert_eq!(counted(&off(1, 13, 26), Ascending, 0, 13, number), Err(15));
+    }
+    for (order, at, number, answer) in [(Ascending, 0, 0, 19), (Ascending, 0, 1, 18), (Descending, 13, 1, 19), (Descending, 13, 2, 18)] {
+        assert_eq!(cursor(order, 0, at, number, b"").next(&block, &mut []), Err(answer));
+    }
+    // "A marked cursor's number is untested"; `is_empty` looks at none, and a seek takes none.
+    for order in [Ascending, Descending] {
+        for number in [0, 1, 7, usize::MAX] {
+            let mut marked = Cursor { done: true, ..cursor(order, 0, 13, number, b"") };
+            assert_eq!(step(&mut marked, &block), Ok(None));
+            assert_eq!(marked.number, number);
+            assert_eq!(cursor(order, 0, 13, number, b"").is_empty(&block), Ok(false));
+            let mut sought = cursor(order, 0, 13, number, b"");
+            assert_eq!(sought.seek(&b2(), b"ab"), Ok(Sought { found: true, reads: 1 }));
+            assert_eq!(sought.number, if order == Ascending { 1 } else { 2 });
+            assert_eq!(sought.seek(&block, b"b"), Err(12));
+            assert_eq!(sought.number, if order == Ascending { 1 } else { 2 });
+        }
+    }
+}
+
+/// How many rows of region `region` end at or before `at`, of rows given by where they end.
+fn truly(ends: &[Vec<usize>], region: usize, at: usize) -> usize {
+    ends[region].iter().filter(|end| **end <= at).count()
+}
+
+/// "True after opening, steps and seeks in both directions", refused calls in between; and the pair names its row.
+#[test]
+fn the_number_is_true() {
+    let mut chance = Chance(4);
+    for _ in 0..300 {
+        let interval = 1 + chance.below(5);
+        let mut keys: Vec<Vec<u8>> = (0..1 + chance.below(20)).map(|_| chance.key()).collect();
+        keys.sort();
+        let block = built(interval, &keys.iter().map(Vec::as_slice).collect::<Vec<_>>());
+        // Where each row ends, by a walk that asks for no number.
+        let (mut ends, mut cursor) = (vec![Vec::new(); keys.len().div_ceil(interval)], Cursor::open(&block, Ascending).unwrap());
+        for row in 0..keys.len() {
+            ends[row / interval].push(cursor.next(&block, &mut [0; KEY_LIMIT]).unwrap().unwrap().row.next);
+        }
+        let mut on = Cursor::open(&block, chance.order()).unwrap();
+        assert_eq!(on.number, truly(&ends, on.region, on.at));
+        for _ in 0..40 {
+            let room = [0, 1, 2, KEY_LIMIT][chance.below(4)];
+            if chance.below(5) == 0 {
+                on.seek(&block, &chance.key()).unwrap();
+            } else if let Ok(Some(given)) = on.next(&block, &mut vec![0; room]) {
+                assert_eq!(ends[given.region][given.number], given.row.next);
+            }
+            assert_eq!(on.number, truly(&ends, on.region, on.at));
+        }
     }
 }
 
@@ -927,21 +1148,21 @@ fn where_a_seek_leaves_the_cursor() {
     let block = case_8_block();
     let data_len = Block::new(&block).unwrap().data.len();
     let sought = |order, target: &[u8]| {
-        let mut cursor = Cursor { done: true, ..cursor(order, 77, 77, b"old") };
+        let mut cursor = Cursor { done: true, ..cursor(order, 77, 77, 77, b"old") };
         cursor.seek(&block, target).unwrap();
         cursor
     };
     // Rows take 13 bytes, 12 when the whole key is shared (row 3).
-    assert_eq!(sought(Ascending, b"b"), cursor(Ascending, 0, 13, b"a"));
-    assert_eq!(sought(Ascending, b"bb"), cursor(Ascending, 2, 51, b""));
-    assert_eq!(sought(Ascending, b""), cursor(Ascending, 0, 0, b""));
-    assert_eq!(sought(Ascending, b"d"), Cursor { done: true, ..cursor(Ascending, 2, data_len, b"") });
-    assert_eq!(sought(Descending, b"b"), cursor(Descending, 1, 51, b""));
-    assert_eq!(sought(Descending, b"a"), cursor(Descending, 0, 13, b""));
-    assert_eq!(sought(Descending, b"z"), cursor(Descending, 2, data_len, b""));
-    assert_eq!(sought(Descending, b""), Cursor { done: true, ..cursor(Descending, 0, 0, b"") });
+    assert_eq!(sought(Ascending, b"b"), cursor(Ascending, 0, 13, 1, b"a"));
+    assert_eq!(sought(Ascending, b"bb"), cursor(Ascending, 2, 51, 0, b""));
+    assert_eq!(sought(Ascending, b""), cursor(Ascending, 0, 0, 0, b""));
+    assert_eq!(sought(Ascending, b"d"), Cursor { done: true, ..cursor(Ascending, 2, data_len, 1, b"") });
+    assert_eq!(sought(Descending, b"b"), cursor(Descending, 1, 51, 2, b""));
+    assert_eq!(sought(Descending, b"a"), cursor(Descending, 0, 13, 1, b""));
+    assert_eq!(sought(Descending, b"z"), cursor(Descending, 2, data_len, 1, b""));
+    assert_eq!(sought(Descending, b""), Cursor { done: true, ..cursor(Descending, 0, 0, 0, b"") });
     assert_eq!(data_len, 64);
-    let mut any = cursor(Descending, 0, 0, b"");
+    let mut any = cursor(Descending, 0, 0, 0, b"");
     assert_eq!(any.seek(&block, &[255; 5_000]), Ok(Sought { found: true, reads: 2 }));
 }
 
@@ -979,7 +1200,7 @@ fn what_a_seek_reads() {
     let block = off(0, 13, 26);
     let wrong_last = block_of(&[&R, &R, &R], &[0, 13, 26, 7]);
     assert_eq!(Cursor::open(&wrong_last, Ascending), Err(15));
-    let mut on = cursor(Ascending, 0, 0, b"");
+    let mut on = cursor(Ascending, 0, 0, 0, b"");
     assert_eq!(on.seek(&wrong_last, b"a"), Err(15));
     assert_eq!(on.seek(&block, b"a"), Ok(Sought { found: true, reads: 2 }));
     let unused = block_of(&[&R, &R, &R, &R, &R], &[0, 13, 26, 39, 7]);
@@ -1045,13 +1266,18 @@ fn finished_blocks_read_back() {
         if sorted && chance.below(2) == 0 {
             rows.iter_mut().for_each(|row| row.1 = chance.seq());
         }
-        let block = built_of(1 + chance.below(6), &rows.iter().map(|(key, seq)| (key.as_slice(), *seq)).collect::<Vec<_>>());
+        let interval = 1 + chance.below(6);
+        let block = built_of(interval, &rows.iter().map(|(key, seq)| (key.as_slice(), *seq)).collect::<Vec<_>>());
         assert_eq!(check(&block), if in_order(&rows) { Ok(rows.len()) } else { Err(17) });
         accepted += usize::from(in_order(&rows));
         let seqs: Vec<u64> = rows.iter().map(|row| row.1).collect();
         assert_eq!(walk(&block, Cursor::open(&block, Ascending).unwrap()).unwrap(), seqs);
         let back: Vec<u64> = seqs.iter().rev().copied().collect();
         assert_eq!(walk(&block, Cursor::open(&block, Descending).unwrap()).unwrap(), back);
+        // "Row number k of region r": r times the interval rows stand before that region.
+        let pairs: Vec<(usize, usize)> = (0..rows.len()).map(|row| (row / interval, row % interval)).collect();
+        assert_eq!(named(&block, Cursor::open(&block, Ascending).unwrap()).1, pairs);
+        assert_eq!(named(&block, Cursor::open(&block, Descending).unwrap()).1, reversed(&pairs));
         if sorted {
             seeks_like_a_list(&block, &rows, &mut chance);
         }
@@ -1068,10 +1294,10 @@ fn seeks_like_a_list(block: &[u8], rows: &[(Vec<u8>, u64)], chance: &mut Chance)
         assert_eq!(seek(block, Ascending, &target).unwrap().0, first.map(|i| rows[i].1));
         assert_eq!(seek(block, Descending, &target).unwrap().0, last.map(|i| rows[i].1));
         // From there the walk goes on to the end.
-        let mut on = cursor(Ascending, 0, 0, b"");
+        let mut on = cursor(Ascending, 0, 0, 0, b"");
         on.seek(block, &target).unwrap();
         assert_eq!(walk(block, on).unwrap().len(), rows.len() - first.unwrap_or(rows.len()));
-        let mut back = cursor(Descending, 0, 0, b"");
+        let mut back = cursor(Descending, 0, 0, 0, b"");
         back.seek(block, &target).unwrap();
         assert_eq!(walk(block, back).unwrap().len(), last.map_or(0, |i| i + 1));
     }
@@ -1089,7 +1315,8 @@ fn no_input_breaks_a_reader() {
         block.truncate(block.len() - [0, 0, 1, 9][chance.below(4)]);
         let (key, len) = (chance.key(), chance.number());
         let key = Key { len: if round % 2 == 0 { key.len() } else { len }, ..Key::of(&key) };
-        let forged = Cursor { order: chance.order(), region: chance.below(5), at: chance.number(), key, done: chance.below(9) == 0 };
+        let (at, number, done) = (chance.number(), chance.number(), chance.below(9) == 0);
+        let forged = Cursor { order: chance.order(), region: chance.below(5), at, number, key, done };
         let _ = check(&block);
         let _ = forged.is_empty(&block);
         let mut stepped = forged.clone();

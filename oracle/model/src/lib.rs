@@ -1,6 +1,6 @@
-//! The rules of the block format as plain small Rust, to be held side by side with the paper that gives them ("01"): its words
-//! stand in the comments, its numbers in `refusal`. It was written from 01 and the readings of it alone:
-//! neither the Rust of slatedb nor the proved code was looked at.
+//! The rules of the block format as plain small Rust, to be held side by side with the papers that give them ("01", and the
+//! requests after it, "02"): their words stand in the comments, their numbers in `refusal`. It was written from these and the
+//! readings of them alone: neither the Rust of slatedb nor the proved code was looked at.
 pub mod block;
 pub mod builder;
 #[cfg(test)]

@@ -15,13 +15,11 @@ impl Cursor {
     pub fn seek(&mut self, block: &[u8], target: &[u8]) -> Result<Sought, Refusal> {
         let block = Block::new(block)?;
         let (answer, reads) = search(&block, target)?;
-        let landed = match self.order {
+        *self = match self.order {
             Order::Ascending => ascending(&block, target, answer)?,
             Order::Descending => descending(&block, target, answer)?,
         };
-        let found = landed.is_some();
-        *self = landed.unwrap_or_else(|| done(&block, self.order));
-        Ok(Sought { found, reads })
+        Ok(Sought { found: !self.done, reads })
     }
 }
 
@@ -45,35 +43,39 @@ fn search(block: &Block, target: &[u8]) -> Result<(usize, usize), Refusal> {
 }
 
 /// "Start one restart earlier (not below 0) and walk to the first row at or above the target, else "done"." The cursor "holds the
-/// key of the row before in the same region, else none".
-fn ascending(block: &Block, target: &[u8], answer: usize) -> Result<Option<Cursor>, Refusal> {
+/// key of the row before in the same region, else none"; its number is how many rows stand before in that region.
+fn ascending(block: &Block, target: &[u8], answer: usize) -> Result<Cursor, Refusal> {
+    let mut passed = 0;
     for number in answer.saturating_sub(1)..block.restarts() {
         let region = block.region(number)?;
         let mut at = region.start;
         let mut before = Vec::new();
+        passed = 0;
         while at < region.end {
             let (row, key) = block.row(region, at, &before)?;
             if key.as_slice() >= target {
                 let key = Key::of(&before);
-                return Ok(Some(Cursor { order: Order::Ascending, region: number, at, key, done: false }));
+                return Ok(Cursor { order: Order::Ascending, region: number, at, number: passed, key, done: false });
             }
             at = row.next;
             before = key;
+            passed += 1;
         }
     }
-    Ok(None)
+    // The walk ended with the last region, all of whose rows were passed.
+    Ok(done(Order::Ascending, block.last(), block.data.len(), passed))
 }
 
 /// "Read that whole region, take its last row at or below the target; if none, the region before, and so on, else "done"." The
-/// position is where that row ends.
-fn descending(block: &Block, target: &[u8], answer: usize) -> Result<Option<Cursor>, Refusal> {
+/// position is where that row ends, the number how many rows end up to there.
+fn descending(block: &Block, target: &[u8], answer: usize) -> Result<Cursor, Refusal> {
     let start = descending_start(block, target, answer)?;
-    for number in (0..=start).rev() {
-        if let Some(at) = last_at_or_below(block, target, number)? {
-            return Ok(Some(Cursor { order: Order::Descending, region: number, at, key: Key::none(), done: false }));
+    for region in (0..=start).rev() {
+        if let Some((at, number)) = last_at_or_below(block, target, region)? {
+            return Ok(Cursor { order: Order::Descending, region, at, number, key: Key::none(), done: false });
         }
     }
-    Ok(None)
+    Ok(done(Order::Descending, 0, 0, 0))
 }
 
 /// "Start at the last of the run of restarts equal to the target, if the one found is equal; otherwise one earlier (not below
@@ -92,28 +94,27 @@ fn descending_start(block: &Block, target: &[u8], answer: usize) -> Result<usize
     Ok(last)
 }
 
-/// Where the region's last row at or below the target ends, the whole region being read.
-fn last_at_or_below(block: &Block, target: &[u8], number: usize) -> Result<Option<usize>, Refusal> {
+/// Where the region's last row at or below the target ends, and how many rows end up to there, the whole region being read.
+fn last_at_or_below(block: &Block, target: &[u8], number: usize) -> Result<Option<(usize, usize)>, Refusal> {
     let region = block.region(number)?;
     let mut at = region.start;
     let mut before = Vec::new();
+    let mut rows = 0;
     let mut found = None;
     while at < region.end {
         let (row, key) = block.row(region, at, &before)?;
         at = row.next;
+        rows += 1;
         if key.as_slice() <= target {
-            found = Some(at);
+            found = Some((at, rows));
         }
         before = key;
     }
     Ok(found)
 }
 
-/// "A "done" leaves it marked, at the data's end in the last region, or descending at 0 in region 0, with no key."
-fn done(block: &Block, order: Order) -> Cursor {
-    let (region, at) = match order {
-        Order::Ascending => (block.last(), block.data.len()),
-        Order::Descending => (0, 0),
-    };
-    Cursor { order, region, at, key: Key::none(), done: true }
+/// "A "done" leaves it marked, at the data's end in the last region, or descending at 0 in region 0, with no key": the number is
+/// the last region's row count, or 0.
+fn done(order: Order, region: usize, at: usize, number: usize) -> Cursor {
+    Cursor { order, region, at, number, key: Key::none(), done: true }
 }
