@@ -1,6 +1,7 @@
 /* Case 8 of the rules' paper ("01") through slatedb_block.h: the block is built, checked, walked and sought in, and what comes
- * is held to the paper's numbers. Then the header's constants are held to the library, and damaged blocks are read. Every
- * array that is lent ends where memory ends, or starts where it starts, so that a byte touched outside of it is a fault.
+ * is held to the paper's numbers, each row's pair and each cursor's number too. Then the header's constants are held to the
+ * library, and damaged blocks are read. Every array that is lent ends where memory ends, or starts where it starts, so that a
+ * byte touched outside of it is a fault.
  */
 #define _DEFAULT_SOURCE
 #include "slatedb_compare.h"
@@ -12,11 +13,18 @@
 /* PAGE is a multiple of every processor's page. */
 enum { PAGE = 65536, PIECES = 16, ROWS = 5, INTERVAL = 2, RESTARTS = 3, DATA = 64, BLOCK = 72, HALF = ROWS + 1, STATES = 2 * HALF };
 enum { CURSOR = SLATEDB_CURSOR_WORDS, BUILDER = SLATEDB_BUILDER_WORDS, KEY = SLATEDB_KEY_BYTES };
-enum { FIELDS = SLATEDB_FIELDS_WORDS, ROW = SLATEDB_ROW_WORDS };
+enum { FIELDS = SLATEDB_FIELDS_WORDS, SINGLE = SLATEDB_SINGLE_WORDS, ROW = SLATEDB_ROW_WORDS };
 
 static const char *const KEYS[ROWS] = {"a", "b", "b", "b", "c"};
 static const uint64_t NUMBERS[ROWS] = {0, 3, 2, 1, 4}; /* of equal keys the newest first */
 static const uint64_t STARTS[ROWS] = {0, 13, 26, 39, 51};
+
+/* Which row it is: its region, and its number there. */
+struct pair {
+    uint64_t region, number;
+};
+
+static const struct pair PAIRS[ROWS] = {{0, 0}, {0, 1}, {1, 0}, {1, 1}, {2, 0}};
 
 static uint8_t block[BLOCK];
 
@@ -158,12 +166,16 @@ static struct reader new_reader(const uint8_t *from, size_t len, size_t out_len)
                            .row = lend(sizeof(slatedb_row)), .reads = lend(sizeof(uint64_t))};
 }
 
-static uint8_t reopen(struct reader *r, uint64_t order) {
-    return slatedb_open(r->block, r->len, order, slatedb_cursor_words(r->cursor), CURSOR);
-}
-
 static int refused(uint8_t code) {
     return code != SLATEDB_GOOD && code != SLATEDB_DONE;
+}
+
+/* An opening that is refused has changed nothing. */
+static uint8_t reopen(struct reader *r, uint64_t order) {
+    slatedb_cursor cursor = *r->cursor;
+    uint8_t code = slatedb_open(r->block, r->len, order, slatedb_cursor_words(r->cursor), CURSOR);
+    if (refused(code)) expect("what a refused opening leaves", memcmp(&cursor, r->cursor, sizeof cursor), 0);
+    return code;
 }
 
 /* A step that is refused has changed nothing. */
@@ -251,7 +263,9 @@ static size_t number_of(uint64_t start) {
 }
 
 static void expect_row(const struct reader *r, size_t row) {
-    printf(" row %zu", number_of(r->row->start));
+    printf(" row %zu (%llu, %llu)", number_of(r->row->start), (unsigned long long)r->row->region, (unsigned long long)r->row->number);
+    expect("the row's region", r->row->region, PAIRS[row].region);
+    expect("the row's number", r->row->number, PAIRS[row].number);
     expect("the row's start", r->row->start, STARTS[row]);
     expect("the row's sequence number", r->row->seq, NUMBERS[row]);
     expect("the row's kind", r->row->kind, SLATEDB_VALUE);
@@ -260,10 +274,24 @@ static void expect_row(const struct reader *r, size_t row) {
     expect("the row's key", r->out[0], (uint8_t)KEYS[row][0]);
 }
 
+/* Where opening or a seek leaves a cursor that gives this row next, ROWS for none: ascending at that row's pair, descending with
+ * one row more up to there. */
+static struct pair before(uint64_t order, size_t row) {
+    static const struct pair up_end = {RESTARTS - 1, 1}, down_end = {0, 0};
+    if (order == SLATEDB_ASCENDING) return row < ROWS ? PAIRS[row] : up_end;
+    return row < ROWS ? (struct pair){PAIRS[row].region, PAIRS[row].number + 1} : down_end;
+}
+
+static void expect_cursor(const struct reader *r, struct pair wanted) {
+    expect("the cursor's region", r->cursor->region, wanted.region);
+    expect("the cursor's number", r->cursor->number, wanted.number);
+}
+
 /* Walks the whole block, and keeps the cursor before each step. */
 static void walk(struct reader *r, uint64_t order) {
     printf("%s:", name_of(order));
     expect("the opening", reopen(r, order), SLATEDB_GOOD);
+    expect_cursor(r, before(order, order == SLATEDB_ASCENDING ? 0 : ROWS - 1));
     for (size_t i = 0; i <= ROWS; i++) {
         cursors[order * HALF + i] = *r->cursor;
         cursor_keys[order * HALF + i] = r->key[0];
@@ -273,10 +301,16 @@ static void walk(struct reader *r, uint64_t order) {
             for (size_t keys_len = 0; keys_len <= ROWS + 1; keys_len++) many_rows(r, keys_len, most);
         }
         uint8_t code = step(r);
+        size_t row = order == SLATEDB_ASCENDING ? i : ROWS - 1 - i;
         expect("the step", code, i < ROWS ? SLATEDB_GOOD : SLATEDB_DONE);
-        if (code == SLATEDB_GOOD && i < ROWS) expect_row(r, order == SLATEDB_ASCENDING ? i : ROWS - 1 - i);
+        if (code == SLATEDB_GOOD && i < ROWS) {
+            expect_row(r, row);
+            /* descending the cursor stands where the row that was given starts */
+            expect_cursor(r, order == SLATEDB_ASCENDING ? before(order, row + 1) : PAIRS[row]);
+        }
         if (code == SLATEDB_DONE) printf(" done\n");
     }
+    expect_cursor(r, before(order, ROWS));
     expect("empty after done", is_empty(r), 1);
     expect("a step after the last one", step(r), SLATEDB_DONE);
 }
@@ -287,6 +321,7 @@ static void find(struct reader *r, uint64_t order, const char *target, size_t ro
     printf("%s to \"%s\":", name_of(order), target);
     expect("the opening", reopen(r, order), SLATEDB_GOOD);
     expect("the seek", seek(r, target), wanted);
+    expect_cursor(r, before(order, row));
     uint8_t code = step(r);
     expect("the step after the seek", code, wanted);
     if (code == SLATEDB_GOOD && row < ROWS) expect_row(r, row);
@@ -311,6 +346,51 @@ static void read_case(void) {
     find(&r, SLATEDB_DESCENDING, "", ROWS);
     find(&r, SLATEDB_ASCENDING, "", 0);
     take_back(0);
+}
+
+/* A region's start, by the offsets that it must have. */
+static uint64_t start_of(uint64_t region) {
+    return STARTS[INTERVAL * region];
+}
+
+/* Every cursor of the walks, with numbers that are true, that could be and that can't. A number that is 18 leaves all as it
+ * was; ascending another one is given as the row's and counted on. */
+static void wrong_numbers(void) {
+    static const uint64_t tries[] = {0, 1, 2, 3, 4, 5, UINT64_MAX / 12, UINT64_MAX / 12 + 1, (uint64_t)1 << 61, UINT64_MAX};
+    struct reader r = new_reader(block, BLOCK, 1);
+    for (size_t i = 0; i < STATES; i++)
+        for (size_t t = 0; t < sizeof tries / sizeof *tries; t++) {
+            uint64_t number = tries[t], passed = cursors[i].at - start_of(cursors[i].region);
+            int ascending = cursors[i].order == SLATEDB_ASCENDING;
+            int wrong = ascending ? (passed > 0 && number == 0) || number > passed / 12 : number != cursors[i].number;
+            *r.cursor = cursors[i];
+            r.cursor->number = number;
+            r.key[0] = cursor_keys[i];
+            many_rows(&r, ROWS, ROWS);
+            uint8_t code = step(&r);
+            expect("a wrong number", code == SLATEDB_BAD_STATE, wrong);
+            if (code == SLATEDB_GOOD && ascending) expect("a number taken at its word", r.row->number, number);
+            /* marked, no number is looked at */
+            *r.cursor = cursors[i];
+            r.cursor->number = number;
+            r.cursor->done = 1;
+            expect("a marked cursor", step(&r), SLATEDB_DONE);
+            expect("its number", r.cursor->number, number);
+        }
+    take_back(0);
+}
+
+/* Flags that can't be, in one row after another: opening backwards reads the last region, and no other. */
+static void bad_flags(void) {
+    for (size_t row = 0; row < ROWS; row++) {
+        uint8_t damaged[BLOCK];
+        memcpy(damaged, block, BLOCK);
+        damaged[(row + 1 < ROWS ? STARTS[row + 1] : DATA) - 1] = 9;
+        struct reader r = new_reader(damaged, BLOCK, 1);
+        expect("opening before bad flags", reopen(&r, SLATEDB_ASCENDING), SLATEDB_GOOD);
+        expect("opening after bad flags", reopen(&r, SLATEDB_DESCENDING), row / INTERVAL == RESTARTS - 1 ? SLATEDB_TOMBSTONE_WITH_MERGE : SLATEDB_GOOD);
+        take_back(0);
+    }
 }
 
 /* The same keys with other numbers, of which those of the three rows "b" count: the check asks that they fall. */
@@ -354,8 +434,8 @@ static void one_row(void) {
                                       count);
         expect("a row written", code, len == sizeof row ? SLATEDB_GOOD : SLATEDB_BUFFER_TOO_SMALL);
         if (code == SLATEDB_GOOD) expect("the row's bytes", *count == len && !memcmp(output, row, len), 1);
-        slatedb_row *read = lend(sizeof *read);
-        code = slatedb_decode(lend_copy(row, len), len, 0, slatedb_row_words(read), ROW);
+        slatedb_single *read = lend(sizeof *read);
+        code = slatedb_decode(lend_copy(row, len), len, 0, slatedb_single_words(read), SINGLE);
         expect("a row read", code, len == sizeof row ? SLATEDB_GOOD : SLATEDB_INPUT_ENDS);
         take_back(0);
     }
@@ -470,7 +550,7 @@ static const struct {
     size_t right[MOST];
 } CALLS[] = {
     {"encode", try_encode, {FIELDS}},
-    {"decode", try_decode, {ROW}},
+    {"decode", try_decode, {SINGLE}},
     {"builder_new", try_builder_new, {BUILDER}},
     {"builder_would_fit", try_builder_would_fit, {BUILDER, KEY, FIELDS}},
     {"builder_add", try_builder_add, {BUILDER, KEY, FIELDS}},
@@ -514,14 +594,27 @@ static void constants(void) {
 
 static uint64_t tried, accepted;
 
-/* An accepted block gives as many rows as the check counts; any block ends, since a step moves on. */
+/* The pair after this one ascending, as far as it is settled: the next of the region, or the first of the next region. */
+static int follows(struct pair now, struct pair before) {
+    return (now.region == before.region && now.number == before.number + 1) || (now.region == before.region + 1 && now.number == 0);
+}
+
+/* An accepted block gives as many rows as the check counts, and any block their pairs in order; any block ends, since a step
+ * moves on. */
 static void walk_damaged(struct reader *r, uint64_t order, uint8_t verdict, uint64_t rows) {
     uint8_t code = reopen(r, order);
     uint64_t steps = 0;
+    struct pair last = {0, 0};
     while (code == SLATEDB_GOOD && steps <= BLOCK) {
         code = step(r);
-        if (code == SLATEDB_GOOD) steps++;
+        if (code != SLATEDB_GOOD) break;
+        struct pair now = {r->row->region, r->row->number};
+        if (steps) expect("the next pair", order == SLATEDB_ASCENDING ? follows(now, last) : follows(last, now), 1);
+        if (!steps && order == SLATEDB_ASCENDING) expect("the first pair", now.region + now.number, 0);
+        last = now;
+        steps++;
     }
+    if (code == SLATEDB_DONE && order == SLATEDB_DESCENDING) expect("the last pair", last.region + last.number, 0);
     expect("a walk's end", code != SLATEDB_GOOD, 1);
     if (verdict != SLATEDB_GOOD || r->out_len < KEY) return;
     expect("the end of an accepted block", code, SLATEDB_DONE);
@@ -575,6 +668,8 @@ static void damage(size_t out_len) {
 int main(void) {
     build_case();
     read_case();
+    wrong_numbers();
+    bad_flags();
     newest_first();
     largest_row();
     most_restarts();

@@ -1,4 +1,4 @@
-/* Two debits are built into a block, which is checked; then the second one is sought and read. */
+/* Two debits are built into a block, which is checked; then the second one is sought and read, and its place told. */
 #include "slatedb_block.h"
 
 #include <stdio.h>
@@ -35,6 +35,7 @@ int main(void) {
                      SLATEDB_ROW_WORDS) != SLATEDB_GOOD) {
         return 1;
     }
-    printf("%d rows in %d bytes; found %.6s, seq %d\n", (int)rows, (int)len, (const char *)key, (int)row.seq);
+    printf("%d rows in %d bytes; found %.6s, seq %d, region %d, row %d\n", (int)rows, (int)len, (const char *)key, (int)row.seq,
+           (int)row.region, (int)row.number);
     return 0;
 }

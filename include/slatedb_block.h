@@ -54,11 +54,12 @@ extern "C" {
 
 /* How many words or bytes each lent array has. One of another length is refused with 254, and so is a word that stands for
  * one of several cases and is none of them. */
-#define SLATEDB_CURSOR_WORDS 5
+#define SLATEDB_CURSOR_WORDS 6
 #define SLATEDB_BUILDER_WORDS 6
 #define SLATEDB_KEY_BYTES 4096
 #define SLATEDB_FIELDS_WORDS 6
-#define SLATEDB_ROW_WORDS 13
+#define SLATEDB_SINGLE_WORDS 13
+#define SLATEDB_ROW_WORDS 15
 
 /* Lengths that always do: a value's, a row's bytes (lengths of 1, 2 and 3 bytes, the key, the value, sequence number, flags
  * and two times), the data of a block of one row, with its trailer, and the restarts of a block. */
@@ -75,13 +76,15 @@ extern "C" {
 #define SLATEDB_MERGE 2
 
 /* A cursor's words. The first key_len of its SLATEDB_KEY_BYTES key bytes, which the caller keeps beside them, are the key
- * before; those after it tell nothing, and a step or a seek may change them. */
+ * before; those after it tell nothing, and a step or a seek may change them. The number is set by slatedb_open, by a step
+ * that gives a row and by a seek, also one that says "done"; a step that says "done" leaves it. */
 typedef struct {
     uint64_t order;    /* SLATEDB_ASCENDING or SLATEDB_DESCENDING */
     uint64_t region;   /* the restart region that the cursor stands in */
     uint64_t at;       /* and its position there */
     uint64_t key_len;
     uint64_t done;     /* 1 once a step or a seek has said "done" */
+    uint64_t number;   /* how many rows of the region end at or before the position */
 } slatedb_cursor;
 
 /* A builder's words; the first last_key_len of its SLATEDB_KEY_BYTES key bytes are the last key. */
@@ -104,7 +107,7 @@ typedef struct {
     int64_t create;
 } slatedb_fields;
 
-/* A row that was read: its places in the input, and its fields. */
+/* A single row that was read: its places in the input, and its fields. */
 typedef struct {
     uint64_t start;        /* where the row starts */
     uint64_t next;         /* and where it ends */
@@ -119,13 +122,35 @@ typedef struct {
     int64_t expire;
     uint64_t has_create;
     int64_t create;
+} slatedb_single;
+
+/* A row that a step gives: the same, and which row of the block it is. On a block that slatedb_check accepts, with a cursor
+ * that was opened on it, no other row has this pair. */
+typedef struct {
+    uint64_t start;
+    uint64_t next;
+    uint64_t shared;
+    uint64_t suffix_at;
+    uint64_t suffix_len;
+    uint64_t kind;
+    uint64_t value_at;
+    uint64_t value_len;
+    uint64_t seq;
+    uint64_t has_expire;
+    int64_t expire;
+    uint64_t has_create;
+    int64_t create;
+    uint64_t region;       /* the restart region that the row stands in, from 0 */
+    uint64_t number;       /* and its number among that region's rows, from 0 */
 } slatedb_row;
 
 /* Each struct is its words and nothing else, and a length has 64 bits, as in the library. */
 SLATEDB_STATIC_ASSERT(sizeof(slatedb_cursor) == SLATEDB_CURSOR_WORDS * sizeof(uint64_t), "a cursor's words");
 SLATEDB_STATIC_ASSERT(sizeof(slatedb_builder) == SLATEDB_BUILDER_WORDS * sizeof(uint64_t), "a builder's words");
 SLATEDB_STATIC_ASSERT(sizeof(slatedb_fields) == SLATEDB_FIELDS_WORDS * sizeof(uint64_t), "the fields' words");
+SLATEDB_STATIC_ASSERT(sizeof(slatedb_single) == SLATEDB_SINGLE_WORDS * sizeof(uint64_t), "a single row's words");
 SLATEDB_STATIC_ASSERT(sizeof(slatedb_row) == SLATEDB_ROW_WORDS * sizeof(uint64_t), "a row's words");
+SLATEDB_STATIC_ASSERT(offsetof(slatedb_row, region) == sizeof(slatedb_single), "a row begins as a single one");
 SLATEDB_STATIC_ASSERT(sizeof(size_t) == 8, "a length has 64 bits in the library");
 
 /* A struct's words, to be lent with their number above: the compiler sees that it is the right struct. */
@@ -134,6 +159,7 @@ static inline const uint64_t *slatedb_cursor_const_words(const slatedb_cursor *c
 static inline uint64_t *slatedb_builder_words(slatedb_builder *builder) { return (uint64_t *)builder; }
 static inline const uint64_t *slatedb_builder_const_words(const slatedb_builder *builder) { return (const uint64_t *)builder; }
 static inline const uint64_t *slatedb_fields_words(const slatedb_fields *fields) { return (const uint64_t *)fields; }
+static inline uint64_t *slatedb_single_words(slatedb_single *single) { return (uint64_t *)single; }
 static inline uint64_t *slatedb_row_words(slatedb_row *row) { return (uint64_t *)row; } /* of an array of rows too */
 
 /* ---- one row */
@@ -146,9 +172,9 @@ uint8_t slatedb_encode(uint8_t *output, size_t output_len, size_t previous_len, 
                        const uint64_t *fields, size_t fields_len, uint64_t *count);
 
 /* Reads the row that starts the input, after a key of previous_len bytes: 254, then any of 9 to 13, 1, 2, 3. Bytes after
- * the row are allowed. */
+ * the row are allowed. It stands in no block, so it has no region and no number: `single` has SLATEDB_SINGLE_WORDS. */
 SLATEDB_MUST_USE
-uint8_t slatedb_decode(const uint8_t *input, size_t input_len, size_t previous_len, uint64_t *row, size_t row_len);
+uint8_t slatedb_decode(const uint8_t *input, size_t input_len, size_t previous_len, uint64_t *single, size_t single_len);
 
 /* ---- building a block: rows go into `data`, the restarts' offsets into `restarts`
  *
@@ -191,13 +217,23 @@ uint8_t slatedb_builder_build(const uint64_t *builder, size_t builder_len, uint8
 SLATEDB_MUST_USE
 uint8_t slatedb_check(const uint8_t *block, size_t block_len, uint64_t *count);
 
-/* A cursor before the first row, or descending after the last one: 254, 14, 15. Its key bytes need no setting. */
+/* A cursor before the first row: 254, 14, 15; no row is read, and its number is 0. Or, descending, after the last one: 254,
+ * 14, 15, then any of 9 to 13, 1, 2, 3 of the last region's rows, which are read, and its number is how many they are. Its
+ * key bytes need no setting. */
 SLATEDB_MUST_USE
 uint8_t slatedb_open(const uint8_t *block, size_t block_len, uint64_t order, uint64_t *cursor, size_t cursor_len);
 
 /* One step: 254, 14, 18, done if that was said before, then any of 15, 18, 9 to 13, 1, 2, 3, 16, and 19 last. Good gives the
  * row, and its key, of shared + suffix_len bytes, to the start of `out`, for which SLATEDB_KEY_BYTES always do; done: no
- * row is left, and both stay. */
+ * row is left, and both stay.
+ *
+ * The second 18 is for a position that is not in the region, and for a number that can't be. Ascending it is tested before
+ * the row is read: a number that is 0 past the region's start, or of which 12 times are more than the bytes passed there.
+ * Any other is taken at its word, given as the row's number and counted on. Descending it is tested after the rows that are
+ * read up to the position, against how many they are; at a region's start, where none are, it must be 0.
+ *
+ * Good sets the cursor's number too: ascending it is one more, or 0 where the row ended its region and the next one is
+ * entered; descending it is the given row's number. The row's region is where it stands, not where the cursor goes on. */
 SLATEDB_MUST_USE
 uint8_t slatedb_next(const uint8_t *block, size_t block_len, uint64_t *cursor, size_t cursor_len,
                      uint8_t *key_bytes, size_t key_bytes_len, uint8_t *out, size_t out_len, uint64_t *row, size_t row_len);
@@ -217,7 +253,8 @@ uint8_t slatedb_next_rows(const uint8_t *block, size_t block_len, uint64_t *curs
 /* Moves the cursor to the target, in its own order, from wherever it stands: 254, 14, then any of 15, 9 to 13, 1, 2, 3, 16.
  * On a block that slatedb_check accepts, good: the next step gives the first row at or above the target, or descending the
  * last at or below it; done: there is none. On any other block it may pass over that row, and never faults. *reads: how
- * many restart keys the search read, set for both. */
+ * many restart keys the search read, set for both; so is the cursor's number, whatever it was: with done it is the last
+ * region's row count, or descending 0. */
 SLATEDB_MUST_USE
 uint8_t slatedb_seek(const uint8_t *block, size_t block_len, const uint8_t *target, size_t target_len,
                      uint64_t *cursor, size_t cursor_len, uint8_t *key_bytes, size_t key_bytes_len, uint64_t *reads);

@@ -29,7 +29,7 @@ uint8_t slatedb_next_by_value(const uint8_t *block, size_t block_len, uint64_t *
 /* ---- compare_walks: walks over a whole block inside one call.
  *
  * Each opens the block in this order, 0 ascending or 1 descending, and steps at most `limit` times. It answers 0 after `limit`
- * rows, 255 for "done" before, the number of a refusal (slatedb_block.h: 14, 15, and what a step answers), and first of all
+ * rows, 255 for "done" before, the number of a refusal (slatedb_block.h: what opening and a step answer), and first of all
  * 254 for an order that is neither and for sums that are not SLATEDB_SUMS_WORDS. With 0 and 255 it has set the sums; with
  * another answer it has changed nothing. Both answer alike: their promise is one. */
 

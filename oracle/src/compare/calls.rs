@@ -1,6 +1,6 @@
 //! Calls of the C interface, and what the model says that each must answer: the code, and all lent memory after it.
 use model::builder::Builder;
-use model::cursor::{Cursor, Order};
+use model::cursor::{Cursor, Given, Order};
 use model::row::{self, Fields, Kind, Place, Row};
 use model::{check::check, refusal, varint, Key, Refusal, KEY_LIMIT};
 
@@ -8,10 +8,16 @@ pub const GOOD: u8 = 0;
 pub const BAD_WORDS: u8 = 254;
 pub const DONE: u8 = 255;
 
-const CURSOR_WORDS: usize = 5;
+pub const CURSOR_WORDS: usize = 6;
 const BUILDER_WORDS: usize = 6;
 const FIELDS_WORDS: usize = 6;
-const ROW_WORDS: usize = 13;
+/// A single row's; a row that a step gives has its region and its number after them.
+pub const SINGLE_WORDS: usize = 13;
+pub const ROW_WORDS: usize = 15;
+/// The places of a cursor's words that are spoken of by name.
+pub const KEY_LEN: usize = 3;
+pub const DONE_MARK: usize = 4;
+pub const NUMBER: usize = 5;
 const SUMS_WORDS: usize = 2;
 const VARINT_WORDS: usize = 2;
 const KEY_WORDS: usize = 3;
@@ -83,7 +89,7 @@ fn halves_of(bytes: &[u8]) -> Vec<u16> {
 
 pub fn cursor_words(cursor: &Cursor) -> [u64; CURSOR_WORDS] {
     let order = (cursor.order == Order::Descending) as u64;
-    [order, cursor.region as u64, cursor.at as u64, cursor.key.len as u64, cursor.done as u64]
+    [order, cursor.region as u64, cursor.at as u64, cursor.key.len as u64, cursor.done as u64, cursor.number as u64]
 }
 
 pub fn builder_words(b: &Builder) -> [u64; BUILDER_WORDS] {
@@ -95,10 +101,14 @@ pub fn fields_words(fields: &Fields) -> [u64; FIELDS_WORDS] {
     [fields.kind as u64, fields.seq, expire.is_some() as u64, expire.unwrap_or(0) as u64, create.is_some() as u64, create.unwrap_or(0) as u64]
 }
 
-fn row_words(row: &Row) -> Vec<u64> {
+fn single_words(row: &Row) -> Vec<u64> {
     let places = [row.start, row.next, row.shared, row.suffix_at, row.suffix_len].map(|place| place as u64);
     let fields = fields_words(&row.fields);
     [&places[..], &fields[..1], &[row.value_at as u64, row.value_len as u64], &fields[1..]].concat()
+}
+
+fn row_words(given: &Given) -> Vec<u64> {
+    [&single_words(&given.row)[..], &[given.region as u64, given.number as u64]].concat()
 }
 
 fn order_of(word: u64) -> Option<Order> {
@@ -114,8 +124,9 @@ fn key_of(len: u64, bytes: &[u8]) -> Option<Key> {
 }
 
 fn cursor_of(words: &[u64], key: &[u8]) -> Option<Cursor> {
-    let &[order, region, at, key_len, done] = words else { return None };
-    Some(Cursor { order: order_of(order)?, region: region as usize, at: at as usize, key: key_of(key_len, key)?, done: flag_of(done)? })
+    let &[order, region, at, key_len, done, number] = words else { return None };
+    let [region, at, number] = [region, at, number].map(|word| word as usize);
+    Some(Cursor { order: order_of(order)?, region, at, number, key: key_of(key_len, key)?, done: flag_of(done)? })
 }
 
 fn builder_of(words: &[u64], key: &[u8]) -> Option<Builder> {
@@ -210,9 +221,9 @@ fn encode(call: &Call, memory: &mut [Vec<u8>]) -> Answer {
 }
 
 fn decode(call: &Call, memory: &mut [Vec<u8>]) -> Answer {
-    exactly(&call.words(2), ROW_WORDS)?;
+    exactly(&call.words(2), SINGLE_WORDS)?;
     let row = row::decode(call.bytes(0), call.number(1) as usize)?;
-    memory[0] = bytes_of(&row_words(&row));
+    memory[0] = bytes_of(&single_words(&row));
     PLAIN
 }
 
@@ -275,12 +286,12 @@ fn open(call: &Call, memory: &mut [Vec<u8>]) -> Answer {
 fn next(call: &Call, memory: &mut [Vec<u8>]) -> Answer {
     exactly(&call.words(4), ROW_WORDS)?;
     let mut cursor = cursor_of(&call.words(1), call.bytes(2)).ok_or(BAD_WORDS)?;
-    let row = cursor.next(call.bytes(0), &mut memory[2])?;
+    let given = cursor.next(call.bytes(0), &mut memory[2])?;
     memory[0] = bytes_of(&cursor_words(&cursor));
     // "a step that says done sets only the mark"
-    let Some(row) = row else { return Ok((DONE, None)) };
+    let Some(given) = given else { return Ok((DONE, None)) };
     memory[1] = cursor.key.bytes.to_vec();
-    memory[3] = bytes_of(&row_words(&row));
+    memory[3] = bytes_of(&row_words(&given));
     Ok((GOOD, Some((1, cursor.key.len))))
 }
 
@@ -292,10 +303,10 @@ fn next_rows(call: &Call, memory: &mut [Vec<u8>]) -> Answer {
     while count < most {
         let before = cursor.clone();
         match cursor.next(call.bytes(0), &mut memory[2][used..]) {
-            Ok(Some(row)) => {
-                let words = bytes_of(&row_words(&row));
+            Ok(Some(given)) => {
+                let words = bytes_of(&row_words(&given));
                 memory[3][count * words.len()..][..words.len()].copy_from_slice(&words);
-                used += row.shared + row.suffix_len;
+                used += given.row.shared + given.row.suffix_len;
                 count += 1;
             }
             Ok(None) if count == 0 => {
@@ -346,7 +357,7 @@ fn walk(call: &Call, memory: &mut [Vec<u8>]) -> Answer {
     let (mut code, mut rows, mut sum) = (GOOD, 0, 0u64);
     while rows < limit && code == GOOD {
         match cursor.next(block, &mut out)? {
-            Some(row) => {
+            Some(Given { row, .. }) => {
                 rows += 1;
                 sum = sum.wrapping_add(amount(row.fields.seq, &out[..row.shared + row.suffix_len], row.value_len));
             }

@@ -334,7 +334,8 @@ impl Does {
 impl From<Told> for Does {
     /// What 01 says, and at the fault the Rust's way with it.
     fn from(told: Told) -> Does {
-        Does { opened: true, sought: told.sought, rows: told.rows, end: told.end.map(|known| known.rust) }
+        let rows = told.rows.into_iter().map(|named| named.row).collect();
+        Does { opened: true, sought: told.sought, rows, end: told.end.map(|known| known.rust) }
     }
 }
 
@@ -345,11 +346,16 @@ pub struct Parting {
     pub rust: fn(&Asked) -> Does,
 }
 
-pub static PARTINGS: [Parting; 3] = [
+pub static PARTINGS: [Parting; 4] = [
     Parting {
-        name: "a first restart whose key the Rust can't read: opening it the Rust panics, 01 opens it",
+        name: "a first restart whose key the Rust can't read: opening it the Rust panics, 01 refuses where that row is read",
         holds: |asked| !opens(asked.data),
         rust: |_| Does::panics_at_opening(),
+    },
+    Parting {
+        name: "a last region that can't be read, descending: the Rust opens it and reads what it comes to, 02 refuses the opening",
+        holds: |asked| regions::opening_fault(asked).is_some(),
+        rust: |asked| regions::told_by(asked, before_first_greater).into(),
     },
     Parting {
         name: "an ascending seek that lands on a row with bad flags: the Rust shows them at the step after it, 01 refuses the seek",

@@ -1,8 +1,8 @@
 //! All small inputs: varints at every edge, all blocks of up to four rows over few keys, equal keys with all of few numbers, a few
 //! small blocks with every cursor, with keys read at every place and with each byte damaged.
-use crate::calls::bytes_of;
+use crate::calls::{bytes_of, ROW_WORDS};
 use crate::reading::{self, Arrays, Op};
-use crate::{building, refused, rows, Run};
+use crate::{building, forged, refused, rows, Run};
 use model::row::Place;
 use model::KEY_LIMIT;
 use slate_oracle::direct::{self, Row};
@@ -144,24 +144,35 @@ fn wrong_words(run: &mut Run) {
     }
 }
 
-/// Every direction, region, position, mark and some keys.
+/// Every direction, region, position and mark, some keys and numbers: with the true number all of them, with others a few.
 fn every_cursor(run: &mut Run, block: &[u8]) {
+    const LIMIT: u64 = KEY_LIMIT as u64;
     let count = u16::from_be_bytes([block[block.len() - 2], block[block.len() - 1]]) as u64;
-    for at in 0..block.len() as u64 + 2 {
-        for (order, region) in [0, 1].into_iter().flat_map(|order| (0..=count).map(move |region| (order, region))) {
-            for (key_len, done) in [(0, 0), (1, 0), (2, 0), (KEY_LIMIT as u64, 0), (KEY_LIMIT as u64 + 1, 0), (0, 1), (KEY_LIMIT as u64 + 1, 1)] {
-                let key = vec![b'a'; KEY_LIMIT];
-                let cursor = Arrays { cursor: bytes_of(&[order, region, at, key_len, done]), key };
-                for out_len in [1, 2] {
-                    cursor.clone().next(run, block, out_len);
-                }
-                for (keys_len, words) in [(0, 13), (1, 12), (3, 26), (5, 39), (9, 80)] {
-                    cursor.next_rows(run, block, keys_len, words);
-                }
-                cursor.is_empty(run, block);
+    for (at, region) in (0..block.len() as u64 + 2).flat_map(|at| (0..=count).map(move |region| (at, region))) {
+        let numbers = forged::numbers(block, region, at);
+        let cursor = |order, key_len, done, number| Arrays { cursor: bytes_of(&[order, region, at, key_len, done, number]), key: vec![b'a'; KEY_LIMIT] };
+        for order in [0, 1] {
+            for (key_len, done) in [(0, 0), (1, 0), (2, 0), (LIMIT, 0), (LIMIT + 1, 0), (0, 1), (LIMIT + 1, 1)] {
+                every_call(run, block, cursor(order, key_len, done, numbers[0]));
+            }
+            for (number, (key_len, done)) in numbers[1..].iter().flat_map(|number| [(0, 0), (1, 0), (0, 1)].map(|rest| (*number, rest))) {
+                let forged = cursor(order, key_len, done, number);
+                forged.clone().next(run, block, 2);
+                forged.next_rows(run, block, 5, 3 * ROW_WORDS);
+                forged.is_empty(run, block);
             }
         }
     }
+}
+
+fn every_call(run: &mut Run, block: &[u8], cursor: Arrays) {
+    for out_len in [1, 2] {
+        cursor.clone().next(run, block, out_len);
+    }
+    for (keys_len, words) in [(0, ROW_WORDS), (1, ROW_WORDS - 1), (3, 2 * ROW_WORDS), (5, 3 * ROW_WORDS), (9, 6 * ROW_WORDS + 2)] {
+        cursor.next_rows(run, block, keys_len, words);
+    }
+    cursor.is_empty(run, block);
 }
 
 /// Each byte set to what means something somewhere, and each cut at the front and at the end.
@@ -189,8 +200,10 @@ fn moved_offsets(run: &mut Run) {
             any_block(run, &block, &targets);
             for at in [0, 1, 12, 13, 14, 26, 39, 40] {
                 for (order, region) in [0, 1].into_iter().flat_map(|order| (0..=3).map(move |region| (order, region))) {
-                    let cursor = Arrays { cursor: bytes_of(&[order, region, at, 1, 0]), key: vec![b'a'; KEY_LIMIT] };
-                    cursor.clone().next(run, &block, 1);
+                    for number in forged::numbers(&block, region, at) {
+                        let words = bytes_of(&[order, region, at, 1, 0, number]);
+                        Arrays { cursor: words, key: vec![b'a'; KEY_LIMIT] }.next(run, &block, 1);
+                    }
                 }
             }
         }

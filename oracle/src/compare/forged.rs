@@ -1,9 +1,9 @@
 //! States and words that no call gave: the library and the model only.
 use crate::building::{self, scramble};
-use crate::calls::{bytes_of, bytes_of_halves, words_of, Arg, Function};
+use crate::calls::{bytes_of, bytes_of_halves, words_of, Arg, Function, CURSOR_WORDS, DONE_MARK, NUMBER, ROW_WORDS, SINGLE_WORDS};
 use crate::inputs::{any_key, below, good_row, one_in, pick, short_key};
-use crate::reading::{Arrays, Op};
-use crate::{rows, Run};
+use crate::reading::{self, Arrays, Op};
+use crate::{regions, rows, Run};
 use model::{INTERVAL_LIMIT, KEY_LIMIT, MOST_RESTARTS};
 use slate_oracle::direct::Row;
 
@@ -22,7 +22,7 @@ fn key_bytes(run: &mut Run, len: u64) -> Vec<u8> {
 
 /// A length that is seldom another than it must be.
 fn length(run: &mut Run, right: usize) -> usize {
-    if one_in(&mut run.rng, 12) { pick(&mut run.rng, &[0, right - 1, right + 1, 2 * right]) } else { right }
+    if one_in(&mut run.rng, 12) { pick(&mut run.rng, &[0, right - 1, right + 1, 2 * right, SINGLE_WORDS, ROW_WORDS]) } else { right }
 }
 
 fn resized(run: &mut Run, bytes: &[u8], right: usize, unit: usize) -> Vec<u8> {
@@ -41,7 +41,7 @@ pub fn cursors(run: &mut Run, block: &[u8], starts: &[usize], targets: &[Vec<u8>
         if one_in(&mut run.rng, 6) {
             wrong_words(run, block, &cursor, out_len);
         } else {
-            let words = below(&mut run.rng, 60);
+            let words = below(&mut run.rng, 5 * ROW_WORDS);
             cursor.next_rows(run, block, 2 * out_len, words);
             cursor.apply(run, block, &op, out_len);
         }
@@ -50,6 +50,22 @@ pub fn cursors(run: &mut Run, block: &[u8], starts: &[usize], targets: &[Vec<u8>
 
 fn pick_target(targets: &[Vec<u8>]) -> Vec<u8> {
     targets.first().cloned().unwrap_or_default()
+}
+
+/// Numbers for a cursor at this place, the one that the tables count first: then its neighbours, none, a twelfth of the bytes
+/// passed and one more, and huge ones, of which 12 times are no more than 64 bits can say, more, or small again.
+pub fn numbers(block: &[u8], region: u64, at: u64) -> Vec<u64> {
+    let known = usize::try_from(region).ok().and_then(|region| regions::region_of(block, region));
+    let (right, passed) = known.map_or((0, at), |region| (region.ended_by(at as usize) as u64, at.saturating_sub(region.start as u64)));
+    let twelfth = passed / 12;
+    let wrapping = 1 << 62 | right;
+    let mut numbers = vec![right];
+    for number in [right.saturating_sub(1), right + 1, 0, twelfth, twelfth + 1, wrapping, u64::MAX / 12 + 1, u64::MAX] {
+        if !numbers.contains(&number) {
+            numbers.push(number);
+        }
+    }
+    numbers
 }
 
 fn cursor(run: &mut Run, block: &[u8], starts: &[usize]) -> Arrays {
@@ -61,23 +77,45 @@ fn cursor(run: &mut Run, block: &[u8], starts: &[usize]) -> Arrays {
     let key_len = pick(&mut run.rng, &[0, 0, 1, 2, 5, LIMIT - 1, LIMIT, LIMIT + 1, any]);
     let region = if one_in(&mut run.rng, 4) { around(run, count) } else { below(&mut run.rng, count.max(1) as usize) as u64 };
     let at = if one_in(&mut run.rng, 3) { anywhere } else { start };
-    let mut words = [run.rng.next() % 2, region, at, key_len, one_in(&mut run.rng, 12) as u64];
+    let numbers = numbers(block, region, at);
+    let number = if one_in(&mut run.rng, 3) { pick(&mut run.rng, &numbers) } else { numbers[0] };
+    let mut words = [run.rng.next() % 2, region, at, key_len, one_in(&mut run.rng, 12) as u64, number];
     if one_in(&mut run.rng, 15) {
         // right, were it cut to 32 bits
-        words[1 + below(&mut run.rng, 3)] |= 1 << 32;
+        words[pick(&mut run.rng, &[1, 2, 3, NUMBER])] |= 1 << 32;
     }
     Arrays { cursor: bytes_of(&words), key: key_bytes(run, key_len) }
+}
+
+/// A cursor that was opened and stepped so often, or sought with, and then given every such number: one step, and steps that count
+/// on from it.
+pub fn numbers_on_the_way(run: &mut Run, block: &[u8], order: u64, steps: usize, target: Option<&[u8]>) {
+    let Ok(mut cursor) = reading::open(run, block, order) else { return };
+    if let Some(target) = target {
+        cursor.seek(run, block, target);
+    }
+    for _ in 0..steps {
+        cursor.next(run, block, KEY_LIMIT);
+    }
+    let mut words = words_of(&cursor.cursor);
+    for number in numbers(block, words[1], words[2]) {
+        words[NUMBER] = number;
+        let mut forged = Arrays { cursor: bytes_of(&words), ..cursor.clone() };
+        forged.next_rows(run, block, KEY_LIMIT, 3 * ROW_WORDS);
+        forged.next(run, block, KEY_LIMIT);
+        forged.is_empty(run, block);
+    }
 }
 
 /// Wrong numbers of words and key bytes, and words that stand for no case: 254.
 fn wrong_words(run: &mut Run, block: &[u8], cursor: &Arrays, out_len: usize) {
     let mut words = words_of(&cursor.cursor);
     let any = run.rng.next();
-    let place = pick(&mut run.rng, &[0, 4]);
+    let place = pick(&mut run.rng, &[0, DONE_MARK]);
     words[place] = pick(&mut run.rng, &[0, 1, 2, 3, 256, u64::MAX, any]);
-    let words = resized(run, &bytes_of(&words), 5, 8);
+    let words = resized(run, &bytes_of(&words), CURSOR_WORDS, 8);
     let key = resized(run, &cursor.key, KEY_LIMIT, 1);
-    let row_words = length(run, 13) * 8;
+    let row_words = length(run, ROW_WORDS) * 8;
     let (out, row) = (run.pattern(out_len), run.pattern(row_words));
     let block = Arg::Read(block.to_vec());
     let lent = |bytes: &[u8]| Arg::Written(bytes.to_vec());
@@ -169,7 +207,7 @@ fn wrong_builder_words(run: &mut Run, arrays: &building::Arrays, row: &Row) {
     let output = run.pattern(200);
     let head = [lent(&output), Arg::Number(3), Arg::Number(2)];
     run.call(kind, Function::Encode, [&head[..], &row_args, &[lent(&bytes_of(&[4]))]].concat());
-    let row_words = length(run, 13) * 8;
+    let row_words = length(run, SINGLE_WORDS) * 8;
     let words = run.pattern(row_words);
     run.call(kind, Function::Decode, vec![read(&arrays.data), Arg::Number(3), lent(&words)]);
 }

@@ -1,8 +1,9 @@
 //! Cursors over one block: opened, stepped, asked and sought with.
 use crate::building::scramble;
-use crate::calls::{amount, bytes_of, words_of, Arg, Expected, Function, DONE, GOOD};
+use crate::calls::{amount, bytes_of, words_of, Arg, Expected, Function, CURSOR_WORDS, DONE, GOOD, KEY_LEN, NUMBER, ROW_WORDS};
 use crate::guest::short_hex;
-use crate::{regions, Run};
+use crate::regions::{self, Named, Region};
+use crate::Run;
 use model::{refusal, KEY_LIMIT};
 use slate_oracle::direct::{self, Opened, Row, Stop};
 
@@ -13,14 +14,27 @@ pub enum Op {
     Seek(Vec<u8>),
 }
 
-/// What an operation answers, as both the Rust and 01 can say it.
+/// What an operation answers, as both the Rust and 01 can say it; of a row that is given, here also which one it is.
 #[derive(Clone, Debug, PartialEq, Eq)]
-pub enum Word {
-    Given(Row),
+pub enum Word<Given> {
+    Given(Given),
     Done,
     Empty(bool),
     Sought,
     Refused(u8),
+}
+
+impl Word<Named> {
+    /// As the Rust says it, which knows no pairs.
+    fn unnamed(self) -> Word<Row> {
+        match self {
+            Word::Given(named) => Word::Given(named.row),
+            Word::Done => Word::Done,
+            Word::Empty(empty) => Word::Empty(empty),
+            Word::Sought => Word::Sought,
+            Word::Refused(code) => Word::Refused(code),
+        }
+    }
 }
 
 /// The memory that a caller of the C interface keeps for a cursor.
@@ -47,7 +61,7 @@ pub fn check(run: &mut Run, block: &[u8]) -> u8 {
 }
 
 pub fn open(run: &mut Run, block: &[u8], order: u64) -> Result<Arrays, u8> {
-    let words = run.pattern(5 * 8);
+    let words = run.pattern(CURSOR_WORDS * 8);
     let answer = run.call("cursor opened", Function::Open, vec![Arg::Read(block.to_vec()), Arg::Number(order), Arg::Written(words)]);
     if answer.code != GOOD {
         return Err(answer.code);
@@ -58,8 +72,8 @@ pub fn open(run: &mut Run, block: &[u8], order: u64) -> Result<Arrays, u8> {
 
 impl Arrays {
     /// A step in both ways, with a lent key buffer of this length.
-    pub fn next(&mut self, run: &mut Run, block: &[u8], out_len: usize) -> Word {
-        let (out, row) = (run.pattern(out_len), run.pattern(13 * 8));
+    pub fn next(&mut self, run: &mut Run, block: &[u8], out_len: usize) -> Word<Named> {
+        let (out, row) = (run.pattern(out_len), run.pattern(ROW_WORDS * 8));
         let lent = [&self.cursor, &self.key, &out, &row].map(|bytes| Arg::Written(bytes.clone()));
         let args = [&[Arg::Read(block.to_vec())][..], &lent].concat();
         run.call("step by value", Function::NextByValue, args.clone());
@@ -82,7 +96,7 @@ impl Arrays {
         let singly = self.rows_singly(run, block, keys, rows);
         let kind = "many rows in a call, and one call a row";
         // the carried key's bytes count as far as it goes
-        let carried = words_of(&singly.memory[0]).get(3).map_or(0, |&len| len as usize).min(self.key.len());
+        let carried = words_of(&singly.memory[0]).get(KEY_LEN).map_or(0, |&len| len as usize).min(self.key.len());
         let settled = |answer: &Expected| {
             let mut memory = answer.memory.clone();
             memory[1].truncate(carried);
@@ -98,16 +112,16 @@ impl Arrays {
 
     fn rows_singly(&self, run: &mut Run, block: &[u8], mut keys: Vec<u8>, mut rows: Vec<u8>) -> Expected {
         let (mut cursor, mut key) = (self.cursor.clone(), self.key.clone());
-        let (most, mut count, mut used, mut code) = (rows.len() / (13 * 8), 0, 0, GOOD);
+        let (most, mut count, mut used, mut code) = (rows.len() / (ROW_WORDS * 8), 0, 0, GOOD);
         while count < most && code == GOOD {
-            let row = run.pattern(13 * 8);
+            let row = run.pattern(ROW_WORDS * 8);
             let lent = [&cursor, &key, &keys[used..].to_vec(), &row].map(|bytes| Arg::Written(bytes.clone()));
             let step = run.call("step of many", Function::Next, [&[Arg::Read(block.to_vec())][..], &lent].concat());
             code = step.code;
             if code == GOOD {
                 (cursor, key) = (step.memory[0].clone(), step.memory[1].clone());
                 keys[used..].copy_from_slice(&step.memory[2]);
-                rows[count * 13 * 8..][..13 * 8].copy_from_slice(&step.memory[3]);
+                rows[count * ROW_WORDS * 8..][..ROW_WORDS * 8].copy_from_slice(&step.memory[3]);
                 let words = words_of(&step.memory[3]);
                 used += (words[2] + words[4]) as usize;
                 count += 1;
@@ -123,7 +137,7 @@ impl Arrays {
         Expected { code, memory: vec![cursor, key, keys, rows, count], key: None }
     }
 
-    pub fn seek(&mut self, run: &mut Run, block: &[u8], target: &[u8]) -> Word {
+    pub fn seek(&mut self, run: &mut Run, block: &[u8], target: &[u8]) -> Word<Named> {
         let args = vec![
             Arg::Read(block.to_vec()),
             Arg::Read(target.to_vec()),
@@ -136,14 +150,14 @@ impl Arrays {
         if matches!(answer.code, GOOD | DONE) { Word::Sought } else { Word::Refused(answer.code) }
     }
 
-    pub fn is_empty(&self, run: &mut Run, block: &[u8]) -> Word {
+    pub fn is_empty(&self, run: &mut Run, block: &[u8]) -> Word<Named> {
         let args = vec![Arg::Read(block.to_vec()), Arg::Read(self.cursor.clone()), Arg::Written(bytes_of(&[9]))];
         let answer = run.call("cursor asked whether it is empty", Function::IsEmpty, args);
         if answer.code == GOOD { Word::Empty(answer.memory[0][0] == 1) } else { Word::Refused(answer.code) }
     }
 
-    pub fn apply(&mut self, run: &mut Run, block: &[u8], op: &Op, out_len: usize) -> Word {
-        let key_len = words_of(&self.cursor)[3];
+    pub fn apply(&mut self, run: &mut Run, block: &[u8], op: &Op, out_len: usize) -> Word<Named> {
+        let key_len = words_of(&self.cursor)[KEY_LEN];
         scramble(run, &mut self.key, key_len);
         match op {
             Op::Next => self.next(run, block, out_len),
@@ -154,17 +168,26 @@ impl Arrays {
 }
 
 /// The row that the words tell of, with its bytes.
-fn given(block: &[u8], words: &[u64], out: &[u8]) -> Row {
-    let &[_, _, shared, _, suffix_len, kind, value_at, value_len, seq, has_expire, expire, has_create, create] = words else {
-        panic!("a row has 13 words")
+fn given(block: &[u8], words: &[u64], out: &[u8]) -> Named {
+    let &[_, _, shared, _, suffix_len, kind, value_at, value_len, seq, has_expire, expire, has_create, create, region, number] = words else {
+        panic!("a row has {ROW_WORDS} words")
     };
     let key = out[..(shared + suffix_len) as usize].to_vec();
     let value = block[value_at as usize..(value_at + value_len) as usize].to_vec();
     let time = |has: u64, time: u64| (has == 1).then_some(time as i64);
-    Row { key, kind: kind as u8, value, seq, expire: time(has_expire, expire), create: time(has_create, create) }
+    let row = Row { key, kind: kind as u8, value, seq, expire: time(has_expire, expire), create: time(has_create, create) };
+    Named { region: region as usize, number: number as usize, row }
 }
 
-fn rust_word(iterator: &mut direct::Iterator, op: &Op) -> Result<Word, Stop> {
+/// Whether the pair of a row that is given names it among the rows that the tables read, and the cursor's number is true after it.
+fn rightly_named(regions: &[Region], answer: &Word<Named>, cursor: &[u64]) -> bool {
+    let row_is = |named: &Named| regions.get(named.region).and_then(|region| region.rows.get(named.number)) == Some(&named.row);
+    let stands_in = regions.get(cursor[1] as usize);
+    let number_is = stands_in.is_some_and(|region| region.ended_by(cursor[2] as usize) as u64 == cursor[NUMBER]);
+    number_is && if let Word::Given(named) = answer { row_is(named) } else { true }
+}
+
+fn rust_word(iterator: &mut direct::Iterator, op: &Op) -> Result<Word<Row>, Stop> {
     Ok(match op {
         Op::Next => iterator.next()?.map_or(Word::Done, Word::Given),
         Op::IsEmpty => Word::Empty(iterator.is_empty()),
@@ -172,31 +195,42 @@ fn rust_word(iterator: &mut direct::Iterator, op: &Op) -> Result<Word, Stop> {
     })
 }
 
-/// The same operations on one cursor and one iterator of the Rust, over a block that the check accepts: nothing may differ.
+/// The same operations on one cursor and one iterator of the Rust, over a block that the check accepts: nothing may differ but
+/// what the Rust does not tell, which row it is. That is held to the tables.
 pub fn walk_accepted(run: &mut Run, kind: &'static str, block: &[u8], order: u64, ops: &[Op]) {
     let mut cursor = open(run, block, order).expect("an accepted block opens");
     let opened = Opened::new(block).expect("an accepted block");
     let mut iterator = opened.iterator(order == 1).expect("an accepted block");
+    let (regions, _) = regions::regions(block);
     for (i, op) in ops.iter().enumerate() {
+        let asked = || format!("order {order}, block {}, ops {:?}", short_hex(block), &ops[..=i]);
         let here = cursor.apply(run, block, op, KEY_LIMIT);
+        let words = words_of(&cursor.cursor);
+        if rightly_named(&regions, &here, &words) {
+            run.tally.same(NAMED);
+        } else {
+            run.tally.differs(NAMED, block.len() + 8 * i, || format!("{}: {here:?}, cursor {words:?}", asked()));
+        }
         let rust = rust_word(&mut iterator, op);
+        let here = here.unnamed();
         if rust.as_ref() == Ok(&here) {
             run.tally.same(kind);
         } else {
-            let asked = || format!("order {order}, block {}, ops {:?}", short_hex(block), &ops[..=i]);
             run.tally.differs(kind, block.len() + 8 * i, || format!("{}: {here:?}, Rust {rust:?}", asked()));
             return;
         }
     }
 }
 
+const NAMED: &str = "which row it is, and the cursor's number (the tables)";
+
 /// All rows of a block by many in a call, with buffers of every length up to enough for all.
 pub fn rows_in_short_buffers(run: &mut Run, block: &[u8], order: u64, rows: usize, key_bytes: usize) {
     let Ok(cursor) = open(run, block, order) else { return };
     for keys_len in 0..=key_bytes + 1 {
-        cursor.next_rows(run, block, keys_len, 13 * (rows + 1));
+        cursor.next_rows(run, block, keys_len, ROW_WORDS * (rows + 1));
     }
-    for words in (0..=rows + 1).flat_map(|rows| [13 * rows, 13 * rows + 12]) {
+    for words in (0..=rows + 1).flat_map(|rows| [ROW_WORDS * rows, ROW_WORDS * (rows + 1) - 1]) {
         cursor.next_rows(run, block, key_bytes, words);
     }
 }
@@ -238,16 +272,24 @@ pub fn walks_accepted(run: &mut Run, block: &[u8], order: u64, limits: &[u64]) {
     }
 }
 
+/// Where opening would leave a cursor, had it not refused the block: a seek tests only the offsets that it uses, and a step only
+/// those and the rows of its region, so both may answer where opening refuses.
+fn unopened(run: &mut Run, block: &[u8], order: u64) -> Arrays {
+    let (region, at) = regions::last(block).filter(|_| order == 1).unwrap_or((0, 0));
+    let number = regions::region_of(block, region).map_or(0, |region| region.ended_by(at));
+    let words = [order, region as u64, at as u64, 0, 0, number as u64];
+    Arrays { cursor: bytes_of(&words), key: run.pattern(KEY_LIMIT) }
+}
+
 /// Operations on a block that may be refused: the library and the model only. Each goes on from the state that came back.
 pub fn walk_any(run: &mut Run, block: &[u8], order: u64, ops: &[Op], out_len: usize) {
     let mut cursor = match open(run, block, order) {
         Ok(cursor) => cursor,
-        // a seek tests only the offsets that it uses, so it may answer where opening refuses
-        Err(_) => Arrays { cursor: bytes_of(&[order, 0, 0, 0, 0]), key: run.pattern(KEY_LIMIT) },
+        Err(_) => unopened(run, block, order),
     };
     for op in ops {
         cursor.apply(run, block, op, out_len);
-        cursor.next_rows(run, block, 3 * out_len, 13 * 3 + 1);
+        cursor.next_rows(run, block, 3 * out_len, ROW_WORDS * 3 + 1);
     }
     walks(run, block, order, u64::MAX);
 }

@@ -2,16 +2,16 @@
 //! opening and steps, a seek is opening, the seek and steps.
 use crate::differences::{self, Does, Known, Rust, TRAILER};
 use crate::guest::short_hex;
-use crate::regions::{self, Asked, Told};
+use crate::regions::{self, Asked, Named, Told};
 use crate::rows::row_at;
 use crate::Run;
-use model::cursor::{Cursor, Order};
+use model::cursor::{Cursor, Given, Order};
 use model::{Refusal, KEY_LIMIT};
 use slate_oracle::direct::{Opened, Row, Stop};
 
-/// The rows up to the end, and what ended them: None is "done".
+/// The rows up to the end, each with the pair that names it, and what ended them: None is "done".
 struct Here {
-    rows: Vec<Row>,
+    rows: Vec<Named>,
     end: Option<Refusal>,
     sought: bool,
 }
@@ -32,8 +32,8 @@ fn model_tells(block: &[u8], order: Order, target: Option<&[u8]>) -> Here {
         }
         sought = true;
         let mut key = [0; KEY_LIMIT];
-        while let Some(row) = cursor.next(block, &mut key)? {
-            rows.push(row_at(block, &row, &key[..row.shared + row.suffix_len]));
+        while let Some(Given { region, number, row }) = cursor.next(block, &mut key)? {
+            rows.push(Named { region, number, row: row_at(block, &row, &key[..row.shared + row.suffix_len]) });
         }
         Ok(())
     };

@@ -12,11 +12,28 @@ pub struct Fault {
     pub key: Option<Vec<u8>>,
 }
 
-/// A region's good rows, read from its start, the first fault, and its restart's key, read alone.
+/// A region's good rows, read from its start, and where they end, the first fault, and its restart's key, read alone.
 pub struct Region {
-    rows: Vec<Row>,
+    pub start: usize,
+    pub rows: Vec<Row>,
+    ends: Vec<usize>,
     fault: Option<Fault>,
     key: Result<Vec<u8>, Fault>,
+}
+
+impl Region {
+    /// How many of its rows end at or before a position.
+    pub fn ended_by(&self, at: usize) -> usize {
+        self.ends.iter().filter(|end| **end <= at).count()
+    }
+}
+
+/// A row, and which one it is: its region, and its number there.
+#[derive(Clone, Debug, PartialEq, Eq)]
+pub struct Named {
+    pub region: usize,
+    pub number: usize,
+    pub row: Row,
 }
 
 /// What is asked of a block with a good trailer: a scan, or a seek to the target and the rows after it.
@@ -31,7 +48,7 @@ pub struct Asked<'a> {
 #[derive(Debug, PartialEq)]
 pub struct Told {
     pub sought: bool,
-    pub rows: Vec<Row>,
+    pub rows: Vec<Named>,
     pub end: Option<Known>,
 }
 
@@ -44,7 +61,7 @@ fn restart_key(place: &Place) -> Result<Vec<u8>, Fault> {
 
 fn region(data: &[u8], start: usize, end: usize) -> Region {
     let mut place = Place { data, at: start, previous_len: 0, restart: true, region_end: end };
-    let mut region = Region { rows: Vec::new(), fault: None, key: restart_key(&place) };
+    let mut region = Region { start, rows: Vec::new(), ends: Vec::new(), fault: None, key: restart_key(&place) };
     let mut previous = Vec::new();
     while place.at < end {
         if let Some(known) = differences::row_fault(&place) {
@@ -55,6 +72,7 @@ fn region(data: &[u8], start: usize, end: usize) -> Region {
         let (row, next) = differences::row_and_end(&place, &previous);
         previous = row.key.clone();
         region.rows.push(row);
+        region.ends.push(next);
         place = Place { at: next, previous_len: previous.len(), restart: false, ..place };
     }
     region
@@ -68,6 +86,22 @@ pub fn regions(block: &[u8]) -> (Vec<Region>, &[u8]) {
     (offsets.iter().zip(ends).map(|(start, end)| region(data, *start, *end)).collect(), data)
 }
 
+/// The number of the last region, and the data's length, of a block with a good count.
+pub fn last(block: &[u8]) -> Option<(usize, usize)> {
+    let bad = differences::first(&differences::TRAILER[..3], &block.to_vec()).is_some();
+    let offsets = || differences::offsets(block);
+    (!bad).then(|| (offsets().0.len() - 1, offsets().1))
+}
+
+/// One region, whatever the other offsets are; None if there is none of that number, or its own two offsets are no bounds.
+pub fn region_of(block: &[u8], number: usize) -> Option<Region> {
+    last(block)?;
+    let (offsets, data_len) = differences::offsets(block);
+    let start = *offsets.get(number)?;
+    let end = *offsets.get(number + 1).unwrap_or(&data_len);
+    (start < end && end <= data_len).then(|| region(&block[..data_len], start, end))
+}
+
 // ---- the check
 
 /// How many rows the block has, or what is wrong with it: its trailer and offsets, then in the order of the rows a fault, or a row
@@ -75,37 +109,43 @@ pub fn regions(block: &[u8]) -> (Vec<Region>, &[u8]) {
 pub fn verdict(block: &[u8]) -> Result<usize, Known> {
     differences::first(&differences::TRAILER, &block.to_vec()).map_or(Ok(()), Err)?;
     let (regions, _) = regions(block);
-    let told = onward(&regions);
-    let falls = |pair: &[Row]| differences::first(&differences::ORDER, &(pair[0].clone(), pair[1].clone()));
+    let told = onward(&regions, 0);
+    let falls = |pair: &[Named]| differences::first(&differences::ORDER, &(pair[0].row.clone(), pair[1].row.clone()));
     told.rows.windows(2).find_map(falls).map_or(Ok(()), Err)?;
     told.end.map_or(Ok(told.rows.len()), Err)
 }
 
 // ---- scans
 
-fn ended(rows: Vec<Row>, fault: Option<&Fault>) -> Told {
+fn ended(rows: Vec<Named>, fault: Option<&Fault>) -> Told {
     Told { sought: true, rows, end: fault.map(|fault| fault.known) }
 }
 
-/// All rows of these regions up to the first fault.
-fn onward(regions: &[Region]) -> Told {
+/// The rows of a region, numbered from 0.
+fn named(regions: &[Region], region: usize) -> Vec<Named> {
+    regions[region].rows.iter().enumerate().map(|(number, row)| Named { region, number, row: row.clone() }).collect()
+}
+
+/// All rows from this region on, up to the first fault.
+fn onward(regions: &[Region], first: usize) -> Told {
     let mut rows = Vec::new();
-    for region in regions {
-        rows.extend(region.rows.iter().cloned());
-        if region.fault.is_some() {
-            return ended(rows, region.fault.as_ref());
+    for region in first..regions.len() {
+        rows.extend(named(regions, region));
+        if regions[region].fault.is_some() {
+            return ended(rows, regions[region].fault.as_ref());
         }
     }
     ended(rows, None)
 }
 
-/// These rows, then back through all rows of these regions: one with a fault, since it is read from its start, gives none.
-fn backward(mut rows: Vec<Row>, regions: &[Region]) -> Told {
-    for region in regions.iter().rev() {
-        if region.fault.is_some() {
-            return ended(rows, region.fault.as_ref());
+/// These rows, then back through all rows of the regions before this one: one with a fault, since it is read from its start,
+/// gives none.
+fn backward(mut rows: Vec<Named>, regions: &[Region], before: usize) -> Told {
+    for region in (0..before).rev() {
+        if regions[region].fault.is_some() {
+            return ended(rows, regions[region].fault.as_ref());
         }
-        rows.extend(region.rows.iter().rev().cloned());
+        rows.extend(named(regions, region).into_iter().rev());
     }
     ended(rows, None)
 }
@@ -166,7 +206,7 @@ fn sought_back(regions: &[Region], target: &[u8], pick: Pick) -> Result<Told, Fa
         let region = &regions[number];
         region.fault.clone().map_or(Ok(()), Err)?;
         if let Some(row) = pick(&region.rows, target) {
-            return Ok(backward(region.rows[..=row].iter().rev().cloned().collect(), &regions[..number]));
+            return Ok(backward(named(regions, number).drain(..=row).rev().collect(), regions, number));
         }
     }
     Ok(ended(Vec::new(), None))
@@ -174,23 +214,33 @@ fn sought_back(regions: &[Region], target: &[u8], pick: Pick) -> Result<Told, Fa
 
 fn sought_on(regions: &[Region], target: &[u8]) -> Result<Told, Fault> {
     let Some((number, row)) = first_not_below(regions, target)? else { return Ok(ended(Vec::new(), None)) };
-    let mut told = onward(&regions[number..]);
+    let mut told = onward(regions, number);
     told.rows.drain(..row);
     Ok(told)
 }
 
-/// The whole answer, where a descending seek takes a row so.
+/// The whole answer of a cursor that was opened without reading a row, where a descending seek takes a row so.
 pub fn told_by(asked: &Asked, pick: Pick) -> Told {
     let told = match (asked.target, asked.order) {
-        (None, Order::Ascending) => Ok(onward(asked.regions)),
-        (None, Order::Descending) => Ok(backward(Vec::new(), asked.regions)),
+        (None, Order::Ascending) => Ok(onward(asked.regions, 0)),
+        (None, Order::Descending) => Ok(backward(Vec::new(), asked.regions, asked.regions.len())),
         (Some(target), Order::Ascending) => sought_on(asked.regions, target),
         (Some(target), Order::Descending) => sought_back(asked.regions, target, pick),
     };
-    told.unwrap_or_else(|fault| Told { sought: false, rows: Vec::new(), end: Some(fault.known) })
+    told.unwrap_or_else(|fault| unread(fault.known))
 }
 
-/// The whole answer, by 01.
+fn unread(known: Known) -> Told {
+    Told { sought: false, rows: Vec::new(), end: Some(known) }
+}
+
+/// "Opening backwards now reads the last region and may give its row refusals."
+pub fn opening_fault(asked: &Asked) -> Option<Known> {
+    let last = asked.regions.last().filter(|_| asked.order == Order::Descending)?;
+    last.fault.as_ref().map(|fault| fault.known)
+}
+
+/// The whole answer, by 01 and 02.
 pub fn told(asked: &Asked) -> Told {
-    told_by(asked, last_not_above)
+    opening_fault(asked).map_or_else(|| told_by(asked, last_not_above), unread)
 }

@@ -1,4 +1,5 @@
 //! Rounds of inputs by chance, and the edges by name.
+use crate::calls::ROW_WORDS;
 use crate::inputs::{self, any_row, below, one_in, pick};
 use crate::reading::{self, Op};
 use crate::{building, forged, refused, rows, Run};
@@ -147,6 +148,9 @@ fn good_block(run: &mut Run, block: &[u8], keys: &[Vec<u8>]) {
         let out_len = pick(&mut run.rng, &[0, 1, 2, 3, 4, 5, 1_024, KEY_LIMIT - 1]);
         reading::walk_any(run, block, order, &mixed, out_len);
         many_rows(run, block, order, keys);
+        let (steps, target) = (below(&mut run.rng, keys.len() + 2), inputs::target(&mut run.rng, keys));
+        forged::numbers_on_the_way(run, block, order, steps, None);
+        forged::numbers_on_the_way(run, block, order, 0, Some(&target));
     }
     if !accepted {
         let targets = targets(run, keys, 4);
@@ -159,11 +163,11 @@ fn good_block(run: &mut Run, block: &[u8], keys: &[Vec<u8>]) {
 fn many_rows(run: &mut Run, block: &[u8], order: u64, keys: &[Vec<u8>]) {
     let Ok(mut cursor) = reading::open(run, block, order) else { return };
     let all: usize = keys.iter().map(Vec::len).sum();
-    cursor.next_rows(run, block, all, 13 * (keys.len() + 1));
+    cursor.next_rows(run, block, all, ROW_WORDS * (keys.len() + 1));
     let target = inputs::target(&mut run.rng, keys);
     cursor.seek(run, block, &target);
     for _ in 0..3 {
-        let (keys_len, words) = (below(&mut run.rng, all + 2), below(&mut run.rng, 13 * (keys.len() + 2)));
+        let (keys_len, words) = (below(&mut run.rng, all + 2), below(&mut run.rng, ROW_WORDS * (keys.len() + 2)));
         cursor.next_rows(run, block, keys_len, words);
     }
 }
@@ -172,8 +176,8 @@ fn many_rows(run: &mut Run, block: &[u8], order: u64, keys: &[Vec<u8>]) {
 fn starts(block: &[u8]) -> Vec<usize> {
     let mut starts = vec![0];
     if let Ok(mut cursor) = model::cursor::Cursor::open(block, model::cursor::Order::Ascending) {
-        while let Ok(Some(row)) = cursor.next(block, &mut [0; KEY_LIMIT]) {
-            starts.push(row.next);
+        while let Ok(Some(given)) = cursor.next(block, &mut [0; KEY_LIMIT]) {
+            starts.push(given.row.next);
         }
     }
     starts

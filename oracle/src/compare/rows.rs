@@ -1,5 +1,5 @@
 //! Varints, single rows and keys of rows, written and read.
-use crate::calls::{bytes_of, fields_words, words_of, Arg, Expected, Function, GOOD};
+use crate::calls::{bytes_of, fields_words, words_of, Arg, Expected, Function, GOOD, SINGLE_WORDS};
 use crate::differences::{self, Encode, Rust};
 use crate::guest::short_hex;
 use crate::Run;
@@ -87,7 +87,7 @@ pub fn write_row(run: &mut Run, previous_len: usize, shared: usize, row: &Row, o
 
 /// The row that starts the input, and its key alone.
 pub fn read_row(run: &mut Run, input: &[u8], previous_len: usize) {
-    let words = run.pattern(13 * 8);
+    let words = run.pattern(SINGLE_WORDS * 8);
     run.call("row read", Function::Decode, vec![Arg::Read(input.to_vec()), Arg::Number(previous_len as u64), Arg::Written(words)]);
     let place = Place { data: input, at: 0, previous_len, restart: false, region_end: input.len() };
     let kind = "row read (Rust)";
