@@ -30,13 +30,21 @@ fn debits_of(block: &[u8], card: u64, retry: u64) -> Result<Vec<RowEntry>, Refus
         .collect()
 }
 
+/// What an agent quotes on the phone: the row's sequence number, and where it stands.
+fn quoted(row: &RowEntry) -> String {
+    let place = row.region().zip(row.number());
+    place.map_or_else(String::new, |(region, number)| {
+        format!("{} in region {region}, row {number}", row.seq)
+    })
+}
+
 fn say(block: &[u8], card: u64, retry: u64) -> Result<(), Refusal> {
     let found = debits_of(block, card, retry)?;
-    let seqs: Vec<u64> = found.iter().map(|row| row.seq).collect();
+    let rows = found.iter().map(quoted).collect::<Vec<_>>().join("; ");
     match found.len() {
         0 => println!("card {card}, retry {retry}: absent, to be debited"),
-        1 => println!("card {card}, retry {retry}: present as {seqs:?}, not to be debited again"),
-        n => println!("card {card}, retry {retry}: debited {n} times, as {seqs:?}: call the desk"),
+        1 => println!("card {card}, retry {retry}: present as {rows}: not to be debited again"),
+        n => println!("card {card}, retry {retry}: debited {n} times, as {rows}: call the desk"),
     }
     Ok(())
 }

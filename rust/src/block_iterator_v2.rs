@@ -1,3 +1,5 @@
+use std::fmt;
+
 use crate::ffi;
 use crate::iter::IterationOrder;
 use crate::refusal::{good, good_or_done, Refusal};
@@ -9,7 +11,7 @@ use crate::types::RowEntry;
 /// read too: nothing panics, and a row that can't be read is refused, but a seek may pass over the row that it is to find.
 pub struct BlockIteratorV2<B: AsRef<[u8]>> {
     block: B,
-    cursor: [u64; ffi::CURSOR_WORDS],
+    cursor: ffi::Cursor,
     // the key before, which the next row shares bytes with
     key: Box<[u8; ffi::KEY_BYTES]>,
     // the key of the row that is given
@@ -18,10 +20,11 @@ pub struct BlockIteratorV2<B: AsRef<[u8]>> {
 }
 
 impl<B: AsRef<[u8]>> BlockIteratorV2<B> {
-    /// Before the first row, or descending after the last. Refuses a block with a bad trailer or bad offsets.
+    /// Before the first row, or descending after the last. Refuses a block with a bad trailer or bad offsets; descending it
+    /// reads the last region, to know the number of its last row, and refuses one that can't be read.
     pub fn new(block: B, ordering: IterationOrder) -> Result<Self, Refusal> {
-        let mut cursor = [0; ffi::CURSOR_WORDS];
-        good(ffi::open(block.as_ref(), ordering.word(), &mut cursor))?;
+        let mut cursor = ffi::Cursor::default();
+        good(ffi::open(block.as_ref(), ordering.word(), cursor.words_mut()))?;
         Ok(Self {
             block,
             cursor,
@@ -36,14 +39,15 @@ impl<B: AsRef<[u8]>> BlockIteratorV2<B> {
     }
 
     /// The next row; None when no row is left, and then again and again. A refused step moves nothing, so that the next one is
-    /// refused too; `for` loops end after it.
+    /// refused too; `for` loops end after it. The row says which one of the block it is: [`RowEntry::region`] and
+    /// [`RowEntry::number`].
     #[allow(clippy::should_implement_trait)] // slatedb's shape; Iterator is implemented too
     pub fn next(&mut self) -> Result<Option<RowEntry>, Refusal> {
         let block = self.block.as_ref();
         let mut row = [0; ffi::ROW_WORDS];
         let code = ffi::next(
             block,
-            &mut self.cursor,
+            self.cursor.words_mut(),
             &mut self.key[..],
             &mut self.row_key[..],
             &mut row,
@@ -59,22 +63,13 @@ impl<B: AsRef<[u8]>> BlockIteratorV2<B> {
     /// row is left. A row that is refused ends them; the refusal is answered where no row comes before it.
     pub fn next_rows(&mut self, most: usize) -> Result<Vec<RowEntry>, Refusal> {
         let block = self.block.as_ref();
-        let (mut keys, mut rows, mut count) = (
-            vec![0; most * ffi::KEY_BYTES],
-            vec![0; most * ffi::ROW_WORDS],
-            0,
-        );
+        let (mut keys, mut rows, mut count) = (vec![0; most * ffi::KEY_BYTES], vec![0; most * ffi::ROW_WORDS], 0);
         let given = ffi::Given {
             keys: &mut keys,
             rows: &mut rows,
             count: &mut count,
         };
-        good_or_done(ffi::next_rows(
-            block,
-            &mut self.cursor,
-            &mut self.key[..],
-            given,
-        ))?;
+        good_or_done(ffi::next_rows(block, self.cursor.words_mut(), &mut self.key[..], given))?;
         let mut rest = &keys[..];
         let each = rows.chunks_exact(ffi::ROW_WORDS).take(count as usize);
         Ok(each
@@ -96,7 +91,7 @@ impl<B: AsRef<[u8]>> BlockIteratorV2<B> {
         let code = ffi::seek(
             self.block.as_ref(),
             next_key,
-            &mut self.cursor,
+            self.cursor.words_mut(),
             &mut self.key[..],
             &mut reads,
         );
@@ -108,9 +103,19 @@ impl<B: AsRef<[u8]>> BlockIteratorV2<B> {
     /// As slatedb's: ascending, true as soon as the last row was given; descending, once `next` or `seek` found no row.
     pub fn is_empty(&self) -> bool {
         let mut empty = 0;
-        let code = ffi::is_empty(self.block.as_ref(), &self.cursor, &mut empty);
+        let code = ffi::is_empty(self.block.as_ref(), self.cursor.words(), &mut empty);
         // only a bad trailer is refused, which a block has that lends other bytes than when it was opened: `next` tells it
         good(code).is_ok() && empty == 1
+    }
+}
+
+/// Where it stands: the region, the position there, and how many rows of the region end at or before it. The block's bytes are
+/// left out.
+impl<B: AsRef<[u8]>> fmt::Debug for BlockIteratorV2<B> {
+    fn fmt(&self, f: &mut fmt::Formatter<'_>) -> fmt::Result {
+        f.debug_struct("BlockIteratorV2")
+            .field("cursor", &self.cursor)
+            .finish_non_exhaustive()
     }
 }
 

@@ -9,11 +9,11 @@
 pub(crate) const GOOD: u8 = 0;
 pub(crate) const DONE: u8 = 255;
 
-pub(crate) const CURSOR_WORDS: usize = 5;
+pub(crate) const CURSOR_WORDS: usize = 6;
 pub(crate) const BUILDER_WORDS: usize = 6;
 pub(crate) const KEY_BYTES: usize = 4096;
 pub(crate) const FIELDS_WORDS: usize = 6;
-pub(crate) const ROW_WORDS: usize = 13;
+pub(crate) const ROW_WORDS: usize = 15;
 
 pub(crate) const ASCENDING: u64 = 0;
 pub(crate) const DESCENDING: u64 = 1;
@@ -44,6 +44,31 @@ extern "C" {
     fn slatedb_seek(block: *const u8, block_len: usize, target: *const u8, target_len: usize,
         cursor: *mut u64, cursor_len: usize, key_bytes: *mut u8, key_bytes_len: usize, reads: *mut u64) -> u8;
     fn slatedb_is_empty(block: *const u8, block_len: usize, cursor: *const u64, cursor_len: usize, empty: *mut u64) -> u8;
+}
+
+/// A cursor's words by their names: the header's `slatedb_cursor`.
+#[derive(Clone, Copy, Debug, Default, PartialEq, Eq)]
+#[repr(C)]
+pub(crate) struct Cursor {
+    pub order: u64,
+    pub region: u64,
+    pub at: u64,
+    pub key_len: u64,
+    pub done: u64,
+    pub number: u64,
+}
+
+// it is its words and nothing else
+const _: () = assert!(std::mem::size_of::<Cursor>() == CURSOR_WORDS * std::mem::size_of::<u64>());
+
+impl Cursor {
+    pub(crate) fn words(&self) -> &[u64; CURSOR_WORDS] {
+        unsafe { &*(self as *const Cursor).cast() }
+    }
+
+    pub(crate) fn words_mut(&mut self) -> &mut [u64; CURSOR_WORDS] {
+        unsafe { &mut *(self as *mut Cursor).cast() }
+    }
 }
 
 /// What is offered to a builder.

@@ -56,8 +56,9 @@ fn constants_are_the_headers() {
     for (name, number) in constants {
         assert_eq!(defined(&definitions, name).number, number, "{name}");
     }
-    // and it has no others but lengths that always do: buffers grow here
-    let others = definitions.iter().filter(|definition| !definition.name.starts_with("MOST_")).count();
+    // and it has no others but lengths that always do, since buffers grow here, and a single row's, which nothing here reads
+    let unused = |name: &str| name.starts_with("MOST_") || name == "SINGLE_WORDS";
+    let others = definitions.iter().filter(|definition| !unused(definition.name)).count();
     assert_eq!(others, constants.len() + Refusal::ALL.len());
 }
 
@@ -152,15 +153,93 @@ fn buffers_and_states_6_18_19() {
     );
     assert_eq!(builder_build(&builder, &mut data, &restarts, &mut count), GOOD);
 
-    let (mut cursor, mut row) = ([0; CURSOR_WORDS], [0; ROW_WORDS]);
-    assert_eq!(open(&data, ASCENDING, &mut cursor), GOOD);
+    let (mut cursor, mut row) = (Cursor::default(), [0; ROW_WORDS]);
+    assert_eq!(open(&data, ASCENDING, cursor.words_mut()), GOOD);
     assert_eq!(
-        next(&data, &mut cursor, &mut key, &mut [], &mut row),
+        next(&data, cursor.words_mut(), &mut key, &mut [], &mut row),
         Refusal::KeyBufferTooShort.number()
     );
-    cursor[1] = 1;
+    cursor.region = 1;
     assert_eq!(
-        next(&data, &mut cursor, &mut key, &mut [0], &mut row),
+        next(&data, cursor.words_mut(), &mut key, &mut [0], &mut row),
         Refusal::BadState.number()
     );
+}
+
+/// Two rows of key "a" in one region, of 13 and 12 bytes, and their trailer.
+const TWO_ROWS: [u8; 29] = [
+    0, 1, 0, b'a', 0, 0, 0, 0, 0, 0, 0, 1, 0, 1, 0, 0, 0, 0, 0, 0, 0, 0, 0, 0, 0, 0, 0, 0, 1,
+];
+
+/// One step from there, with a key buffer of so many bytes. The cursor comes back, and the row's last two words.
+fn stepped(mut cursor: Cursor, out_len: usize) -> (u8, Cursor, [u64; 2]) {
+    let (mut key, mut out, mut row) = ([b'a'; KEY_BYTES], vec![0; out_len], [77; ROW_WORDS]);
+    let code = next(&TWO_ROWS, cursor.words_mut(), &mut key, &mut out, &mut row);
+    (code, cursor, [row[ROW_WORDS - 2], row[ROW_WORDS - 1]])
+}
+
+fn opened(order: u64) -> Cursor {
+    let mut cursor = Cursor::default();
+    assert_eq!(open(&TWO_ROWS, order, cursor.words_mut()), GOOD);
+    cursor
+}
+
+#[test]
+fn a_cursor_counts_the_rows_before_it() {
+    let up = opened(ASCENDING);
+    assert_eq!((up.region, up.at, up.number), (0, 0, 0));
+    let (code, up, pair) = stepped(up, 1);
+    assert_eq!((code, pair, up.at, up.number), (GOOD, [0, 0], 13, 1));
+    let (code, up, pair) = stepped(up, 1);
+    assert_eq!((code, pair, up.at, up.number), (GOOD, [0, 1], 25, 2));
+    assert_eq!(stepped(up, 1), (DONE, Cursor { done: 1, ..up }, [77; 2]));
+
+    let down = opened(DESCENDING);
+    assert_eq!((down.region, down.at, down.number), (0, 25, 2));
+    let (code, down, pair) = stepped(down, 1);
+    assert_eq!((code, pair, down.at, down.number), (GOOD, [0, 1], 13, 1));
+    let (code, down, pair) = stepped(down, 1);
+    assert_eq!((code, pair, down.at, down.number), (GOOD, [0, 0], 0, 0));
+    assert_eq!(stepped(down, 1), (DONE, Cursor { done: 1, ..down }, [77; 2]));
+}
+
+/// A number that can't be is 18, and a refused step, this or another, leaves it; a marked cursor's is not looked at.
+#[test]
+fn a_wrong_number_18() {
+    let bad = Refusal::BadState.number();
+    for (order, at, right) in [(ASCENDING, 13, 1), (DESCENDING, 13, 1), (DESCENDING, 25, 2)] {
+        for number in [0, 1, 2, 3, u64::MAX / 12 + 1, 1 << 62, u64::MAX] {
+            let cursor = Cursor {
+                at,
+                number,
+                key_len: 1,
+                ..opened(order)
+            };
+            let code = if number == right { GOOD } else { bad };
+            assert_eq!(stepped(cursor, 1).0, code, "{number} at {at}");
+            if code != GOOD {
+                assert_eq!(stepped(cursor, 1).1, cursor);
+            }
+            assert_eq!(stepped(cursor, 0).1, cursor);
+            let marked = Cursor { done: 1, ..cursor };
+            assert_eq!(stepped(marked, 0), (DONE, marked, [77; 2]));
+        }
+    }
+    // ascending, one that could be is taken at its word
+    let cursor = Cursor {
+        at: 25,
+        number: 1,
+        key_len: 1,
+        ..opened(ASCENDING)
+    };
+    assert_eq!(stepped(cursor, 1), (DONE, Cursor { done: 1, ..cursor }, [77; 2]));
+    // at a region's start it must be 0, before anything is done
+    for order in [ASCENDING, DESCENDING] {
+        let cursor = Cursor {
+            at: 0,
+            number: 1,
+            ..opened(order)
+        };
+        assert_eq!(stepped(cursor, 1), (bad, cursor, [77; 2]));
+    }
 }

@@ -8,6 +8,7 @@
 //!   `Result` too. A row that doesn't fit stays `Ok(false)`.
 //! - [`check`] is added: whether a whole block is good. `seek` answers how many restart keys its search read. `build` gives the
 //!   encoded block. `new_with_restart_interval`, which slatedb has for tests, is for all.
+//! - A row that is read says which one of its block it is: [`RowEntry::region`] and [`RowEntry::number`].
 //! - [`journal`] is added: the switch's journal, over the proved static library `slatedb_journal`.
 
 #![deny(unsafe_code)]

@@ -1,7 +1,8 @@
 use crate::ffi;
 
-/// A row: a key, and what it stands for.
-#[derive(Debug, Clone, PartialEq, Eq)]
+/// A row: a key, and what it stands for. One that was read from a block also says where it stood there; of two rows that hold
+/// the same it makes no difference, so they are equal.
+#[derive(Debug, Clone)]
 pub struct RowEntry {
     pub key: Vec<u8>,
     /// The value, which may be a regular value, a merge operand, or a tombstone.
@@ -11,7 +12,21 @@ pub struct RowEntry {
     pub create_ts: Option<i64>,
     /// The expiration timestamp (if set).
     pub expire_ts: Option<i64>,
+    region: Option<usize>,
+    number: Option<usize>,
 }
+
+impl PartialEq for RowEntry {
+    fn eq(&self, other: &Self) -> bool {
+        self.key == other.key
+            && self.value == other.value
+            && self.seq == other.seq
+            && self.create_ts == other.create_ts
+            && self.expire_ts == other.expire_ts
+    }
+}
+
+impl Eq for RowEntry {}
 
 impl RowEntry {
     pub fn new(key: Vec<u8>, value: ValueDeletable, seq: u64, create_ts: Option<i64>, expire_ts: Option<i64>) -> Self {
@@ -21,6 +36,8 @@ impl RowEntry {
             seq,
             create_ts,
             expire_ts,
+            region: None,
+            number: None,
         }
     }
 
@@ -50,6 +67,17 @@ impl RowEntry {
         }
     }
 
+    /// Of a row that was read from a block: its restart region there, from 0. No other row of a block that
+    /// [`check`](crate::check) accepts has both this region and this [`number`](Self::number).
+    pub fn region(&self) -> Option<usize> {
+        self.region
+    }
+
+    /// Of a row that was read from a block: its number among the rows of its [`region`](Self::region), from 0.
+    pub fn number(&self) -> Option<usize> {
+        self.number
+    }
+
     /// What is offered to the library beside key and value.
     pub(crate) fn fields(&self) -> [u64; ffi::FIELDS_WORDS] {
         let (has_expire, expire) = time_words(self.expire_ts);
@@ -59,14 +87,16 @@ impl RowEntry {
 
     /// From a row's words, its key, and the block that its places are in.
     pub(crate) fn read(words: [u64; ffi::ROW_WORDS], key: &[u8], block: &[u8]) -> Self {
-        let [_start, _next, shared, _suffix_at, suffix_len, kind, value_at, value_len, seq, times @ ..] = words;
-        let [has_expire, expire, has_create, create] = times;
+        let [_start, _next, shared, _suffix_at, suffix_len, kind, value_at, value_len, seq, rest @ ..] = words;
+        let [has_expire, expire, has_create, create, region, number] = rest;
         Self {
             key: key[..(shared + suffix_len) as usize].to_vec(),
             value: ValueDeletable::read(kind, &block[value_at as usize..][..value_len as usize]),
             seq,
             create_ts: time(has_create, create),
             expire_ts: time(has_expire, expire),
+            region: Some(region as usize),
+            number: Some(number as usize),
         }
     }
 }
