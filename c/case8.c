@@ -348,6 +348,9 @@ static void read_case(void) {
     take_back(0);
 }
 
+/* 12 times this is 0 in 64 bits. */
+#define WRAPS ((uint64_t)1 << 62)
+
 /* A region's start, by the offsets that it must have. */
 static uint64_t start_of(uint64_t region) {
     return STARTS[INTERVAL * region];
@@ -356,7 +359,7 @@ static uint64_t start_of(uint64_t region) {
 /* Every cursor of the walks, with numbers that are true, that could be and that can't. A number that is 18 leaves all as it
  * was; ascending another one is given as the row's and counted on. */
 static void wrong_numbers(void) {
-    static const uint64_t tries[] = {0, 1, 2, 3, 4, 5, UINT64_MAX / 12, UINT64_MAX / 12 + 1, (uint64_t)1 << 61, UINT64_MAX};
+    static const uint64_t tries[] = {0, 1, 2, 3, 4, 5, UINT64_MAX / 12, UINT64_MAX / 12 + 1, WRAPS, WRAPS + 1, UINT64_MAX};
     struct reader r = new_reader(block, BLOCK, 1);
     for (size_t i = 0; i < STATES; i++)
         for (size_t t = 0; t < sizeof tries / sizeof *tries; t++) {

@@ -1016,7 +1016,8 @@ fn counted(block: &[u8], order: Order, region: usize, at: usize, number: usize) 
     Ok(answer?.map(|given| (given.region, given.number, cursor.number)))
 }
 
-const HUGE: [usize; 4] = [usize::MAX, usize::MAX / 12, usize::MAX / 12 + 1, 1 << 61];
+/// Of the last two 12 times are 0 and 12, were they cut to 64 bits.
+const HUGE: [usize; 5] = [usize::MAX, usize::MAX / 12, usize::MAX / 12 + 1, 1 << 62, (1 << 62) + 1];
 
 /// "One that is 0 past the region's start or above a twelfth of the bytes passed there."
 #[test]
