@@ -1,5 +1,5 @@
 -- Where an ascending cursor goes on: the bytes of rows and the region, once the tests of a step that come before the row are passed. All 0 where one is not.
-use Prim.Native.Nat.{ℕ, _<_, _≤_}
+use Prim.Native.Nat.{ℕ, _-_, _<_, _≤_}
 use mathlib.Core.Path.{_≡_, refl, ap, sym, _∙_}
 use mathlib.Core.Bool.{true, false}
 use mathlib.Core.List.{List}
@@ -9,6 +9,7 @@ use borrow.Author.Tests.{lt-ltb, le-ltb, le-leb, lt-leb, ltb-false, leb-false}
 use Rattle.layout.specs.Res.{Res, ok, refuse, bind, guard}
 use Rattle.layout.specs.Limits.{maxKey}
 use Rattle.layout.specs.Trailer.{Trailer, trailerIs, trailerOf, Region, regionIs, regionOf}
+use Rattle.layout.specs.Number.{wrongAfter}
 use Rattle.layout.specs.Cursor.{Direction, ascending, descending, Cursor}
 use Rattle.layout.specs.Laws.Res.{bind-then, guard-then, ok-inj}
 use Rattle.trailer.specs.Says.{regionFrom}
@@ -36,7 +37,8 @@ goesOn c b =
     (guard (ltb maxKey (c .keyLen)) 18
     (bind (regionOf b t (c .region)) λ g.
     guard (ltb (c .at) (g .start)) 18
-    (ok (stretchIs (t .size) g)))))
+    (guard (wrongAfter (c .at - g .start) (c .number)) 18
+    (ok (stretchIs (t .size) g))))))
 
 abbrev pub goesAlong : Direction → Cursor → List ℕ → Res Stretch
 goesAlong ascending c b = goesOn c b
@@ -85,9 +87,14 @@ module _ (c : Cursor) (b : List ℕ) where
               unfolding goesOn
               none-before w = rw (up, m, e, lt-leb (t .count) (c .region) h, le-ltb maxKey (c .keyLen) k, q, lt-ltb (c .at) (g .start) w)
 
-              pub some-stretch : g .start ≤ c .at → stretchIs (t .size) g ≡ stretchOf c b
-              unfolding goesOn
-              some-stretch w = rw (up, m, e, lt-leb (t .count) (c .region) h, le-ltb maxKey (c .keyLen) k, q, le-ltb (c .at) (g .start) w)
+              module _ (w : g .start ≤ c .at) where
+                pub none-wrong : wrongAfter (c .at - g .start) (c .number) ≡ true → noStretch ≡ stretchOf c b
+                unfolding goesOn
+                none-wrong n = rw (up, m, e, lt-leb (t .count) (c .region) h, le-ltb maxKey (c .keyLen) k, q, le-ltb (c .at) (g .start) w, n)
+
+                pub some-stretch : wrongAfter (c .at - g .start) (c .number) ≡ false → stretchIs (t .size) g ≡ stretchOf c b
+                unfolding goesOn
+                some-stretch n = rw (up, m, e, lt-leb (t .count) (c .region) h, le-ltb maxKey (c .keyLen) k, q, le-ltb (c .at) (g .start) w, n)
 
 -- ---- what a stretch tells
 
@@ -101,6 +108,7 @@ pub record Inside (b : List ℕ) (size : ℕ) (g : Region) (c : Cursor) : Type 0
   pub few : c .keyLen ≤ maxKey
   pub bounds : regionOf b (trailerIs count size) (c .region) ≡ ok g
   pub from : g .start ≤ c .at
+  pub right : wrongAfter (c .at - g .start) (c .number) ≡ false
 
 pub stretch-inside : (c : Cursor) (b : List ℕ) {s : Stretch} → s ≡ stretchOf c b → (s .region .end ≡ 0 → ⊥) → Inside b (s .size) (s .region) c
 unfolding goesOn
@@ -114,8 +122,9 @@ stretch-inside c b {s} e z = along (c .order) refl (goesAlong (c .order) c b) re
         guard-then (ltb maxKey (c .keyLen)) 18 _ s q λ k q.
         bind-then (regionOf b t (c .region)) _ s q λ g e₂ q.
         guard-then (ltb (c .at) (g .start)) 18 _ s q λ w q.
+        guard-then (wrongAfter (c .at - g .start) (c .number)) 18 _ s q λ n q.
         rw (← ok-inj q)
-        (record { count = t .count; heads = d; unmarked = m; read = e₁; counted = leb-false (t .count) (c .region) h; few = ltb-false maxKey (c .keyLen) k; bounds = e₂; from = ltb-false (c .at) (g .start) w })
+        (record { count = t .count; heads = d; unmarked = m; read = e₁; counted = leb-false (t .count) (c .region) h; few = ltb-false maxKey (c .keyLen) k; bounds = e₂; from = ltb-false (c .at) (g .start) w; right = n })
 
     along : (d : Direction) → c .order ≡ d → (x : Res Stretch) → goesAlong d c b ≡ x → s ≡ orNone x → Inside b (s .size) (s .region) c
     along ascending d (ok y) q i = up d (q ∙ ap ok (sym i))

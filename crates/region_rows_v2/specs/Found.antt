@@ -27,26 +27,27 @@ use Rattle.step_in_place_v2.specs.declared.Moved.{Moved}
 use Rattle.step_in_place_v2.specs.declared.Moved.the-variants.{Found, Done, Refused}
 use Rattle.place_v2.specs.declared.Place.{Place}
 
--- a row found: the step from c to d, and its key, which stands at the start of the lent bytes then
-pub record Finds (b : List ℕ) (c d : Cursor) (r : RowRead) (out out′ : List ℕ) : Type 0 where
+-- a row found, with its region and its number there: the step from c to d, and its key, which stands at the start of the lent bytes then
+pub record Finds (b : List ℕ) (c d : Cursor) (region n : ℕ) (r : RowRead) (out out′ : List ℕ) : Type 0 where
   pub key : Key
-  pub is : next c b (length out) ≡ ok (stepIs d (found r key))
+  pub is : next c b (length out) ≡ ok (stepIs d (found region n r key))
   pub well : KeyedWell (length out) r key
   pub lent : out′ ≡ splice out 0 key
 
 module _ (b : List ℕ) (c d : Cursor) (out out′ : List ℕ) (long : c .keyLen ≤ maxKey → length (c .key) ≡ c .keyLen) where
-  found-so : (a : Answer) (r : RowRead) → next c b (length out) ≡ ok (stepIs d a) → ok (toldOf a) ≡ ok (row r) → out′ ≡ keyAfter (ok (stepIs d a)) out → Finds b c d r out out′
-  found-so (found s key) r e t o =
-      let same : s ≡ r = told-row (ok-inj t) in
-      rw (← same) (record { key = key; is = e; well = next-given c (stepIs d (found s key)) b (length out) long e; lent = o })
-  found-so done r e t o = absurd (told-apart (sym (ok-inj t)))
+  found-so : (a : Answer) (region n : ℕ) (r : RowRead) → next c b (length out) ≡ ok (stepIs d a) → ok (toldOf a) ≡ ok (row region n r) → out′ ≡ keyAfter (ok (stepIs d a)) out
+      → Finds b c d region n r out out′
+  found-so (found h m s key) region n r e t o =
+      let same = told-row (ok-inj t) in
+      rw (← same .0, ← same .1, ← same .2) (record { key = key; is = e; well = next-given c (stepIs d (found h m s key)) b (length out) long e; lent = o })
+  found-so done region n r e t o = absurd (told-apart (sym (ok-inj t)))
 
-  pub finds : (r : RowRead) → bind (next c b (length out)) told ≡ ok (row r) → d ≡ cursorAfter (next c b (length out)) c → out′ ≡ keyAfter (next c b (length out)) out
-      → Finds b c d r out out′
-  finds r t v o = go (next c b (length out)) refl t v o
+  pub finds : (region n : ℕ) (r : RowRead) → bind (next c b (length out)) told ≡ ok (row region n r) → d ≡ cursorAfter (next c b (length out)) c → out′ ≡ keyAfter (next c b (length out)) out
+      → Finds b c d region n r out out′
+  finds region n r t v o = go (next c b (length out)) refl t v o
     where
-      go : (want : Res Step) → next c b (length out) ≡ want → bind want told ≡ ok (row r) → d ≡ cursorAfter want c → out′ ≡ keyAfter want out → Finds b c d r out out′
-      go (ok s) e t v o = found-so (s .answer) r (e ∙ ap (λ (x : Cursor). ok (stepIs x (s .answer))) (sym v)) t o
+      go : (want : Res Step) → next c b (length out) ≡ want → bind want told ≡ ok (row region n r) → d ≡ cursorAfter want c → out′ ≡ keyAfter want out → Finds b c d region n r out out′
+      go (ok s) e t v o = found-so (s .answer) region n r (e ∙ ap (λ (x : Cursor). ok (stepIs x (s .answer))) (sym v)) t o
       go (refuse n) e t v o = absurd (apart (sym t))
 
 -- ---- "done", which writes no key, and a refusal
@@ -56,7 +57,7 @@ pub ends : (b : List ℕ) (c d : Cursor) (out out′ : List ℕ) → bind (next 
 ends b c d out out′ t v o = go (next c b (length out)) refl t v o
   where
     over : (a : Answer) → next c b (length out) ≡ ok (stepIs d a) → ok (toldOf a) ≡ ok none → out′ ≡ keyAfter (ok (stepIs d a)) out → (next c b (length out) ≡ ok (stepIs d done)) × (out′ ≡ out)
-    over (found r key) e t o = absurd (told-apart (ok-inj t))
+    over (found region n r key) e t o = absurd (told-apart (ok-inj t))
     over done e t o = (e, o)
 
     go : (want : Res Step) → next c b (length out) ≡ want → bind want told ≡ ok none → d ≡ cursorAfter want c → out′ ≡ keyAfter want out → (next c b (length out) ≡ ok (stepIs d done)) × (out′ ≡ out)
@@ -73,9 +74,9 @@ module _ (p : Place) (key b out : List ℕ) (r : Moved) (key′ out′ : List �
   whole : Moves (next (viewIn p key) b (length out)) p key out r key′ out′
   whole = rw (lent-whole p key b (length out) k refl) at m
 
-  pub moved-finds : {q : Place} {x : Row} → r ≡ Found q x → Finds b (viewIn p key) (viewIn q key′) (rowFrom x) out out′
-  moved-finds {q} {x} e =
-      finds b (viewIn p key) (viewIn q key′) out out′ (λ few. length-take-le (p .«key_len») key (omega (arith, few, k))) (rowFrom x) (yes saysMoved (whole .answer) e)
+  pub moved-finds : {q : Place} {region n : ℕ} {x : Row} → r ≡ Found q region n x → Finds b (viewIn p key) (viewIn q key′) region n (rowFrom x) out out′
+  moved-finds {q} {region} {n} {x} e =
+      finds b (viewIn p key) (viewIn q key′) out out′ (λ few. length-take-le (p .«key_len») key (omega (arith, few, k))) region n (rowFrom x) (yes saysMoved (whole .answer) e)
       (sym (ap (λ (y : Moved). viewIn (placeAfter y p) key′) e) ∙ whole .view) (whole .lent)
 
   pub moved-ends : {q : Place} → r ≡ Done q → (next (viewIn p key) b (length out) ≡ ok (stepIs (viewIn q key′) done)) × (out′ ≡ out)

@@ -20,6 +20,7 @@ use Rattle.layout.specs.Trailer.{trailerIs, Region, rowIn}
 use Rattle.layout.specs.Cursor.{Cursor, marked, found, done, stepIs, pastRow, next}
 use Rattle.layout.specs.Laws.Carry.{Carries, read-carried, keyOf-length, suffixOf, key-parts, key-new}
 use Rattle.layout.specs.Laws.Cursor.{next-up, up-done}
+use Rattle.layout.specs.Laws.Number.{right-tells, right-on}
 use Rattle.layout.specs.Laws.Plain.{PlainTells, plainAt-tells, fixedAt-is}
 use Rattle.layout.specs.Laws.PlainStep.{plain-reads, plain-step}
 use Rattle.layout.specs.Laws.Trailer.{trailerOf-tells}
@@ -45,9 +46,9 @@ pub record PlainFits (len at : ℕ) (r : PlainRow) : Type 0 where
 pub seq-read : (d : List ℕ) (at : ℕ) (r : PlainRow) {q : ℕ} → PlainFits (length d) at r → ReadsEight d (r .next - 9) q → q ≡ unbig (take 8 (drop (r .next - 9) d))
 seq-read d at r f e = e ∙ ap orZero (fixedAt-is 8 d (r .next - 9) (omega (arith, f .ends, f .inside)))
 
--- a place whose region, position and key length are set
-abbrev pub movedTo : Place → ℕ → ℕ → ℕ → Place
-movedTo p region at len = record { order = p .order; region = region; at = at; «key_len» = len; done = p .done }
+-- a place whose region, position, number and key length are set
+abbrev pub movedTo : Place → ℕ → ℕ → ℕ → ℕ → Place
+movedTo p region at n len = record { order = p .order; region = region; at = at; number = n; «key_len» = len; done = p .done }
 
 module _ (b : List ℕ) (size : ℕ) (g : Region) (p : Place) (key : List ℕ) (i : Inside b size g (viewIn p key)) {most : ℕ} (r : Plain) (m : most ≡ mayShare (eqb (p .at) (g .start)) (p .«key_len»)) (e : r ≡ plainAt (take size b) (p .at) (g .end) most) (h : r .next ≡ 0 → ⊥) where
   abbrev pub rowHere : RowRead
@@ -62,10 +63,10 @@ module _ (b : List ℕ) (size : ℕ) (g : Region) (p : Place) (key : List ℕ) (
   here-read : rowIn (take size b) g (p .at) (p .«key_len») ≡ ok rowHere
   here-read = plain-reads (take size b) (p .at) (g .end) (p .«key_len») (g .start) r m e (omega arith)
 
-  pub here-step : (room : ℕ) → r .shared + r .unshared ≤ room → next (viewIn p key) b room ≡ ok (stepIs (pastRow (viewIn p key) g rowHere keyHere) (found rowHere keyHere))
+  pub here-step : (room : ℕ) → r .shared + r .unshared ≤ room → next (viewIn p key) b room ≡ ok (stepIs (pastRow (viewIn p key) g rowHere keyHere) (found (p .region) (p .number) rowHere keyHere))
   here-step room held =
       plain-step (viewIn p key) b room (trailerIs (i .count) size) g r (i .heads) (i .unmarked) (i .read) (i .counted) (i .few) (i .bounds) (i .from)
-      (omega (arith, here-tells .next-is, here-tells .within)) m e (omega arith) held
+      (omega (arith, here-tells .next-is, here-tells .within)) (i .right) m e (omega arith) held
 
   pub here-fits : (x : PlainRow) → plainFrom x ≡ r → PlainFits (length (take size b)) (p .at) x
   here-fits x q =
@@ -103,17 +104,17 @@ module _ (b : List ℕ) (size : ℕ) (g : Region) (p : Place) (key : List ℕ) (
 
     module _ (key′ : List ℕ) (k : take (r .shared + r .unshared) key′ ≡ keyHere) where
       -- a finished region hands over
-      pub here-over : g .reach < r .next → viewIn (movedTo p (p .region + 1) (r .next) 0) key′ ≡ pastRow (viewIn p key) g rowHere keyHere
+      pub here-over : g .reach < r .next → viewIn (movedTo p (p .region + 1) (r .next) 0 0) key′ ≡ pastRow (viewIn p key) g rowHere keyHere
       here-over w = rw (lt-ltb (g .reach) (r .next) w, i .heads, i .unmarked)
 
       module _ (w : r .next ≤ g .reach) where
-        pub here-stays : viewIn (movedTo p (p .region) (r .next) (r .shared + r .unshared)) key′ ≡ pastRow (viewIn p key) g rowHere keyHere
+        pub here-stays : viewIn (movedTo p (p .region) (r .next) (p .number + 1) (r .shared + r .unshared)) key′ ≡ pastRow (viewIn p key) g rowHere keyHere
         here-stays = rw (le-ltb (g .reach) (r .next) w, i .heads, i .unmarked) (rw (k, here-long))
 
-        pub here-inside : Inside b size g (viewIn (movedTo p (p .region) (r .next) (r .shared + r .unshared)) key′)
+        pub here-inside : Inside b size g (viewIn (movedTo p (p .region) (r .next) (p .number + 1) (r .shared + r .unshared)) key′)
         here-inside =
             let s = here-tells in
-            record { count = i .count; heads = i .heads; unmarked = i .unmarked; read = i .read; counted = i .counted; few = omega (arith, s .shared-small, s .unshared-small); bounds = i .bounds; from = omega (arith, i .from, s .next-is) }
+            record { count = i .count; heads = i .heads; unmarked = i .unmarked; read = i .read; counted = i .counted; few = omega (arith, s .shared-small, s .unshared-small); bounds = i .bounds; from = omega (arith, i .from, s .next-is); right = right-on (p .at - g .start) (p .number) (r .next - g .start) (i .right) (omega (arith, i .from, s .next-is)) }
 
 -- the rows' bytes are all there
 pub inside-long : (b : List ℕ) (size : ℕ) (g : Region) (c : Cursor) → Inside b size g c → length (take size b) ≡ size
@@ -121,6 +122,10 @@ inside-long b size g c i = length-take-le size b (omega (arith, trailerOf-tells 
 
 pub inside-region : (b : List ℕ) (size : ℕ) (g : Region) (c : Cursor) → Inside b size g c → c .region < length b
 inside-region b size g c i = omega (arith, trailerOf-tells b (trailerIs (i .count) size) (i .read) .0, i .counted)
+
+-- one row more is still a number
+pub inside-counts : (b : List ℕ) (size : ℕ) (g : Region) (c : Cursor) → Inside b size g c → c .number ≤ c .at
+inside-counts b size g c i = omega (arith, right-tells (c .at - g .start) (c .number) (i .right))
 
 -- how many bytes a row may share: none at the region's start
 pub share-none : (at start len : ℕ) → at ≡ start → 0 ≡ mayShare (eqb at start) len
@@ -133,7 +138,7 @@ share-key at start len h = rw (ne-eqb at start h) refl
 pub bounds-inside : (p : Place) (key b : List ℕ) {r : Bounds} → BoundsOf p b r → (r .region .end ≡ 0 → ⊥) → Inside b (r .size) (regionFrom (r .region)) (viewIn p key)
 bounds-inside p key b e h =
     let i = stretch-inside (viewIn p []) b e h in
-    record { count = i .count; heads = i .heads; unmarked = i .unmarked; read = i .read; counted = i .counted; few = i .few; bounds = i .bounds; from = i .from }
+    record { count = i .count; heads = i .heads; unmarked = i .unmarked; read = i .read; counted = i .counted; few = i .few; bounds = i .bounds; from = i .from; right = i .right }
 
 -- ---- no row left
 
@@ -149,4 +154,4 @@ ends-here b size g p key i e room =
     let reach = eqb-true (g .reach) (p .at) (t .0) in
     let end = eqb-true (g .end) (p .at) (t .1) in
     next-up (viewIn p key) b room _ (i .read) (i .counted) (i .few) (i .unmarked) (i .heads)
-    ∙ up-done (viewIn p key) b _ room g (i .bounds) (i .from) (omega arith) (sym end)
+    ∙ up-done (viewIn p key) b _ room g (i .bounds) (i .from) (omega arith) (i .right) (sym end)

@@ -52,6 +52,9 @@ pub fn bounds_of(block: &[u8], p: Place) -> Bounds
     if p.at < region.start {
         return no_bounds();
     }
+    if basics::wrong_after(p.at - region.start, p.number) {
+        return no_bounds();
+    }
     Bounds {
         size: t.size,
         region,

@@ -12,7 +12,7 @@ use Rattle.basics.specs.Says.{saysOrder}
 use Rattle.trailer.specs.Plain.{trailer-is, trailer-not, known-is, known-not}
 use Rattle.trailer.specs.Says.{trailerFrom, regionFrom}
 use Rattle.place_v2.specs.Says.{viewIn}
-use Rattle.region_rows_v2.specs.Bounds.{none-down, none-marked, none-trailer, none-region, none-key, none-bounds, none-before, some-stretch}
+use Rattle.region_rows_v2.specs.Bounds.{none-down, none-marked, none-trailer, none-region, none-key, none-bounds, none-before, none-wrong, some-stretch}
 use borrow.Author.Needs.{needs}
 use Rattle.region_rows_v2.proofs.bounds_of.Statement.{statement}
 use Rattle.region_rows_v2.proofs.bounds_of.Tie as tie
@@ -90,10 +90,24 @@ returns-7 c =
 
 returns-8 : tie.Need-returns-8
 returns-8 c =
-    let n = c .before .before .before in
+    let w = c .before .before in
+    let o = w .before .before .before in
+    let n = o .before .before .before in
     let m = n .before .before in
     let k = counted m in
-    some-stretch (cursor k) (start k .args .block .now) (heads (k .before .before .before .before)) (k .before .before .before .if1 .left) _ (trailer-read k) (m .before .before .before .if3 .left) (m .before .if4 .left) _ (region-read n) (c .if6 .left)
+    c .no-bounds8 .ensures
+    ∙ none-wrong (cursor k) (start k .args .block .now) (heads (k .before .before .before .before)) (k .before .before .before .if1 .left) _ (trailer-read k) (m .before .before .before .if3 .left) (m .before .if4 .left) _ (region-read n) (o .if6 .left)
+    (sym (w .wrong-after .ensures) ∙ c .before .if7 .taken)
+
+returns-9 : tie.Need-returns-9
+returns-9 c =
+    let w = c .before in
+    let o = w .before .before .before in
+    let n = o .before .before .before in
+    let m = n .before .before in
+    let k = counted m in
+    some-stretch (cursor k) (start k .args .block .now) (heads (k .before .before .before .before)) (k .before .before .before .if1 .left) _ (trailer-read k) (m .before .before .before .if3 .left) (m .before .if4 .left) _ (region-read n) (o .if6 .left)
+    (sym (w .wrong-after .ensures) ∙ c .if7 .left)
 
 pub bounds-of-spec : {M : Type 1} → statement M
 bounds-of-spec =
@@ -102,4 +116,4 @@ bounds-of-spec =
     (search needs) (search needs) (λ c κs. search needs) returns (λ c κs. search needs) returns-2
     (λ c κs. search needs) (λ c κs. search needs) returns-3 (λ c κs. search needs) returns-4
     (λ c κs. search needs) returns-5 (λ c κs. search needs) (λ c κs. search needs) returns-6
-    (λ c κs. search needs) returns-7 returns-8)
+    (λ c κs. search needs) returns-7 (λ c κs. search needs) (λ c κs. search needs) returns-8 returns-9)
