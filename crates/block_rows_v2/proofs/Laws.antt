@@ -3,7 +3,7 @@
 use Prim.Native.Nat.{ℕ, _+_, _-_, _*_, _<_, _≤_}
 use mathlib.Core.Path.{_≡_, refl, ap, ap₂, sym, _∙_}
 use mathlib.Core.Bool.{Bool, true, false, cond}
-use mathlib.Core.List.{List, [], _∷_, append-nil}
+use mathlib.Core.List.{List, append-nil}
 use mathlib.Core.Logic.{⊎-elim}
 use native.Mathlib.Nat.{add-zero}
 use native.Mathlib.Omega.{arith}
@@ -15,9 +15,8 @@ use borrow.Rule.Slice.PartMut.{midOf, putMid, mid-len, put-same}
 use Rattle.layout.specs.Res.{Res, ok, refuse}
 use Rattle.layout.specs.Limits.{maxKey}
 use Rattle.layout.specs.Place.{splice}
-use Rattle.layout.specs.Row.{Time, Absent, At}
-use Rattle.layout.specs.RowRead.{Held, holds, gone, merges, RowRead, keyLength}
-use Rattle.layout.specs.Cursor.{Cursor, done, Step, stepIs, Keyed, next}
+use Rattle.layout.specs.RowRead.{RowRead, keyLength}
+use Rattle.layout.specs.Cursor.{Cursor, done, Step, stepIs, next}
 use Rattle.layout.specs.Laws.Res.{ok-inj, ltb-cases, eqb-cases}
 use Rattle.layout.specs.Laws.Splice.{Wrote, wrote-rest, splice-lent, splice-none}
 use Rattle.basics.specs.Answers.{apart}
@@ -26,32 +25,20 @@ use Rattle.basics.specs.Says.{saysOrder}
 use Rattle.basics.specs.declared.Refusal.{Refusal}
 use Rattle.place_v2.specs.Says.{viewIn}
 use Rattle.place_v2.specs.declared.Place.{Place}
-use Rattle.row_words.specs.Words.{badWords, doneCode, codeOf, cursorIn, cursorWords, heldWords, timeWords, rowWords, rowCount}
+use Rattle.row_words.specs.Words.{badWords, doneCode, codeOf, cursorIn, cursorWords, rowWords, rowCount}
 use Rattle.row_words.specs.Promise.{Stores}
+use Rattle.row_words.proofs.Fields.{row-count}
 use Rattle.row_words.proofs.Laws.{stored}
 use Rattle.region_rows_v2.specs.Found.{Finds}
 use Rattle.layout.specs.Laws.Step.{next-given}
 use Rattle.block_rows_v2.specs.declared.Gave.{Gave}
 use Rattle.block_rows_v2.specs.declared.Gave.the-variants.{Rows, Refused}
-use Rattle.block_rows_v2.specs.Rows.{Run, runIs, nextRows, keysOf, wordsOf}
+use Rattle.block_rows_v2.specs.Rows.{Given, givenIs, Run, runIs, nextRows, keysOf, wordsOf}
 use Rattle.block_rows_v2.specs.Chain.{Gone, gone-more, gone-full, gone-stop, gone-first, Stops, stops-refused, stops-done, rows-refused, rows-done}
 use Rattle.block_rows_v2.specs.Promise.{RowsAs, mostRows, RowsFlat}
 use Rattle.block_rows_v2.specs.Says.{End, endIs, Gives, PutsGave}
 
 -- ---- the words of one row, in their place
-
-held-count : (h : Held) (rest : List ℕ) → length (heldWords h rest) ≡ 3 + length rest
-held-count (holds at n) rest = omega arith
-held-count gone rest = omega arith
-held-count (merges at n) rest = omega arith
-
-time-count : (t : Time) (rest : List ℕ) → length (timeWords t rest) ≡ 2 + length rest
-time-count Absent rest = omega arith
-time-count (At z) rest = omega arith
-
-words-count : (r : RowRead) → length (rowWords r) ≡ rowCount
-words-count r =
-    omega (arith, held-count (r .held) (r .seq ∷ timeWords (r .expire) (timeWords (r .create) [])), time-count (r .expire) (timeWords (r .create) []), time-count (r .create) [])
 
 all-put : (w xs : List ℕ) → length xs ≡ length w → splice xs 0 w ≡ w
 unfolding splice
@@ -66,22 +53,22 @@ put-part xs a k e w part long q h is =
       room = h;
     }
 
-pub put-words : (rows : List ℕ) (n : ℕ) (r : RowRead) (part : List ℕ) {t : Bool} → (n + 1) * rowCount ≤ length rows
-    → Stores rowCount (rowWords r) (midOf (n * rowCount) (n * rowCount + rowCount - n * rowCount) rows) t part
-    → Wrote rows (n * rowCount) (rowWords r) (putMid (n * rowCount) (n * rowCount + rowCount - n * rowCount) rows part) ((n + 1) * rowCount)
-put-words rows n r part h s =
-    let count : length (rowWords r) ≡ rowCount = words-count r in
+pub put-words : (rows : List ℕ) (n region number : ℕ) (r : RowRead) (part : List ℕ) {t : Bool} → (n + 1) * rowCount ≤ length rows
+    → Stores rowCount (rowWords region number r) (midOf (n * rowCount) (n * rowCount + rowCount - n * rowCount) rows) t part
+    → Wrote rows (n * rowCount) (rowWords region number r) (putMid (n * rowCount) (n * rowCount + rowCount - n * rowCount) rows part) ((n + 1) * rowCount)
+put-words rows n region number r part h s =
+    let count : length (rowWords region number r) ≡ rowCount = row-count region number r in
     let long : length (midOf (n * rowCount) (n * rowCount + rowCount - n * rowCount) rows) ≡ rowCount = mid-len (n * rowCount) (n * rowCount + rowCount) rows (omega arith) ∙ omega arith in
-    put-part rows (n * rowCount) (n * rowCount + rowCount - n * rowCount) ((n + 1) * rowCount) (rowWords r) part (long ∙ sym count) (omega (arith, count)) h (stored long s)
+    put-part rows (n * rowCount) (n * rowCount + rowCount - n * rowCount) ((n + 1) * rowCount) (rowWords region number r) part (long ∙ sym count) (omega (arith, count)) h (stored long s)
 
 -- ---- a run that is wanted
 
-gives-rows : {want : Res Run} {o : Bool} {c : Cursor} {ks : List Keyed} (key keys rows : List ℕ) {p : Place} {n : ℕ} {key′ keys′ rows′ : List ℕ} → want ≡ ok (runIs o c ks) → viewIn p key′ ≡ c
+gives-rows : {want : Res Run} {o : Bool} {c : Cursor} {ks : List Given} (key keys rows : List ℕ) {p : Place} {n : ℕ} {key′ keys′ rows′ : List ℕ} → want ≡ ok (runIs o c ks) → viewIn p key′ ≡ c
     → n ≡ length ks → keys′ ≡ splice keys 0 (keysOf ks) → rows′ ≡ splice rows 0 (wordsOf ks) → Gives want key keys rows (Rows o p n) key′ keys′ rows′
 gives-rows {o = o} key keys rows e v m k w = rw e (record { answer = ap₂ (λ (x : Cursor) (y : ℕ). ok (endIs o x y)) v m; whole = tt; keys-given = k; row-words = w })
 
 -- a key that is found fits what is left
-pub key-fits : (used : ℕ) (keys : List ℕ) → used ≤ length keys → {b : List ℕ} {c d : Cursor} {r : RowRead} {out′ : List ℕ} → Finds b c d r (midOf used (length keys - used) keys) out′ → used + keyLength r ≤ length keys
+pub key-fits : (used : ℕ) (keys : List ℕ) → used ≤ length keys → {b : List ℕ} {c d : Cursor} {region m : ℕ} {r : RowRead} {out′ : List ℕ} → Finds b c d region m r (midOf used (length keys - used) keys) out′ → used + keyLength r ≤ length keys
 key-fits used keys h f = omega (arith, f .well .held, mid-len used (length keys) keys (omega arith))
 
 -- ---- a turn of the loop: the row that was found, with its key and its words
@@ -93,11 +80,11 @@ module _ {b keys₀ rows₀ : List ℕ} {c₀ c : Cursor} {keys rows : List ℕ}
   rest-long : length rest ≡ length keys₀ - used
   rest-long = mid-len used (length keys) keys (omega arith) ∙ omega arith
 
-  module _ {d : Cursor} {r : RowRead} {out′ : List ℕ} (f : Finds b c d r rest out′) where
-    pub turn : {rows′ : List ℕ} → Wrote rows (n * rowCount) (rowWords r) rows′ ((n + 1) * rowCount)
+  module _ {d : Cursor} {region m : ℕ} {r : RowRead} {out′ : List ℕ} (f : Finds b c d region m r rest out′) where
+    pub turn : {rows′ : List ℕ} → Wrote rows (n * rowCount) (rowWords region m r) rows′ ((n + 1) * rowCount)
         → Gone b keys₀ rows₀ c₀ d (putMid used (length keys - used) keys out′) rows′ (used + keyLength r) (n + 1)
     turn v =
-        gone-more g (length rest) d r (f .key) rest-long (f .is)
+        gone-more g (length rest) d (givenIs region m r (f .key)) rest-long (f .is)
         (wrote-rest keys used (used + keyLength r) (f .key) out′ (omega (arith, key-fits used keys inside f, f .well .whole)) (omega (arith, f .well .whole)) (f .lent)) v
 
   -- ---- the exits: the rows so far; or, with none yet, what the first step answers
@@ -147,7 +134,7 @@ all-given {keys₀ = keys₀} {rows₀ = rows₀} g most key h v = gives-rows ke
 pub done-stays : (b : List ℕ) (room : ℕ) (p q : Place) (key key′ : List ℕ) → length key ≡ maxKey → next (viewIn p key) b room ≡ ok (stepIs (viewIn q key′) done) → viewIn p key′ ≡ viewIn p key
 done-stays b room p q key key′ k e =
     let w = next-given (viewIn p key) (stepIs (viewIn q key′) done) b room (λ few. length-take-le (p .«key_len») key (omega (arith, few, k))) e in
-    ap (λ (l : List ℕ). record { order = saysOrder (p .order); region = p .region; at = p .at; keyLen = p .«key_len»; key = l; done = p .done }) (ap (λ (m : ℕ). take m key′) (sym (w .0)) ∙ w .1)
+    ap (λ (l : List ℕ). record { order = saysOrder (p .order); region = p .region; at = p .at; number = p .number; keyLen = p .«key_len»; key = l; done = p .done }) (ap (λ (m : ℕ). take m key′) (sym (w .0)) ∙ w .1)
 
 -- ---- the call
 

@@ -16,7 +16,7 @@ use Rattle.layout.specs.Place.{splice}
 use Rattle.layout.specs.Plain.{plainAt}
 use Rattle.layout.specs.RowRead.{mayShare, RowRead}
 use Rattle.layout.specs.Trailer.{Region}
-use Rattle.layout.specs.Cursor.{Cursor, found, stepIs, pastRow, next}
+use Rattle.layout.specs.Cursor.{Cursor, stepIs, pastRow, next}
 use Rattle.layout.specs.Laws.Splice.{Wrote, take-splice, drop-splice, drop-past-splice, take-past-splice, length-splice, splice-splice, wrote-rest, wrote-length}
 use Rattle.layout.specs.Laws.Plain.{or-false}
 use Rattle.buf_mut.specs.Promise.{Puts}
@@ -30,6 +30,7 @@ use Rattle.row_words.specs.Words.{rowWords, rowCount}
 use Rattle.region_rows_v2.specs.Bounds.{Inside}
 use Rattle.region_rows_v2.specs.Region.{PlainFits, movedTo, rowHere, keyHere, here-step, here-parts, here-long, here-over, here-stays, here-inside}
 use Rattle.block_rows_v2.specs.Chain.{Gone, gone-more}
+use Rattle.block_rows_v2.specs.Rows.{Given, givenIs, foundOf}
 use Rattle.block_rows_v2.specs.declared.Ran.{Ran}
 use Rattle.block_rows_v2.specs.Says.{keyAt, Carried, ranTo, RunsOn}
 
@@ -131,10 +132,13 @@ module _ (b : List ℕ) (size : ℕ) (g : Region) (p : Place) (key : List ℕ) (
   abbrev here-key : List ℕ
   here-key = keyHere b size g p key i (plainFrom r) m e h
 
+  abbrev here-given : Given
+  here-given = givenIs (p .region) (p .number) here-row here-key
+
   parts : keyAt key (take size b) (p .at) r ≡ here-key
   parts = here-parts b size g p key i (plainFrom r) m e h whole
 
-  module _ (keys : List ℕ) (used n : ℕ) {rows : List ℕ} (inside : used ≤ length keys) (room : r .shared + r .unshared ≤ length keys - used) {key′ out′ rows′ : List ℕ} (q : Carried key (midOf used (length keys - used) keys) (take size b) (p .at) r key′ out′) {x : RowRead} (is : x ≡ here-row) (w : Wrote rows (n * rowCount) (rowWords x) rows′ ((n + 1) * rowCount)) where
+  module _ (keys : List ℕ) (used n : ℕ) {rows : List ℕ} (inside : used ≤ length keys) (room : r .shared + r .unshared ≤ length keys - used) {key′ out′ rows′ : List ℕ} (q : Carried key (midOf used (length keys - used) keys) (take size b) (p .at) r key′ out′) {x : RowRead} (is : x ≡ here-row) (w : Wrote rows (n * rowCount) (rowWords (p .region) (p .number) x) rows′ ((n + 1) * rowCount)) where
     carried : take (r .shared + r .unshared) key′ ≡ here-key
     carried = q .carried ∙ parts
 
@@ -147,21 +151,21 @@ module _ (b : List ℕ) (size : ℕ) (g : Region) (p : Place) (key : List ℕ) (
         → Gone b keys₀ rows₀ c₀ d (putMid used (length keys - used) keys out′) rows′ (used + (r .shared + r .unshared)) (n + 1)
     given keys₀ rows₀ c₀ d v k =
         let rest : length (midOf used (length keys - used) keys) ≡ length keys - used = mid-len used (length keys) keys (omega arith) in
-        let step : next (viewIn p key) b (length (midOf used (length keys - used) keys)) ≡ ok (stepIs d (found here-row here-key)) =
-        here-step b size g p key i (plainFrom r) m e h (length (midOf used (length keys - used) keys)) (omega (arith, rest)) ∙ ap (λ (c : Cursor). ok (stepIs c (found here-row here-key))) (sym v) in
-        gone-more k (length (midOf used (length keys - used) keys)) d here-row here-key (rest ∙ ap (λ (l : ℕ). l - used) (wrote-length (k .keys-are))) step
+        let step : next (viewIn p key) b (length (midOf used (length keys - used) keys)) ≡ ok (stepIs d (foundOf here-given)) =
+        here-step b size g p key i (plainFrom r) m e h (length (midOf used (length keys - used) keys)) (omega (arith, rest)) ∙ ap (λ (c : Cursor). ok (stepIs c (foundOf here-given))) (sym v) in
+        gone-more k (length (midOf used (length keys - used) keys)) d here-given (rest ∙ ap (λ (l : ℕ). l - used) (wrote-length (k .keys-are))) step
         given-key (rw is at w)
 
     pub given-over : (keys₀ rows₀ : List ℕ) (c₀ : Cursor) → g .reach < r .next → Gone b keys₀ rows₀ c₀ (viewIn p key) keys rows used n
-        → Gone b keys₀ rows₀ c₀ (viewIn (movedTo p (p .region + 1) (r .next) 0) key′) (putMid used (length keys - used) keys out′) rows′ (used + (r .shared + r .unshared)) (n + 1)
+        → Gone b keys₀ rows₀ c₀ (viewIn (movedTo p (p .region + 1) (r .next) 0 0) key′) (putMid used (length keys - used) keys out′) rows′ (used + (r .shared + r .unshared)) (n + 1)
     given-over keys₀ rows₀ c₀ k = given keys₀ rows₀ c₀ _ (here-over b size g p key i (plainFrom r) m e h whole key′ carried k)
 
     module _ (k : r .next ≤ g .reach) where
       pub given-stays : (keys₀ rows₀ : List ℕ) (c₀ : Cursor) → Gone b keys₀ rows₀ c₀ (viewIn p key) keys rows used n
-          → Gone b keys₀ rows₀ c₀ (viewIn (movedTo p (p .region) (r .next) (r .shared + r .unshared)) key′) (putMid used (length keys - used) keys out′) rows′ (used + (r .shared + r .unshared)) (n + 1)
+          → Gone b keys₀ rows₀ c₀ (viewIn (movedTo p (p .region) (r .next) (p .number + 1) (r .shared + r .unshared)) key′) (putMid used (length keys - used) keys out′) rows′ (used + (r .shared + r .unshared)) (n + 1)
       given-stays keys₀ rows₀ c₀ = given keys₀ rows₀ c₀ _ (here-stays b size g p key i (plainFrom r) m e h whole key′ carried k)
 
-      pub given-inside : Inside b size g (viewIn (movedTo p (p .region) (r .next) (r .shared + r .unshared)) key′)
+      pub given-inside : Inside b size g (viewIn (movedTo p (p .region) (r .next) (p .number + 1) (r .shared + r .unshared)) key′)
       given-inside = here-inside b size g p key i (plainFrom r) m e h whole key′ carried k
 
 -- ---- the exits of a run

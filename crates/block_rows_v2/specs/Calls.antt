@@ -14,23 +14,23 @@ use Rattle.layout.specs.Res.{Res, ok, refuse, bind, guard}
 use Rattle.layout.specs.Key.{Key}
 use Rattle.layout.specs.Limits.{maxKey}
 use Rattle.layout.specs.Place.{splice}
-use Rattle.layout.specs.RowRead.{RowRead}
-use Rattle.layout.specs.Cursor.{Direction, ascending, descending, Cursor, Answer, found, done, Step, stepIs, Keyed, next}
+use Rattle.layout.specs.Cursor.{ascending, descending, Cursor, Answer, found, done, Step, stepIs, next}
 use Rattle.layout.specs.Laws.Res.{bind-then, guard-then, ok-inj, eqb-cases}
 use Rattle.layout.specs.Laws.Splice.{length-splice, splice-none}
-use Rattle.row_words.specs.Words.{badWords, counted, wordAt, oneOf, truthIn, truthWord, orderIn, orderWord, cursorFrom, cursorIn, cursorWords, rowWords, cursorCount, rowCount}
+use Rattle.row_words.specs.Words.{badWords, counted, wordAt, oneOf, truthIn, truthWord, orderIn, orderWord, cursorFrom, cursorIn, cursorWords, cursorCount, rowCount}
+use Rattle.block_words.specs.Again.{step-again}
 use Rattle.block_words.specs.Exports.{StepsAs, StepsFlat}
 use Rattle.layout.specs.Laws.Step.{next-given}
-use Rattle.block_rows_v2.specs.Rows.{Run, stepOn, rowsFrom, orDone, nextRows, keysOf, wordsOf}
+use Rattle.block_rows_v2.specs.Rows.{Given, givenIs, foundOf, Run, stepOn, rowsFrom, orDone, nextRows, keysOf, givenWords, wordsOf}
 use Rattle.block_rows_v2.specs.Promise.{RowsAs, mostRows, RowsFlat}
 
--- whatever calls of slatedb_next leave that are made for the rows ks, one after another: each is good and gives the row's words, and its key at the start of what is
--- left of the buffer; and of what the last of them leaves, `end` holds
-abbrev pub Calls : List ℕ → List Keyed → List ℕ → List ℕ → List ℕ → (List ℕ → List ℕ → List ℕ → Type 0) → Type 0
+-- whatever calls of slatedb_next leave that are made for the rows ks, one after another: each is good and gives the row's words, with the numbers that name it,
+-- and its key at the start of what is left of the buffer; and of what the last of them leaves, `end` holds
+abbrev pub Calls : List ℕ → List Given → List ℕ → List ℕ → List ℕ → (List ℕ → List ℕ → List ℕ → Type 0) → Type 0
 Calls b [] ws key out end = end ws key out
 Calls b (k ∷ ks) ws key out end =
     (row ws′ key′ out′ row′ : List ℕ) (code : ℕ) → length row ≡ rowCount → length key′ ≡ length key → StepsFlat b ws key out row code ws′ key′ out′ row′
-    → (code ≡ 0) × (row′ ≡ rowWords (k .row)) × (out′ ≡ splice out 0 (k .key)) × Calls b ks ws′ key′ (drop (length (k .key)) out′) end
+    → (code ≡ 0) × (row′ ≡ givenWords k) × (out′ ≡ splice out 0 (k .key)) × Calls b ks ws′ key′ (drop (length (k .key)) out′) end
 
 -- a call that gives no row: its words and the buffer stay
 abbrev pub GivesNone : List ℕ → List ℕ → List ℕ → List ℕ → Type 0
@@ -43,7 +43,7 @@ pub record Ends (b : List ℕ) (n most : ℕ) (ws′ key′ ws key out : List �
   pub stops : (n ≡ most) ⊎ GivesNone b ws key out
 
 pub record SoManyCalls (b ws key keys rows ws′ key′ keys′ rows′ : List ℕ) (n′ : ℕ) : Type 0 where
-  pub given : List Keyed
+  pub given : List Given
   pub count : n′ ≡ length given
   pub keys-are : keys′ ≡ splice keys 0 (keysOf given)
   pub rows-are : rows′ ≡ splice rows 0 (wordsOf given)
@@ -62,14 +62,15 @@ of-word a b word w x za ob e =
     (eqb-cases w 1))
     (eqb-cases w 0)
 
-five : (ws : List ℕ) → length ws ≡ 5 → ws ≡ wordAt ws 0 ∷ wordAt ws 1 ∷ wordAt ws 2 ∷ wordAt ws 3 ∷ wordAt ws 4 ∷ []
-five [] h = absurd (omega arith)
-five (a ∷ []) h = absurd (omega arith)
-five (a ∷ b ∷ []) h = absurd (omega arith)
-five (a ∷ b ∷ c ∷ []) h = absurd (omega arith)
-five (a ∷ b ∷ c ∷ d ∷ []) h = absurd (omega arith)
-five (a ∷ b ∷ c ∷ d ∷ e ∷ []) h = refl
-five (a ∷ b ∷ c ∷ d ∷ e ∷ f ∷ ws) h = absurd (omega arith)
+six : (ws : List ℕ) → length ws ≡ 6 → ws ≡ wordAt ws 0 ∷ wordAt ws 1 ∷ wordAt ws 2 ∷ wordAt ws 3 ∷ wordAt ws 4 ∷ wordAt ws 5 ∷ []
+six [] h = absurd (omega arith)
+six (a ∷ []) h = absurd (omega arith)
+six (a ∷ b ∷ []) h = absurd (omega arith)
+six (a ∷ b ∷ c ∷ []) h = absurd (omega arith)
+six (a ∷ b ∷ c ∷ d ∷ []) h = absurd (omega arith)
+six (a ∷ b ∷ c ∷ d ∷ e ∷ []) h = absurd (omega arith)
+six (a ∷ b ∷ c ∷ d ∷ e ∷ f ∷ []) h = refl
+six (a ∷ b ∷ c ∷ d ∷ e ∷ f ∷ g ∷ ws) h = absurd (omega arith)
 
 record Loaded (ws key : List ℕ) (c : Cursor) : Type 0 where
   words : ws ≡ cursorWords c
@@ -87,18 +88,7 @@ loaded ws key c e =
     let w₀ : wordAt ws 0 ≡ orderWord d = of-word ascending descending orderWord (wordAt ws 0) d refl refl p in
     let w₄ : wordAt ws 4 ≡ truthWord m = of-word false true truthWord (wordAt ws 4) m refl refl o in
     rw (← is)
-    (record { words = five ws h ∙ rw (w₀, w₄) refl; bytes = refl; len = refl })
-
-stored-in : (d : Cursor) (key : List ℕ) → take (d .keyLen) key ≡ d .key → cursorIn (cursorWords d) key ≡ ok d
-unfolding cursorIn
-stored-in d key e = go (d .order) (d .done)
-  where
-    go : (x : Direction) (m : Bool)
-        → cursorIn (orderWord x ∷ d .region ∷ d .at ∷ d .keyLen ∷ truthWord m ∷ []) key ≡ ok (record { order = x; region = d .region; at = d .at; keyLen = d .keyLen; key = d .key; done = m })
-    go ascending true = rw e
-    go ascending false = rw e
-    go descending true = rw e
-    go descending false = rw e
+    (record { words = six ws h ∙ rw (w₀, w₄) refl; bytes = refl; len = refl })
 
 -- ---- a call from a cursor that its words have
 
@@ -109,7 +99,7 @@ module _ (b ws key out row : List ℕ) (c : Cursor) (is : cursorIn ws key ≡ ok
 
 -- a cursor from which no row is found
 abbrev NoRow : Cursor → List ℕ → ℕ → Type 0
-NoRow c b room = (d : Cursor) (r : RowRead) (key : Key) → next c b room ≡ ok (stepIs d (found r key)) → ⊥
+NoRow c b room = (d : Cursor) (k : Given) → next c b room ≡ ok (stepIs d (foundOf k)) → ⊥
 
 none-given : (b ws key out : List ℕ) (c : Cursor) → cursorIn ws key ≡ ok c → length key ≡ maxKey → NoRow c b (length out) → GivesNone b ws key out
 none-given b ws key out c is k empty row ws′ key′ out′ row′ code s = ⊎-elim (λ t. counts (t .1)) (λ t. short (t .0)) (eqb-cases (length row) rowCount)
@@ -119,7 +109,7 @@ none-given b ws key out c is k empty row ws′ key′ out′ row′ code s = ⊎
     left (ok t) e s = by (t .answer) e s
       where
         by : (a : Answer) → next c b (length out) ≡ ok (stepIs (t .cursor) a) → StepsAs (ok (stepIs (t .cursor) a)) ws key out row code ws′ key′ out′ row′ → (row′ ≡ row) × (out′ ≡ out)
-        by (found r given) e s = absurd (empty (t .cursor) r given e)
+        by (found region n r given) e s = absurd (empty (t .cursor) (givenIs region n r given) e)
         by done e s = (s .row-words, s .lent)
 
     counts : length row ≡ rowCount → (row′ ≡ row) × (out′ ≡ out)
@@ -134,7 +124,7 @@ none-given b ws key out c is k empty row ws′ key′ out′ row′ code s = ⊎
 abbrev Last : List ℕ → ℕ → Run → List ℕ → List ℕ → List ℕ → Type 0
 Last b n run ws key out = (cursorIn ws key ≡ ok (run .cursor)) × (length key ≡ maxKey) × ((length (run .rows) ≡ n) ⊎ NoRow (run .cursor) b (length out))
 
-calls-as : (b : List ℕ) (ks : List Keyed) (ws key out : List ℕ) {one two : List ℕ → List ℕ → List ℕ → Type 0} → ((ws key out : List ℕ) → one ws key out → two ws key out)
+calls-as : (b : List ℕ) (ks : List Given) (ws key out : List ℕ) {one two : List ℕ → List ℕ → List ℕ → Type 0} → ((ws key out : List ℕ) → one ws key out → two ws key out)
     → Calls b ks ws key out one → Calls b ks ws key out two
 calls-as b [] ws key out f c = f ws key out c
 calls-as b (k ∷ ks) ws key out f c = λ row ws′ key′ out′ row′ code h l s.
@@ -153,16 +143,16 @@ run-calls (suc n) b ws key out c is k = go (next c b (length out)) refl (run-cal
     go : (x : Res Step) → next c b (length out) ≡ x
         → ((ws key out : List ℕ) (c : Cursor) → cursorIn ws key ≡ ok c → length key ≡ maxKey → Calls b (rowsFrom n c b (length out) .rows) ws key out (Last b n (rowsFrom n c b (length out))))
         → Calls b (stepOn c x rest .rows) ws key out (Last b (suc n) (stepOn c x rest))
-    go (refuse i) e ih = (is, k, inr λ d r given f. absurd (let z : _≡_ {A = ℕ} 0 1 = cc in omega arith))
+    go (refuse i) e ih = (is, k, inr λ d x f. absurd (let z : _≡_ {A = ℕ} 0 1 = cc in omega arith))
     go (ok s) e ih = by (s .answer) e
       where
         by : (a : Answer) → next c b (length out) ≡ ok (stepIs (s .cursor) a) → Calls b (stepOn c (ok (stepIs (s .cursor) a)) rest .rows) ws key out (Last b (suc n) (stepOn c (ok (stepIs (s .cursor) a)) rest))
-        by done e = (is, k, inr λ d r given f. let w : done ≡ found r given = ap (λ (x : Step). x .answer) (ok-inj (sym e ∙ f)) in let z : _≡_ {A = ℕ} 0 1 = cc in omega arith)
-        by (found r given) e = λ row ws′ key′ out′ row′ code h l s′.
-            let q : StepsAs (ok (stepIs (s .cursor) (found r given))) ws key out row code ws′ key′ out′ row′ = rw e at (called b ws key out row c is k h s′) in
-            let m = loaded ws key c is in
-            let w = next-given c (stepIs (s .cursor) (found r given)) b (length out) (λ few. ap length (m .bytes) ∙ length-take-le (c .keyLen) key (omega (arith, few, k))) e in
-            let same : cursorIn ws′ key′ ≡ ok (s .cursor) = ap (λ (x : List ℕ). cursorIn x key′) (q .state) ∙ stored-in (s .cursor) key′ (q .key-bytes) in
+        by done e = (is, k, inr λ d x f. let w : done ≡ foundOf x = ap (λ (x : Step). x .answer) (ok-inj (sym e ∙ f)) in let z : _≡_ {A = ℕ} 0 1 = cc in omega arith)
+        by (found region m r given) e = λ row ws′ key′ out′ row′ code h l s′.
+            let q : StepsAs (ok (stepIs (s .cursor) (found region m r given))) ws key out row code ws′ key′ out′ row′ = rw e at (called b ws key out row c is k h s′) in
+            let i = loaded ws key c is in
+            let w = next-given c (stepIs (s .cursor) (found region m r given)) b (length out) (λ few. ap length (i .bytes) ∙ length-take-le (c .keyLen) key (omega (arith, few, k))) e in
+            let same = step-again (stepIs (s .cursor) (found region m r given)) ws key out row code ws′ key′ out′ row′ q in
             let long : length (drop (length given) out′) ≡ length out - length given =
             length-drop (length given) out′ ∙ ap (λ (x : List ℕ). length x - length given) (q .lent) ∙ ap (λ (i : ℕ). i - length given) (length-splice out 0 given (omega (arith, w .whole, w .held))) in
             let on = rw long at (ih ws′ key′ (drop (length given) out′) (s .cursor) same (l ∙ k)) in (
@@ -188,7 +178,7 @@ run-is zero c b room run e o = ok-inj e
 run-is (suc n) c b room run e o = bind-then (next c b room) _ run e λ s p q. by (s .cursor) (s .answer) (ok-inj q)
   where
     by : (d : Cursor) (a : Answer) → orDone a d (rowsFrom (suc n) c b room) ≡ run → rowsFrom (suc n) c b room ≡ run
-    by d (found r key) i = i
+    by d (found region m r key) i = i
     by d done i = absurd (let z : true ≡ false = ap (λ (x : Run). x .over) i ∙ o in let w : _≡_ {A = ℕ} 0 1 = cc in omega arith)
 
 -- the rows that were given, by so many calls of slatedb_next
@@ -230,9 +220,9 @@ next-rows-suc : (m : ℕ) (c : Cursor) (b : List ℕ) (room : ℕ) → nextRows 
 unfolding nextRows
 next-rows-suc m c b room = refl
 
-some-found : (m : ℕ) (c : Cursor) (b : List ℕ) (room : ℕ) (d : Cursor) (r : RowRead) (key : Key) → next c b room ≡ ok (stepIs d (found r key)) → rowsFrom (suc m) c b room .over ≡ true → ⊥
+some-found : (m : ℕ) (c : Cursor) (b : List ℕ) (room : ℕ) (d : Cursor) (k : Given) → next c b room ≡ ok (stepIs d (foundOf k)) → rowsFrom (suc m) c b room .over ≡ true → ⊥
 unfolding rowsFrom
-some-found m c b room d r key e o = let f : false ≡ true = rw e at o in let z : _≡_ {A = ℕ} 0 1 = cc in omega arith
+some-found m c b room d k e o = let f : false ≡ true = rw e at o in let z : _≡_ {A = ℕ} 0 1 = cc in omega arith
 
 -- the code and the cursor's words are those of one call of slatedb_next; nothing else is written
 pub none-is-a-step : (b ws key keys rows : List ℕ) (n code : ℕ) (ws′ key′ keys′ rows′ : List ℕ) (n′ : ℕ) → RowsFlat b ws key keys rows n code ws′ key′ keys′ rows′ n′
@@ -251,7 +241,7 @@ none-is-a-step b ws key keys rows n code ws′ key′ keys′ rows′ n′ q som
         told : (a : Answer) → next c b (length keys) ≡ ok (stepIs (t .cursor) a) → RowsAs (ok (orDone a (t .cursor) (rowsFrom (suc m) c b (length keys)))) ws key keys rows n code ws′ key′ keys′ rows′ n′
             → Unfound (ok (orDone a (t .cursor) (rowsFrom (suc m) c b (length keys)))) → StepsAs (ok (stepIs (t .cursor) a)) ws key keys row d vs ks os row′
             → (code ≡ d) × (ws′ ≡ vs) × (keys′ ≡ keys) × (rows′ ≡ rows)
-        told (found r given) e q u s = absurd (some-found m c b (length keys) (t .cursor) r given e u)
+        told (found region i r given) e q u s = absurd (some-found m c b (length keys) (t .cursor) (givenIs region i r given) e u)
         told done e q u s = (q .answer ∙ sym (s .answer), q .state ∙ sym (s .state), q .keys-given ∙ splice-none keys 0, q .row-words ∙ splice-none rows 0)
 
     by : (t : Bool) (x : Res Cursor) (m : ℕ) → 1 ≤ m → RowsAs (guard (not t) badWords (bind x λ c. nextRows m c b (length keys))) ws key keys rows n code ws′ key′ keys′ rows′ n′

@@ -7,25 +7,24 @@ use native.Mathlib.Omega.{arith}
 use lib.ListN.{length, length-append}
 use Rattle.layout.specs.Res.{ok, refuse}
 use Rattle.layout.specs.Key.{Key}
-use Rattle.layout.specs.RowRead.{RowRead}
-use Rattle.layout.specs.Cursor.{Cursor, found, done, stepIs, Keyed, keyed, next}
+use Rattle.layout.specs.Cursor.{Cursor, done, stepIs, next}
 use Rattle.layout.specs.Laws.Splice.{Wrote, wrote-then, wrote-as, wrote-none, splice-none}
-use Rattle.row_words.specs.Words.{rowWords, rowCount}
-use Rattle.block_rows_v2.specs.Rows.{Run, runIs, withRow, stepOn, rowsFrom, nextRows, keysOf, wordsOf}
+use Rattle.row_words.specs.Words.{rowCount}
+use Rattle.block_rows_v2.specs.Rows.{Given, foundOf, Run, runIs, withRow, stepOn, rowsFrom, nextRows, keysOf, givenWords, wordsOf}
 
 -- from c, with so much room for keys, by the rows ks to a cursor
-pub data Steps (b : List ℕ) : ℕ → Cursor → List Keyed → Cursor → Type 0 where
+pub data Steps (b : List ℕ) : ℕ → Cursor → List Given → Cursor → Type 0 where
   none : {room : ℕ} {c : Cursor} → Steps b room c [] c
-  more : {room : ℕ} {c e : Cursor} {ks : List Keyed} (d : Cursor) (r : RowRead) (key : Key) → next c b room ≡ ok (stepIs d (found r key)) → Steps b (room - length key) d ks e
-      → Steps b room c (keyed r key ∷ ks) e
+  more : {room : ℕ} {c e : Cursor} {ks : List Given} (d : Cursor) (k : Given) → next c b room ≡ ok (stepIs d (foundOf k)) → Steps b (room - length (k .key)) d ks e
+      → Steps b room c (k ∷ ks) e
 
 -- one more
-pub steps-snoc : {b : List ℕ} {room : ℕ} {c d : Cursor} {ks : List Keyed} → Steps b room c ks d → {left : ℕ} (e : Cursor) (r : RowRead) (key : Key)
-    → left ≡ room - length (keysOf ks) → next d b left ≡ ok (stepIs e (found r key)) → Steps b room c (ks ++ (keyed r key ∷ [])) e
-steps-snoc {b} {room} {c} none {left} e r key l q =
+pub steps-snoc : {b : List ℕ} {room : ℕ} {c d : Cursor} {ks : List Given} → Steps b room c ks d → {left : ℕ} (e : Cursor) (k : Given)
+    → left ≡ room - length (keysOf ks) → next d b left ≡ ok (stepIs e (foundOf k)) → Steps b room c (ks ++ (k ∷ [])) e
+steps-snoc {b} {room} {c} none {left} e k l q =
     let same : left ≡ room = omega arith in
-    more e r key (rw same at q) none
-steps-snoc {b} (more {room} {ks = ks} d′ r′ key′ p s) {left} e r key l q = more d′ r′ key′ p (steps-snoc s e r key (omega (arith, length-append key′ (keysOf ks))) q)
+    more e k (rw same at q) none
+steps-snoc {b} (more {room} {ks = ks} d j p s) {left} e k l q = more d j p (steps-snoc s e k (omega (arith, length-append (j .key) (keysOf ks))) q)
 
 -- ---- the run that they are
 
@@ -40,28 +39,28 @@ pub stops-done : (c : Cursor) (b : List ℕ) (room : ℕ) {d : Cursor} → next 
 stops-done c b room e rest = rw e
 
 -- as many as were asked for
-pub steps-full : {b : List ℕ} {room : ℕ} {c d : Cursor} {ks : List Keyed} → Steps b room c ks d → rowsFrom (length ks) c b room ≡ runIs false d ks
+pub steps-full : {b : List ℕ} {room : ℕ} {c d : Cursor} {ks : List Given} → Steps b room c ks d → rowsFrom (length ks) c b room ≡ runIs false d ks
 unfolding rowsFrom
 steps-full none = refl
-steps-full (more d r key e s) = rw e (ap (withRow (keyed r key)) (steps-full s))
+steps-full (more d k e s) = rw e (ap (withRow k) (steps-full s))
 
 -- fewer, and no row after them
-pub steps-stop : {b : List ℕ} {room : ℕ} {c d : Cursor} {ks : List Keyed} → Steps b room c ks d → (n left : ℕ) → length ks < n → left ≡ room - length (keysOf ks) → Stops d b left
+pub steps-stop : {b : List ℕ} {room : ℕ} {c d : Cursor} {ks : List Given} → Steps b room c ks d → (n left : ℕ) → length ks < n → left ≡ room - length (keysOf ks) → Stops d b left
     → rowsFrom n c b room ≡ runIs false d ks
 unfolding rowsFrom
 steps-stop s zero left h l stop = absurd (omega arith)
 steps-stop {b} {room} {c} none (suc n) left h l stop =
     let same : left ≡ room = omega arith in
     (rw same at stop) (λ d key. rowsFrom n d b (room - length key))
-steps-stop (more {ks = ks} d r key e s) (suc n) left h l stop = rw e (ap (withRow (keyed r key)) (steps-stop s n left (omega arith) (omega (arith, length-append key (keysOf ks))) stop))
+steps-stop (more {ks = ks} d k e s) (suc n) left h l stop = rw e (ap (withRow k) (steps-stop s n left (omega arith) (omega (arith, length-append (k .key) (keysOf ks))) stop))
 
 -- what a call answers then
-pub rows-given : {b : List ℕ} {room : ℕ} {c d : Cursor} {ks : List Keyed} → Steps b room c ks d → (n : ℕ) → (length ks ≡ 0 → n ≡ 0) → rowsFrom n c b room ≡ runIs false d ks
+pub rows-given : {b : List ℕ} {room : ℕ} {c d : Cursor} {ks : List Given} → Steps b room c ks d → (n : ℕ) → (length ks ≡ 0 → n ≡ 0) → rowsFrom n c b room ≡ runIs false d ks
     → nextRows n c b room ≡ ok (runIs false d ks)
 unfolding nextRows
 rows-given s zero h q = ap ok q
 rows-given none (suc n) h q = absurd (omega (arith, h refl))
-rows-given (more d r key e s) (suc n) h q = rw e (ap ok q)
+rows-given (more d k e s) (suc n) h q = rw e (ap ok q)
 
 pub rows-refused : (c : Cursor) (b : List ℕ) (room : ℕ) {k : ℕ} (n : ℕ) → 0 < n → next c b room ≡ refuse k → nextRows n c b room ≡ refuse k
 unfolding nextRows
@@ -76,7 +75,7 @@ rows-done c b room (suc n) h e = rw e
 -- ---- a loop over them: from c₀ to c, with all keys and all words written one after another
 
 pub record Gone (b keys₀ rows₀ : List ℕ) (c₀ c : Cursor) (keys rows : List ℕ) (used n : ℕ) : Type 0 where
-  pub given : List Keyed
+  pub given : List Given
   pub steps : Steps b (length keys₀) c₀ given c
   pub many : n ≡ length given
   pub keys-are : Wrote keys₀ 0 (keysOf given) keys used
@@ -85,27 +84,27 @@ pub record Gone (b keys₀ rows₀ : List ℕ) (c₀ c : Cursor) (keys rows : Li
 pub gone-start : (b keys rows : List ℕ) (c : Cursor) → Gone b keys rows c c keys rows 0 0
 gone-start b keys rows c = record { given = []; steps = none; many = refl; keys-are = wrote-none keys 0 (omega arith); rows-are = wrote-none rows 0 (omega arith) }
 
-keys-snoc : (ks : List Keyed) (k : Keyed) → keysOf ks ++ k .key ≡ keysOf (ks ++ (k ∷ []))
+keys-snoc : (ks : List Given) (k : Given) → keysOf ks ++ k .key ≡ keysOf (ks ++ (k ∷ []))
 keys-snoc [] k = sym (append-nil (k .key))
 keys-snoc (j ∷ ks) k = append-assoc (j .key) (keysOf ks) (k .key) ∙ ap (λ (l : List ℕ). j .key ++ l) (keys-snoc ks k)
 
-words-snoc : (ks : List Keyed) (k : Keyed) → wordsOf ks ++ rowWords (k .row) ≡ wordsOf (ks ++ (k ∷ []))
-words-snoc [] k = sym (append-nil (rowWords (k .row)))
-words-snoc (j ∷ ks) k = append-assoc (rowWords (j .row)) (wordsOf ks) (rowWords (k .row)) ∙ ap (λ (l : List ℕ). rowWords (j .row) ++ l) (words-snoc ks k)
+words-snoc : (ks : List Given) (k : Given) → wordsOf ks ++ givenWords k ≡ wordsOf (ks ++ (k ∷ []))
+words-snoc [] k = sym (append-nil (givenWords k))
+words-snoc (j ∷ ks) k = append-assoc (givenWords j) (wordsOf ks) (givenWords k) ∙ ap (λ (l : List ℕ). givenWords j ++ l) (words-snoc ks k)
 
 module _ {b keys₀ rows₀ : List ℕ} {c₀ c : Cursor} {keys rows : List ℕ} {used n : ℕ} (g : Gone b keys₀ rows₀ c₀ c keys rows used n) where
   left-is : (room : ℕ) → room ≡ length keys₀ - used → room ≡ length keys₀ - length (keysOf (g .given))
   left-is room e = omega (arith, e, g .keys-are .next)
 
-  pub gone-more : (room : ℕ) (d : Cursor) (r : RowRead) (key : Key) {keys′ rows′ : List ℕ} {used′ : ℕ} → room ≡ length keys₀ - used → next c b room ≡ ok (stepIs d (found r key))
-      → Wrote keys used key keys′ used′ → Wrote rows (n * rowCount) (rowWords r) rows′ ((n + 1) * rowCount) → Gone b keys₀ rows₀ c₀ d keys′ rows′ used′ (n + 1)
-  gone-more room d r key l e w v =
+  pub gone-more : (room : ℕ) (d : Cursor) (k : Given) {keys′ rows′ : List ℕ} {used′ : ℕ} → room ≡ length keys₀ - used → next c b room ≡ ok (stepIs d (foundOf k))
+      → Wrote keys used (k .key) keys′ used′ → Wrote rows (n * rowCount) (givenWords k) rows′ ((n + 1) * rowCount) → Gone b keys₀ rows₀ c₀ d keys′ rows′ used′ (n + 1)
+  gone-more room d k l e w v =
       record {
-        given = g .given ++ (keyed r key ∷ []);
-        steps = steps-snoc (g .steps) d r key (left-is room l) e;
+        given = g .given ++ (k ∷ []);
+        steps = steps-snoc (g .steps) d k (left-is room l) e;
         many = simp length-append (omega (arith, g .many));
-        keys-are = wrote-as (keys-snoc (g .given) (keyed r key)) (wrote-then (g .keys-are) w);
-        rows-are = wrote-as (words-snoc (g .given) (keyed r key)) (wrote-then (g .rows-are) v);
+        keys-are = wrote-as (keys-snoc (g .given) k) (wrote-then (g .keys-are) w);
+        rows-are = wrote-as (words-snoc (g .given) k) (wrote-then (g .rows-are) v);
       }
 
   -- the whole is what was asked for; or, once there is a row, no row after it
@@ -125,10 +124,10 @@ module _ {b keys₀ rows₀ : List ℕ} {c₀ c : Cursor} {keys rows : List ℕ}
       let w = nothing (g .given) h in
       (still (g .steps) h, (rw (w .0) at (g .keys-are .is)) ∙ splice-none keys₀ 0, (rw (w .1) at (g .rows-are .is)) ∙ splice-none rows₀ 0, omega (arith, g .keys-are .next, ap length (w .0)))
     where
-      still : {x y : Cursor} {ks : List Keyed} → Steps b (length keys₀) x ks y → length ks ≡ 0 → y ≡ x
+      still : {x y : Cursor} {ks : List Given} → Steps b (length keys₀) x ks y → length ks ≡ 0 → y ≡ x
       still none h = refl
-      still (more d r key e s) h = absurd (omega arith)
+      still (more d k e s) h = absurd (omega arith)
 
-      nothing : (ks : List Keyed) → length ks ≡ 0 → (keysOf ks ≡ []) × (wordsOf ks ≡ [])
+      nothing : (ks : List Given) → length ks ≡ 0 → (keysOf ks ≡ []) × (wordsOf ks ≡ [])
       nothing [] h = (refl, refl)
       nothing (k ∷ ks) h = absurd (omega arith)

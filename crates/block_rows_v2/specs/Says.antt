@@ -67,7 +67,7 @@ pub record PutsGave (g : Gave) (ws : List ℕ) (n code : ℕ) (ws′ : List ℕ)
 
 -- a place with the mark set
 abbrev pub markedAt : Place → Place
-markedAt p = record { order = p .order; region = p .region; at = p .at; «key_len» = p .«key_len»; done = true }
+markedAt p = record { order = p .order; region = p .region; at = p .at; number = p .number; «key_len» = p .«key_len»; done = true }
 
 abbrev pub ranTo : Place → ℕ → ℕ → Ran
 ranTo p used n = record { place = p; used = used; count = n; ended = false }

@@ -41,14 +41,14 @@ enum Gave {
     Refused(Refusal),
 }
 
-// Puts the words of row number `n`.
-fn put_nth(rows: &mut [u64], n: usize, row: Row)
+// Puts the words of the call's row `n`, with the numbers that name it in the block.
+fn put_nth(rows: &mut [u64], n: usize, region: usize, number: usize, row: Row)
     requires { ⌜ (n + 1) * rowCount ≤ length (now rows) ⌝ }
-    ensures { λ _. ⌜ Wrote (now (rows .entry)) (n * rowCount) (rowWords (rowFrom row)) (now (rows .exit)) ((n + 1) * rowCount) ⌝ }
+    ensures { λ _. ⌜ Wrote (now (rows .entry)) (n * rowCount) (rowWords region number (rowFrom row)) (now (rows .exit)) ((n + 1) * rowCount) ⌝ }
 {
     let at = n * row_words::ROW_WORDS;
     let end = at + row_words::ROW_WORDS;
-    row_words::put_row(&mut rows[at..end], row);
+    row_words::put_row(&mut rows[at..end], region, number, row);
 }
 
 // ---- a plain row
@@ -154,15 +154,17 @@ fn run(
             return ran_to(p, used, n);
         }
         carry(key, &mut keys[used..], &block[..size], at, row);
-        put_nth(rows, n, row_of(&block[..size], at, row));
+        put_nth(rows, n, p.region, p.number, row_of(&block[..size], at, row));
         n += 1;
         used += whole;
         p.at = row.next;
         if g.reach < row.next {
             p.region += 1;
+            p.number = 0;
             p.key_len = 0;
             return ran_to(p, used, n);
         }
+        p.number += 1;
         p.key_len = whole;
     }
     ran_to(p, used, n)
@@ -261,8 +263,13 @@ fn step_row(block: &[u8], key: &mut [u8], keys: &mut [u8], rows: &mut [u64], her
     }
     let moved = step_in_place_v2::next_in_place(key, p, block, &mut keys[used..]);
     match moved {
-        Moved::Found { place, row } => {
-            put_nth(rows, n, row);
+        Moved::Found {
+            place,
+            region,
+            number,
+            row,
+        } => {
+            put_nth(rows, n, region, number, row);
             Went::On(Ran {
                 place,
                 used: used + (row.shared + row.suffix_len),

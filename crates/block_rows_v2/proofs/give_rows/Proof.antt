@@ -11,6 +11,7 @@ use Rattle.layout.specs.Limits.{maxKey}
 use Rattle.layout.specs.Laws.Res.{bool-cases}
 use Rattle.layout.specs.Laws.Splice.{wrote-length}
 use Rattle.place_v2.specs.Says.{viewIn}
+use Rattle.row_words.specs.Words.{rowCount}
 use Rattle.block_rows_v2.specs.declared.Went.{Went}
 use Rattle.block_rows_v2.specs.Chain.{Gone, gone-start}
 use Rattle.block_rows_v2.specs.Says.{StepsOn}
@@ -47,7 +48,7 @@ module _ (t : tie.After-step-row Inv-loop μ-loop) where
   abbrev ran : tie.After-run-here Inv-loop μ-loop
   ran = t .before .before .before .before .before .before .before .before .before .before .before .before
 
-  few : ran .run-here .result .count < length (start ran .args .rows .now) / 13
+  few : ran .run-here .result .count < length (start ran .args .rows .now) / rowCount
   few = omega (arith, t .before .before .before .before .if2 .taken, ran .before .before .before .before .if1 .taken)
 
   abbrev told : Went → Type 0

@@ -8,7 +8,7 @@ use Rattle.block_rows_v2.proofs.put_nth.Tie as tie
 returns : tie.Need-returns
 returns c =
     let s = c .before .before .before .before .before in
-    put-words (s .args .rows .now) (s .args .n) (rowFrom (s .args .row)) (c .before .before .put-row .last .0) (s .pre) (c .before .before .put-row .ensures)
+    put-words (s .args .rows .now) (s .args .n) (s .args .region) (s .args .number) (rowFrom (s .args .row)) (c .before .before .put-row .last .0) (s .pre) (c .before .before .put-row .ensures)
 
 pub put-nth-spec : {M : Type 1} → statement M
 put-nth-spec =

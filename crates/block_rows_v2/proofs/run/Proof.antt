@@ -13,13 +13,14 @@ use Rattle.layout.specs.Limits.{maxKey}
 use Rattle.layout.specs.Plain.{plainRead}
 use Rattle.layout.specs.RowRead.{mayShare, keyOf}
 use Rattle.layout.specs.Laws.Splice.{Wrote, wrote-length}
+use Rattle.layout.specs.Laws.Trailer.{trailerOf-tells}
 use Rattle.row_decode_v2.specs.Says.{rowFrom}
 use Rattle.row_plain_v2.specs.Promise.{plainFrom}
 use Rattle.trailer.specs.Says.{regionFrom}
 use Rattle.place_v2.specs.Says.{viewIn}
 use Rattle.row_words.specs.Words.{rowCount}
 use Rattle.region_rows_v2.specs.Bounds.{Inside}
-use Rattle.region_rows_v2.specs.Region.{PlainFits, here-fits, inside-long, inside-region, share-none, share-key}
+use Rattle.region_rows_v2.specs.Region.{PlainFits, here-fits, inside-long, inside-region, inside-counts, share-none, share-key}
 use Rattle.block_rows_v2.specs.Chain.{Gone}
 use Rattle.block_rows_v2.proofs.Plain.{runs-to, given-key, given-over, given-stays, given-inside}
 use Rattle.block_rows_v2.proofs.run.Statement.{statement}
@@ -186,18 +187,28 @@ returns-3 c =
     (λ ks rs c₀ g. given-over (s .args .block .now) (s .args .b .size) (regionFrom (s .args .b .region)) (l .p) (l .key) (l .inv .1) (l .inv .2) (k .before .before .plain-at .result) (share-is (k .before .before .before .before)) (k .before .before .plain-at .ensures) (k .if2 .left) (l .keys) (l .used) (l .n) (l .inv .3) (w .before .before .before .before .before .before .before .before .before .before .before .before .if3 .left) (w .before .before .before .before .before .before .before .before .carry .ensures) (row-is w) (w .put-nth .ensures) ks rs c₀ (c .before .before .if4 .taken) (l .inv .0 ks rs c₀ g))
     (w .before .before .before .before .before .before .before .before .carry .ensures .long ∙ l .inv .2 ∙ sym (s .pre .0 .whole)) (λ z. absurd (omega (arith, l .inv .6)))
 
+-- one row more is still a number
+add-p-2 : tie.Need-add-p-2 Inv-loop μ-loop
+add-p-2 c =
+    let k = met (c .before .before .before .before .before .before) in
+    let l = k .before .before .before .before .before .before .before .loop in
+    let s = start k in
+    let long : length (s .args .block .now) < 2 ^ 64 = s .good .0 .0 in
+    let f = fits k in
+    omega (arith, inside-counts (s .args .block .now) (s .args .b .size) (regionFrom (s .args .b .region)) (viewIn (l .p) (l .key)) (l .inv .1), f .ends, f .inside, data-long k, trailerOf-tells (s .args .block .now) _ (l .inv .1 .read) .0)
+
 loop-less : tie.Need-loop-less Inv-loop μ-loop
-loop-less c = omega (arith, c .before .before .before .before .before .before .before .before .before .before .before .before .before .before .before .before .before .before .before .before .before .before .before .before .before .loop-test .taken)
+loop-less c = let w = c .before .before .before .before .before .before in omega (arith, met w .before .before .before .before .before .before .loop-test .taken)
 
 loop-again : tie.Need-loop-again Inv-loop μ-loop
 loop-again c =
-    let w = c .before .before .before .before .before in
+    let w = c .before .before .before .before .before .before in
     let k = met w in
     let l = k .before .before .before .before .before .before .before .loop in
     let s = start k in
     let rest = mid-len (l .used) (length (l .keys)) (l .keys) (omega arith) in (
-      (λ ks rs c₀ g. given-stays (s .args .block .now) (s .args .b .size) (regionFrom (s .args .b .region)) (l .p) (l .key) (l .inv .1) (l .inv .2) (k .before .before .plain-at .result) (share-is (k .before .before .before .before)) (k .before .before .plain-at .ensures) (k .if2 .left) (l .keys) (l .used) (l .n) (l .inv .3) (w .before .before .before .before .before .before .before .before .before .before .before .before .if3 .left) (w .before .before .before .before .before .before .before .before .carry .ensures) (row-is w) (w .put-nth .ensures) (c .if4 .left) ks rs c₀ (l .inv .0 ks rs c₀ g)),
-      given-inside (s .args .block .now) (s .args .b .size) (regionFrom (s .args .b .region)) (l .p) (l .key) (l .inv .1) (l .inv .2) (k .before .before .plain-at .result) (share-is (k .before .before .before .before)) (k .before .before .plain-at .ensures) (k .if2 .left) (l .keys) (l .used) (l .n) (l .inv .3) (w .before .before .before .before .before .before .before .before .before .before .before .before .if3 .left) (w .before .before .before .before .before .before .before .before .carry .ensures) (row-is w) (w .put-nth .ensures) (c .if4 .left),
+      (λ ks rs c₀ g. given-stays (s .args .block .now) (s .args .b .size) (regionFrom (s .args .b .region)) (l .p) (l .key) (l .inv .1) (l .inv .2) (k .before .before .plain-at .result) (share-is (k .before .before .before .before)) (k .before .before .plain-at .ensures) (k .if2 .left) (l .keys) (l .used) (l .n) (l .inv .3) (w .before .before .before .before .before .before .before .before .before .before .before .before .if3 .left) (w .before .before .before .before .before .before .before .before .carry .ensures) (row-is w) (w .put-nth .ensures) (c .before .if4 .left) ks rs c₀ (l .inv .0 ks rs c₀ g)),
+      given-inside (s .args .block .now) (s .args .b .size) (regionFrom (s .args .b .region)) (l .p) (l .key) (l .inv .1) (l .inv .2) (k .before .before .plain-at .result) (share-is (k .before .before .before .before)) (k .before .before .plain-at .ensures) (k .if2 .left) (l .keys) (l .used) (l .n) (l .inv .3) (w .before .before .before .before .before .before .before .before .before .before .before .before .if3 .left) (w .before .before .before .before .before .before .before .before .carry .ensures) (row-is w) (w .put-nth .ensures) (c .before .if4 .left),
       w .before .before .before .before .before .before .before .before .carry .ensures .long ∙ l .inv .2,
       omega (arith, key-given w .room, wrote-length (key-given w)),
       wrote-length (key-given w) ∙ l .inv .4,
@@ -223,5 +234,5 @@ run-spec =
     (λ c κs. search needs) same-length-4 (λ c. search needs) (λ c. search needs) returns-2 sub-carry
     (λ c. search needs) (λ c. search needs) slice-aggregate-carry carry-requires slice-aggregate-row-of
     row-of-requires put-nth-requires add-n add-used add-p (λ c κs. search needs) same-length-7 same-length-8
-    same-length-9 returns-3 loop-less loop-again (λ c κs. search needs) (λ c. search needs)
+    same-length-9 returns-3 add-p-2 loop-less loop-again (λ c κs. search needs) (λ c. search needs)
     (λ c. search needs) (λ c. search needs) returns-4)

@@ -31,7 +31,7 @@ module _ (n : tie.After-next-in-place) where
   rest = midOf (here .used) (length (start .args .keys .now) - here .used) (start .args .keys .now)
 
 row-found : (k : tie.After-known-told) → let n = k .before .before .before .before .before .before .before in
-    Finds (start n .args .block .now) (viewIn (here n .place) (start n .args .key .now)) (viewIn (k .before .moved .given .0 .0) (n .next-in-place .last .0)) (rowFrom (k .before .moved .given .0 .1 .0)) (rest n) (n .next-in-place .last .1 .1 .1 .0)
+    Finds (start n .args .block .now) (viewIn (here n .place) (start n .args .key .now)) (viewIn (k .before .moved .given .0 .0) (n .next-in-place .last .0)) (k .before .moved .given .0 .1 .0) (k .before .moved .given .0 .1 .1 .0) (rowFrom (k .before .moved .given .0 .1 .1 .1 .0)) (rest n) (n .next-in-place .last .1 .1 .1 .0)
 row-found k = let n = k .before .before .before .before .before .before .before in moved-finds _ _ _ _ _ _ _ (start n .pre .0 .whole) (n .next-in-place .ensures) (k .before .moved .given .1)
 
 returns : tie.Need-returns
@@ -42,18 +42,21 @@ returns c =
     gives-stop g (wrote-length (g .keys-are)) (s .pre .0 .inside) most key₀ refl (omega arith) (omega arith) (h .place) (c .before .marked .result) (s .args .key .now) refl
     (s .pre .1 (c .before .before .if1 .taken) _ ∙ ap (λ (q : Place). ok (stepIs (viewIn q (s .args .key .now)) done)) (sym (c .before .marked .ensures))) (c .stop .ensures)
 
-add-t27 : tie.Need-add-t27
-add-t27 c = omega (arith, row-found (c .before .before .before .before .before) .well .fits)
+put-nth-requires : tie.Need-put-nth-requires
+put-nth-requires c κs = start (c .before .before .before .before .before .before .before .before) .pre .0 .words
 
-add-t28 : tie.Need-add-t28
-add-t28 c =
+add-t29 : tie.Need-add-t29
+add-t29 c = omega (arith, row-found (c .before .before .before .before .before) .well .fits)
+
+add-t30 : tie.Need-add-t30
+add-t30 c =
     let k = c .before .before .before .before .before in
     let s = start (k .before .before .before .before .before .before .before) in
     let long : length (s .args .keys .now) < 2 ^ 64 = s .good .1 .1 .0 .0 in
     omega (arith, key-fits (s .args .here .used) (s .args .keys .now) (s .pre .0 .inside) (row-found k))
 
-add-t29 : tie.Need-add-t29
-add-t29 c =
+add-t31 : tie.Need-add-t31
+add-t31 c =
     let s = start (c .before .before .before .before .before .before .before .before .before .before .before .before) in
     let long : length (s .args .rows .now) < 2 ^ 64 = s .good .1 .1 .1 .0 .0 in
     omega (arith, s .pre .0 .words)
@@ -64,7 +67,7 @@ returns-2 c =
     let n = k .before .before .before .before .before .before .before in
     let s = start n in
     let same : length (n .next-in-place .last .0) ≡ length (s .args .key .now) = n .next-in-place .kept .0 in
-    let more : RunsOn (s .args .block .now) (here n .count + 1) (here n) (s .args .key .now) (s .args .keys .now) (s .args .rows .now) (ranTo (k .before .moved .given .0 .0) (here n .used + (k .before .moved .given .0 .1 .0 .shared + k .before .moved .given .0 .1 .0 .«suffix_len»)) (here n .count + 1)) (n .next-in-place .last .0) (putMid (here n .used) (length (s .args .keys .now) - here n .used) (s .args .keys .now) (n .next-in-place .last .1 .1 .1 .0)) (c .before .before .before .put-nth .last .0) =
+    let more : RunsOn (s .args .block .now) (here n .count + 1) (here n) (s .args .key .now) (s .args .keys .now) (s .args .rows .now) (ranTo (k .before .moved .given .0 .0) (here n .used + (k .before .moved .given .0 .1 .1 .1 .0 .shared + k .before .moved .given .0 .1 .1 .1 .0 .«suffix_len»)) (here n .count + 1)) (n .next-in-place .last .0) (putMid (here n .used) (length (s .args .keys .now) - here n .used) (s .args .keys .now) (n .next-in-place .last .1 .1 .1 .0)) (c .before .before .before .put-nth .last .0) =
     runs-to (s .args .block .now) (here n .count + 1) (here n) (s .args .key .now) (s .args .keys .now) (s .args .rows .now) _ _ _ _ _ _ refl (omega arith) (omega arith)
     (λ ks rs c₀ g. turn g (wrote-length (g .keys-are)) (s .pre .0 .inside) (row-found k) (c .before .before .before .put-nth .ensures)) same (λ z. absurd (omega arith)) in
     (more, refl, refl)
@@ -95,7 +98,7 @@ step-row-spec =
     tie.close
     (tie.spec
     (λ c κs. search needs) (λ c κs. search needs) returns (λ c. search needs) (λ c. search needs)
-    (λ c. search needs) (λ c κs. search needs) (λ c. search needs) (λ c κs. search needs) add-t27 add-t28
-    add-t29 (λ c. search needs) (λ c κs. search needs) (λ c. search needs) (λ c κs. search needs)
+    (λ c. search needs) (λ c κs. search needs) (λ c. search needs) put-nth-requires add-t29 add-t30
+    add-t31 (λ c. search needs) (λ c κs. search needs) (λ c. search needs) (λ c κs. search needs)
     (λ c. search needs) (λ c. search needs) (λ c. search needs) returns-2 (λ c. search needs)
     (λ c. search needs) returns-3 (λ c. search needs) (λ c. search needs) returns-4)
