@@ -10,7 +10,7 @@ use Rattle.layout.specs.Limits.{maxKey}
 use Rattle.layout.specs.RowRead.{RowRead}
 use Rattle.layout.specs.Trailer.{Trailer}
 use Rattle.layout.specs.Check.{check}
-use Rattle.layout.specs.Cursor.{ascending, Cursor, opened, cursorOr, openBlock, Keyed, found, stepIs, next}
+use Rattle.layout.specs.Cursor.{ascending, Cursor, openedUp, cursorOr, openBlock, Keyed, found, stepIs, next}
 use Rattle.demands.specs.Runs.{Walks, stands, gives}
 use Rattle.demands.specs.Rows.{Rows, BothWays}
 use Rattle.demands.specs.Proof2.{rows-room}
@@ -107,7 +107,7 @@ fold-start t b r o = go (check b) refl
         let a = has-rows b n h in
         let q : Rows b n (a .0) (a .1) = a .2 in
         let w : BothWays b (a .0) maxKey (a .1) = rows-walk b n (a .0) (a .1) q in
-        let same : opened ascending (a .0) ≡ viewIn (r .start) (replicate maxKey 0) = ok-inj (sym (w .opens-up) ∙ o .opens h) in
+        let same : openedUp ≡ viewIn (r .start) (replicate maxKey 0) = ok-inj (sym (w .opens-up) ∙ o .opens h) in
         let many : r .rows ≡ n = o .many ∙ ap rowsOf h in
         rw (o .verdict, h, ← same, rows-tally t b n (a .0) (a .1) q h)
         (record { rows = a .1; last = w .forwards .last; walks = w .forwards .walks; all = omega (arith, q .many, many); makes = refl })
@@ -129,8 +129,10 @@ module _ {want : Told} {v : Res (Unit {0})} (b : List ℕ) (left : ℕ) (c : Cur
   record Turns : Type 0 where
     pub r : RowRead
     pub key : List ℕ
+    pub region : ℕ
+    pub number : ℕ
     pub moved : Cursor
-    pub is : next c b maxKey ≡ ok (stepIs moved (found r key))
+    pub is : next c b maxKey ≡ ok (stepIs moved (found region number r key))
     pub then : Folding want v b (left - 1) moved (counted t (r .held))
 
   fold-turns : 0 < left → Turns
@@ -139,8 +141,8 @@ module _ {want : Told} {v : Res (Unit {0})} (b : List ℕ) (left : ℕ) (c : Cur
     where
       go : (last d : Cursor) (rows : List Keyed) → Walks b maxKey d rows last → d ≡ c → length rows ≡ left → told (countedRows t rows) v ≡ want → Turns
       go last d rows (stands e) same z m = absurd (omega arith)
-      go last d rows (gives e e′ e″ k ks p w) same z m =
-          record { r = k .row; key = k .key; moved = e′; is = rw (← same) p; then = record { rows = ks; last = e″; walks = w; all = omega arith; makes = m } }
+      go last d rows (gives e e′ e″ k ks tr region number read named p w) same z m =
+          record { r = k .row; key = k .key; region = region; number = number; moved = e′; is = rw (← same) p; then = record { rows = ks; last = e″; walks = w; all = omega arith; makes = m } }
 
 -- a step in place, over as many key bytes as the longest key has, with rows to go: it finds the next row, and hands on what that holds
 module _ {want : Told} {v : Res (Unit {0})} (b : List ℕ) (left : ℕ) (p : Place) (key out : List ℕ) (t : Tally) (s : Folding want v b left (viewIn p key) t) (h : 0 < left)
@@ -148,17 +150,17 @@ module _ {want : Told} {v : Res (Unit {0})} (b : List ℕ) (left : ℕ) (p : Pla
   turn : Turns b left (viewIn p key) t s
   turn = fold-turns b left (viewIn p key) t s h
 
-  whole : Moves (ok (stepIs (turn .moved) (found (turn .r) (turn .key)))) p key out (m .moved) key′ out′
+  whole : Moves (ok (stepIs (turn .moved) (found (turn .region) (turn .number) (turn .r) (turn .key)))) p key out (m .moved) key′ out′
   whole = rw (lent-whole p key b (length out) k (ap (next (viewIn p key) b) l ∙ turn .is)) at (m .steps)
 
   pub fold-passed : (t′ : Tally) → CountsRow t (x .held) t′ → Folding want v b (left - 1) (viewIn (x .place) key′) t′
   fold-passed t′ counts = go (m .moved) refl
     where
       go : (y : Moved) → m .moved ≡ y → Folding want v b (left - 1) (viewIn (x .place) key′) t′
-      go (Found q row) e =
-          let same : turn .r ≡ rowFrom row = told-row (ok-inj (yes saysMoved (whole .answer) e)) in
+      go (Found q g n row) e =
+          let same : turn .r ≡ rowFrom row = told-row (ok-inj (yes saysMoved (whole .answer) e)) .2 in
           let at : viewIn q key′ ≡ turn .moved = sym (ap (λ (z : Moved). viewIn (placeAfter z p) key′) e) ∙ whole .view in
-          let on : x ≡ passedOf p (Found q row) = m .hands-on ∙ ap (passedOf p) e in
+          let on : x ≡ passedOf p (Found q g n row) = m .hands-on ∙ ap (passedOf p) e in
           rw (counts, on, at, ← ap (λ (z : RowRead). z .held) same) (turn .then)
       go (Done q) e = absurd (told-apart (ok-inj (yes saysMoved (whole .answer) e)))
       go (Refused r) e = absurd (apart (yes saysMoved (whole .answer) e))

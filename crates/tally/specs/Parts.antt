@@ -29,7 +29,7 @@ pub record OpensRows (b : List ℕ) (r : Opening) : Type 0 where
 
 -- what is handed on of a step that finds no row does not matter
 abbrev pub passedOf : Place → Moved → Passed
-passedOf p (Found q x) = record { place = q; held = x .held }
+passedOf p (Found q g n x) = record { place = q; held = x .held }
 passedOf p (Done q) = record { place = p; held = Tombstone }
 passedOf p (Refused x) = record { place = p; held = Tombstone }
 

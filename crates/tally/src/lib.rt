@@ -114,7 +114,12 @@ fn step(
     };
     let moved = step_in_place_v2::next_in_place(carried, p, block, key);
     match moved {
-        Moved::Found { place, row } => {
+        Moved::Found {
+            place,
+            region: _,
+            number: _,
+            row,
+        } => {
             let held = row.held;
             Passed { place, held }
         }
