@@ -65,11 +65,11 @@ module _ (ws last bytes places key value fs : List ℕ) (f : RowFields) (h : len
 
 module _ (b ws key out row : List ℕ) (p : Place) (h : length row ≡ rowCount) (k : length key ≡ maxKey) (is : cursorIn ws key ≡ ok (viewIn p key)) where
   module _ (r : Next) (out′ : List ℕ) (s : StepsNext (iteratorOver p key) b out r out′) where
-    pub next-found : {x : Row} {ws′ key′ row′ : List ℕ} → r .answer ≡ NextFound x → ws′ ≡ cursorWords (viewOf (r .iterator)) → key′ ≡ r .iterator .key → row′ ≡ rowWords (rowFrom x)
-        → StepsFlat b ws key out row 0 ws′ key′ out′ row′
-    next-found {x} {ws′} {key′} e w q z =
+    pub next-found : {region n : ℕ} {x : Row} {ws′ key′ row′ : List ℕ} → r .answer ≡ NextFound region n x → ws′ ≡ cursorWords (viewOf (r .iterator)) → key′ ≡ r .iterator .key
+        → row′ ≡ rowWords region n (rowFrom x) → StepsFlat b ws key out row 0 ws′ key′ out′ row′
+    next-found {region} {n} {x} {ws′} {key′} e w q z =
         steps-asked b ws key out row p h k is
-        (stepped (viewOf (r .iterator)) ws key out row ws′ key′ out′ w (ap (take (r .iterator .place .«key_len»)) q) (viewIn p key) (next (viewIn p key) b (length out)) (rowFrom x)
+        (stepped (viewOf (r .iterator)) ws key out row ws′ key′ out′ w (ap (take (r .iterator .place .«key_len»)) q) (viewIn p key) (next (viewIn p key) b (length out)) region n (rowFrom x)
         (yes saysNext (s .answer) e) (s .view) (s .lent) z)
 
     pub next-done : {ws′ key′ : List ℕ} → r .answer ≡ NextDone → ws′ ≡ cursorWords (viewOf (r .iterator)) → key′ ≡ r .iterator .key

@@ -69,7 +69,8 @@ fn iterator_over(p: Place, key: &[u8]) -> BlockIteratorV2
     }
 }
 
-// One step: 254, 14, 18, then done, 15, 18, the row's, 19. Good gives the row, and its key to the start of `out`.
+// One step: 254, 14, 18, then done, 15, 18, the row's, 18 for a descending cursor's number, 19. Good gives the row with its region and its number there, and its
+// key to the start of `out`.
 #[no_mangle]
 pub extern "C" fn slatedb_next_by_value(
     block: &[u8],
@@ -87,9 +88,13 @@ pub extern "C" fn slatedb_next_by_value(
     let next = iterator_over(p, key).next(block, out);
     let answer = next.answer;
     match answer {
-        NextAnswer::Found(r) => {
+        NextAnswer::Found {
+            region,
+            number,
+            row: r,
+        } => {
             block_words::put_iterator(cursor, key, next.iterator);
-            row_words::put_row(row, r);
+            row_words::put_row(row, region, number, r);
             block_words::GOOD
         }
         NextAnswer::Done => {
