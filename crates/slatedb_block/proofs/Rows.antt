@@ -35,7 +35,7 @@ use Rattle.basics.specs.declared.Verdict.the-variants.{Good, Refused}
 use Rattle.build_in_place_v2.specs.declared.Grown.{Grown}
 use Rattle.build_in_place_v2.specs.declared.Grown.the-variants.{Row as GrownRow, Refused as GrownRefused}
 use Rattle.state_v2.specs.declared.State.{State}
-use Rattle.row_words.specs.Words.{badWords, codeOf, builderFrom, builderWords, fieldsIn, rowWords, builderCount, rowCount}
+use Rattle.row_words.specs.Words.{badWords, codeOf, builderFrom, builderWords, fieldsIn, singleWords, builderCount, singleCount}
 use Rattle.block_words.specs.Says.{stateIn, Gain, gainIs}
 use Rattle.block_words.specs.Promise.{offerIn}
 use Rattle.block_words.proofs.Starts.{Offers, offer-bad, offer-tells}
@@ -71,15 +71,15 @@ module _ (prevLen shared : ℕ) (suffix value fs out : List ℕ) (n : ℕ) where
 -- ---- decode
 
 module _ (s : List ℕ) (prevLen : ℕ) (row : List ℕ) where
-  pub decodes-short : (length row ≡ rowCount → ⊥) → DecodesFlat s prevLen row badWords row
-  decodes-short h = sets-refused (counted-not row rowCount (decodeRow s prevLen) h) refl
+  pub decodes-short : (length row ≡ singleCount → ⊥) → DecodesFlat s prevLen row badWords row
+  decodes-short h = sets-refused (counted-not row singleCount (decodeRow s prevLen) h) refl
 
-  module _ (a : RowRead) (h : length row ≡ rowCount) (d : Decodes s prevLen a) where
-    pub decodes-good : {r : Row} {row′ : List ℕ} → a ≡ ReadRow r → row′ ≡ rowWords (rowFrom r) → DecodesFlat s prevLen row 0 row′
-    decodes-good {r} e q = sets-good (rowFrom r) (counted-so row rowCount (decodeRow s prevLen) h ∙ yes saysRow d e) q
+  module _ (a : RowRead) (h : length row ≡ singleCount) (d : Decodes s prevLen a) where
+    pub decodes-good : {r : Row} {row′ : List ℕ} → a ≡ ReadRow r → row′ ≡ singleWords (rowFrom r) → DecodesFlat s prevLen row 0 row′
+    decodes-good {r} e q = sets-good (rowFrom r) (counted-so row singleCount (decodeRow s prevLen) h ∙ yes saysRow d e) q
 
     pub decodes-refused : {y x : Refusal} {code : ℕ} → a ≡ RowRefused y → x ≡ refusalOfRow a → code ≡ number x → DecodesFlat s prevLen row code row
-    decodes-refused {y} {x} e t q = sets-refused (counted-so row rowCount (decodeRow s prevLen) h ∙ no saysRow refusalOfRow d e refl t) q
+    decodes-refused {y} {x} e t q = sets-refused (counted-so row singleCount (decodeRow s prevLen) h ∙ no saysRow refusalOfRow d e refl t) q
 
 -- ---- the fit question
 

@@ -29,11 +29,11 @@ module _ (b ws key out row : List ℕ) (p : Place) (h : length row ≡ rowCount)
     whole : Moves (next (viewIn p key) b (length out)) p key out r key′ out′
     whole = rw (lent-whole p key b (length out) k refl) at m
 
-    moved-found : {q : Place} {x : Row} {ws′ row′ : List ℕ} → r ≡ Found q x → ws′ ≡ cursorWords (viewIn q key′) → row′ ≡ rowWords (rowFrom x)
+    moved-found : {q : Place} {g n : ℕ} {x : Row} {ws′ row′ : List ℕ} → r ≡ Found q g n x → ws′ ≡ cursorWords (viewIn q key′) → row′ ≡ rowWords g n (rowFrom x)
         → StepsFlat b ws key out row 0 ws′ key′ out′ row′
-    moved-found {q} {x} {ws′} e w z =
+    moved-found {q} {g} {n} {x} {ws′} e w z =
         steps-asked b ws key out row p h k is
-        (stepped (viewIn q key′) ws key out row ws′ key′ out′ w refl (viewIn p key) (next (viewIn p key) b (length out)) (rowFrom x) (yes saysMoved (whole .answer) e)
+        (stepped (viewIn q key′) ws key out row ws′ key′ out′ w refl (viewIn p key) (next (viewIn p key) b (length out)) g n (rowFrom x) (yes saysMoved (whole .answer) e)
         (sym (ap (λ (y : Moved). viewIn (placeAfter y p) key′) e) ∙ whole .view) (whole .lent) z)
 
     moved-done : {q : Place} {ws′ : List ℕ} → r ≡ Done q → ws′ ≡ cursorWords (viewIn q key′) → StepsFlat b ws key out row doneCode ws′ key′ out′ row
@@ -52,6 +52,6 @@ module _ (b ws key out row : List ℕ) (p : Place) (h : length row ≡ rowCount)
   -- whatever was answered, and what `put_moved` left of it
   pub moved-put : (r : Moved) (key′ out′ : List ℕ) → StepsInPlace p key b out r key′ out′ → {code : ℕ} {ws′ row′ : List ℕ} → PutsMoved r ws row code ws′ row′
       → StepsFlat b ws key out row code ws′ key′ out′ row′
-  moved-put (Found q x) key′ out′ m g = rw (g .answer) (moved-found (Found q x) key′ out′ m refl (g .state) (g .row-words))
+  moved-put (Found q i n x) key′ out′ m g = rw (g .answer) (moved-found (Found q i n x) key′ out′ m refl (g .state) (g .row-words))
   moved-put (Done q) key′ out′ m g = rw (g .answer, g .row-words) (moved-done (Done q) key′ out′ m refl (g .state))
   moved-put (Refused x) key′ out′ m g = rw (g .state, g .row-words) (moved-refused (Refused x) key′ out′ m refl (g .answer))

@@ -14,7 +14,7 @@ use Rattle.layout.specs.Builder.{Builder, newBuilder, hasNoRows, wouldFit, buil
 use Rattle.layout.specs.Check.{check}
 use Rattle.layout.specs.Cursor.{openBlock, isEmpty}
 use Rattle.layout.specs.Seek.{Sought, seek}
-use Rattle.row_words.specs.Words.{doneCode, codeOf, setBy, counted, truthWord, orderIn, cursorIn, cursorWords, builderFrom, builderIn, builderWords, fieldsIn, rowWords, builderCount, cursorCount, rowCount}
+use Rattle.row_words.specs.Words.{doneCode, codeOf, setBy, counted, truthWord, orderIn, cursorIn, cursorWords, builderFrom, builderIn, builderWords, fieldsIn, singleWords, builderCount, cursorCount, singleCount}
 use Rattle.row_words.specs.Flat.{Sets}
 use Rattle.block_words.specs.Exports.{KeyLeft}
 
@@ -34,7 +34,7 @@ abbrev pub EncodesFlat : ℕ → ℕ → List ℕ → List ℕ → List ℕ → 
 EncodesFlat prevLen shared suffix value fs out n code out′ n′ = Lays (bind (fieldsIn fs value) λ f. encodeRow prevLen shared suffix f (length out)) out n code out′ n′
 
 abbrev pub DecodesFlat : List ℕ → ℕ → List ℕ → ℕ → List ℕ → Type 0
-DecodesFlat s prevLen row code row′ = Sets (counted row rowCount (decodeRow s prevLen)) rowWords row code row′
+DecodesFlat s prevLen row code row′ = Sets (counted row singleCount (decodeRow s prevLen)) singleWords row code row′
 
 -- ---- building a block
 

@@ -31,17 +31,17 @@ pub record PutsGrown (g : Grown) (ws : List ℕ) (code : ℕ) (ws′ : List ℕ)
 -- ---- a step
 
 abbrev pub movedCode : Moved → ℕ
-movedCode (Found p r) = 0
+movedCode (Found p g n r) = 0
 movedCode (Done p) = doneCode
 movedCode (Refused x) = number x
 
 abbrev pub movedWords : Moved → List ℕ → List ℕ
-movedWords (Found p r) ws = cursorWords (viewIn p [])
+movedWords (Found p g n r) ws = cursorWords (viewIn p [])
 movedWords (Done p) ws = cursorWords (viewIn p [])
 movedWords (Refused x) ws = ws
 
 abbrev pub movedRow : Moved → List ℕ → List ℕ
-movedRow (Found p r) row = rowWords (rowFrom r)
+movedRow (Found p g n r) row = rowWords g n (rowFrom r)
 movedRow (Done p) row = row
 movedRow (Refused x) row = row
 

@@ -57,14 +57,14 @@ pub extern "C" fn slatedb_encode(
 pub extern "C" fn slatedb_decode(input: &[u8], previous_len: usize, row: &mut [u64]) -> u8
     ensures { λ r. ⌜ DecodesFlat (now (input .entry)) «previous_len» (now (row .entry)) r (now (row .exit)) ⌝ }
 {
-    if row.len() != row_words::ROW_WORDS {
+    if row.len() != row_words::SINGLE_WORDS {
         return block_words::BAD_WORDS;
     }
     let read = row_decode_v2::decode(input, previous_len);
     let RowRead::Read(r) = read else {
         return basics::number(row_decode_v2::row_refusal(read));
     };
-    row_words::put_row(row, r);
+    row_words::put_single(row, r);
     block_words::GOOD
 }
 
@@ -214,7 +214,7 @@ pub extern "C" fn slatedb_check(block: &[u8], count: &mut u64) -> u8
     }
 }
 
-// A cursor before the first row, or after the last one: 254, 14, 15.
+// A cursor before the first row: 254, 14, 15; or after the last one, whose region is read: then its rows' 9 to 13, 1, 2, 3, 16.
 #[no_mangle]
 pub extern "C" fn slatedb_open(block: &[u8], order: u64, cursor: &mut [u64]) -> u8
     ensures { λ r. ⌜ OpensFlat (now (block .entry)) order (now (cursor .entry)) r (now (cursor .exit)) ⌝ }
@@ -262,9 +262,14 @@ fn put_moved(cursor: &mut [u64], row: &mut [u64], moved: Moved) -> u8
     ensures { λ r. ⌜ PutsMoved moved (now (cursor .entry)) (now (row .entry)) r (now (cursor .exit)) (now (row .exit)) ⌝ }
 {
     match moved {
-        Moved::Found { place, row: found } => {
+        Moved::Found {
+            place,
+            region,
+            number,
+            row: found,
+        } => {
             block_words::put_cursor(cursor, place);
-            row_words::put_row(row, found);
+            row_words::put_row(row, region, number, found);
             block_words::GOOD
         }
         Moved::Done(place) => {
@@ -293,7 +298,8 @@ fn next_words(
     put_moved(cursor, row, moved)
 }
 
-// One step, in place: 254, 14, 18, then done, 15, 18, the row's, 19. Good gives the row, and its key to the start of `out`.
+// One step, in place: 254, 14, 18, then done, 15, 18, the row's, 18 for a descending cursor's number, 19. Good gives the row with its region and its number there,
+// and its key to the start of `out`.
 #[no_mangle]
 pub extern "C" fn slatedb_next(
     block: &[u8],

@@ -19,7 +19,7 @@ returns-3 : tie.Need-returns-3
 returns-3 c =
     let after-read = c .before .before .before .before .before in
     let start = after-read .before .before .before .before .before .before in
-    decodes-good _ _ (start .args .row .now) _ (after-read .before .before .before .if1 .left) (after-read .before .before .decode .ensures) (after-read .read .given .1) (stored (after-read .before .before .before .if1 .left) (c .before .before .put-row .ensures))
+    decodes-good _ _ (start .args .row .now) _ (after-read .before .before .before .if1 .left) (after-read .before .before .decode .ensures) (after-read .read .given .1) (stored (after-read .before .before .before .if1 .left) (c .before .before .put-single .ensures))
 
 pub slatedb-decode-spec : {M : Type 1} → statement M
 slatedb-decode-spec =

@@ -1,5 +1,5 @@
 -- `slatedb_open` keeps its promise: the number of words and the order first, then the cursor that `open_place` promised, as words.
--- Each exit is one law of `Laws`: the two tests are the definition's first, and the five words are stored only where the block opened, from the place of the opened cursor.
+-- Each exit is one law of `Laws`: the two tests are the definition's first, and the words are stored only where the block opened, from the place of the opened cursor.
 use Rattle.basics.specs.Answers.{yes}
 use Rattle.block_words.specs.Says.{saysOrdered}
 use Rattle.row_words.proofs.Laws.{stored}
@@ -21,13 +21,13 @@ returns-3 c =
     let after-enum-told2 = c .before .before .before .before in
     let after-order-in = after-enum-told2 .before .before .before .before .before .before in
     let start = after-order-in .before .before .before .before in
-    opens-good (start .args .block .now) (start .args .order) (start .args .cursor .now) _ _ (after-order-in .before .if1 .left) (yes saysOrdered (after-order-in .order-in .ensures) (after-enum-told2 .before .before .before .before .ordered .given .1)) (after-enum-told2 .before .before .open-place .ensures) (after-enum-told2 .enum-told2 .given .1) (stored (after-order-in .before .if1 .left) (c .before .before .put-cursor .ensures))
+    opens-good (start .args .block .now) (start .args .order) (start .args .cursor .now) _ (after-enum-told2 .before .before .before .before .ordered .given .0 .0) (after-order-in .before .if1 .left) (yes saysOrdered (after-order-in .order-in .ensures) (after-enum-told2 .before .before .before .before .ordered .given .1)) (after-enum-told2 .before .before .open-place .ensures) (after-enum-told2 .enum-told2 .given .1) (stored (after-order-in .before .if1 .left) (c .before .before .put-cursor .ensures))
 
 returns-4 : tie.Need-returns-4
 returns-4 c =
     let after-ordered = c .before .before .before .before .before .before in
     let start = after-ordered .before .before .before .before .before .before in
-    opens-refused (start .args .block .now) (start .args .order) (start .args .cursor .now) _ _ (after-ordered .before .before .before .if1 .left) (yes saysOrdered (after-ordered .before .before .order-in .ensures) (after-ordered .ordered .given .1)) (c .before .before .before .before .open-place .ensures) (c .before .before .answer .given .1) (c .number .ensures)
+    opens-refused (start .args .block .now) (start .args .order) (start .args .cursor .now) _ (after-ordered .ordered .given .0 .0) (after-ordered .before .before .before .if1 .left) (yes saysOrdered (after-ordered .before .before .order-in .ensures) (after-ordered .ordered .given .1)) (c .before .before .before .before .open-place .ensures) (c .before .before .answer .given .1) (c .number .ensures)
 
 pub slatedb-open-spec : {M : Type 1} → statement M
 slatedb-open-spec =
