@@ -65,7 +65,7 @@ module _ {want : Res Walk} (b : List ℕ) (limit : ℕ) (c : Cursor) (rows sum :
     unfolding walk
     walking-refused e = stepped h λ left q m. rw e at m
 
-    pub walking-more : (d : Cursor) (r : RowRead) (key : Key) (sum′ : ℕ) → next c b maxKey ≡ ok (stepIs d (found r key)) → sum′ ≡ (sum + amount r key) % 2 ^ 64
+    pub walking-more : {region n : ℕ} (d : Cursor) (r : RowRead) (key : Key) (sum′ : ℕ) → next c b maxKey ≡ ok (stepIs d (found region n r key)) → sum′ ≡ (sum + amount r key) % 2 ^ 64
         → Walking want b limit d (rows + 1) sum′
     unfolding walk
     walking-more d r key sum′ e q = stepped h λ left t m. record { left = left; all = omega arith; few = omega (arith, q); makes = go (amount r key) q (walk left d b) ∙ rw e at m }

@@ -37,19 +37,19 @@ module _ (b : List ℕ) (size : ℕ) (g : Region) (p : Place) (key : List ℕ) (
         → Walking want b limit (viewIn p key) rows sum → Walking want b limit d (rows + 1) sum′
     onward d v w =
         let t = here-tells b size g p key i (plainFrom r) m e h in
-        let step : next (viewIn p key) b maxKey ≡ ok (stepIs d (found (rowHere b size g p key i (plainFrom r) m e h) (take (r .shared + r .unshared) key′))) =
+        let step : next (viewIn p key) b maxKey ≡ ok (stepIs d (found (p .region) (p .number) (rowHere b size g p key i (plainFrom r) m e h) (take (r .shared + r .unshared) key′))) =
         here-step b size g p key i (plainFrom r) m e h maxKey (omega (arith, t .shared-small, t .unshared-small))
-        ∙ ap₂ (λ (c : Cursor) (k : Key). ok (stepIs c (found (rowHere b size g p key i (plainFrom r) m e h) k))) (sym v) (sym carried) in
+        ∙ ap₂ (λ (c : Cursor) (k : Key). ok (stepIs c (found (p .region) (p .number) (rowHere b size g p key i (plainFrom r) m e h) k))) (sym v) (sym carried) in
         walking-more b limit (viewIn p key) rows sum w few d (rowHere b size g p key i (plainFrom r) m e h) (take (r .shared + r .unshared) key′) sum′ step (q .summed)
 
     pub plain-over : {want : Res Walk} → g .reach < r .next → Walking want b limit (viewIn p key) rows sum
-        → Walking want b limit (viewIn (movedTo p (p .region + 1) (r .next) 0) key′) (rows + 1) sum′
-    plain-over k w = onward (viewIn (movedTo p (p .region + 1) (r .next) 0) key′) (here-over b size g p key i (plainFrom r) m e h whole key′ carried k) w
+        → Walking want b limit (viewIn (movedTo p (p .region + 1) (r .next) 0 0) key′) (rows + 1) sum′
+    plain-over k w = onward (viewIn (movedTo p (p .region + 1) (r .next) 0 0) key′) (here-over b size g p key i (plainFrom r) m e h whole key′ carried k) w
 
     module _ (k : r .next ≤ g .reach) where
       pub plain-stays : {want : Res Walk} → Walking want b limit (viewIn p key) rows sum
-          → Walking want b limit (viewIn (movedTo p (p .region) (r .next) (r .shared + r .unshared)) key′) (rows + 1) sum′
-      plain-stays w = onward (viewIn (movedTo p (p .region) (r .next) (r .shared + r .unshared)) key′) (here-stays b size g p key i (plainFrom r) m e h whole key′ carried k) w
+          → Walking want b limit (viewIn (movedTo p (p .region) (r .next) (p .number + 1) (r .shared + r .unshared)) key′) (rows + 1) sum′
+      plain-stays w = onward (viewIn (movedTo p (p .region) (r .next) (p .number + 1) (r .shared + r .unshared)) key′) (here-stays b size g p key i (plainFrom r) m e h whole key′ carried k) w
 
-      pub plain-inside : Inside b size g (viewIn (movedTo p (p .region) (r .next) (r .shared + r .unshared)) key′)
+      pub plain-inside : Inside b size g (viewIn (movedTo p (p .region) (r .next) (p .number + 1) (r .shared + r .unshared)) key′)
       plain-inside = here-inside b size g p key i (plainFrom r) m e h whole key′ carried k

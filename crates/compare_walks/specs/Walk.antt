@@ -39,7 +39,7 @@ withRow n w = ok (walkIs (w .over) (w .rows + 1) (w .sum + n))
 
 -- an answer, before the walk that follows it
 abbrev pub onward : Answer → Res Walk → Res Walk
-onward (found r key) rest = bind rest (withRow (amount r key))
+onward (found region number r key) rest = bind rest (withRow (amount r key))
 onward done rest = ok (walkIs true 0 0)
 
 unfoldable pub walk : ℕ → Cursor → List ℕ → Res Walk
@@ -51,7 +51,7 @@ walk (suc limit) c b = bind (next c b maxKey) λ s. onward (s .answer) (walk lim
 abbrev pub wrapped : Walk → Res Walk
 wrapped w = ok (walkIs (w .over) (w .rows) (w .sum % 2 ^ 64))
 
--- 254 first; then 14 and all of 15, and what a step refuses
+-- 254 first; then 14 and all of 15, backwards the last region's rows, and what a step refuses
 abbrev pub walkBlock : List ℕ → ℕ → ℕ → List ℕ → Res Walk
 walkBlock b order limit sums =
     guard (not (eqb (length sums) 2)) badWords

@@ -116,7 +116,11 @@ fn by_value(block: &[u8], start: Place, limit: u64) -> Walked
         let next = c.next(block, &mut key);
         let answer = next.answer;
         match answer {
-            NextAnswer::Found(row) => {
+            NextAnswer::Found {
+                region: _,
+                number: _,
+                row,
+            } => {
                 sum = with_row(sum, row, &key);
                 rows += 1;
                 c = next.iterator;
@@ -195,6 +199,7 @@ fn run(block: &[u8], b: Bounds, key: &mut [u8], came: Ran, limit: u64) -> Ran
         p.at = row.next;
         if g.reach < row.next {
             p.region += 1;
+            p.number = 0;
             p.key_len = 0;
             return Ran {
                 place: p,
@@ -202,6 +207,7 @@ fn run(block: &[u8], b: Bounds, key: &mut [u8], came: Ran, limit: u64) -> Ran
                 sum,
             };
         }
+        p.number += 1;
         p.key_len = row.shared + row.unshared;
     }
     Ran {
@@ -240,7 +246,12 @@ fn step_row(block: &[u8], carried: &mut [u8], out: &mut [u8], here: Ran) -> Went
     let sum = here.sum;
     let moved = step_in_place_v2::next_in_place(carried, here.place, block, out);
     match moved {
-        Moved::Found { place, row } => Went::On(Ran {
+        Moved::Found {
+            place,
+            region: _,
+            number: _,
+            row,
+        } => Went::On(Ran {
             place,
             rows: rows + 1,
             sum: with_row(sum, row, out),
@@ -361,7 +372,7 @@ fn walk_flat(block: &[u8], order: u64, limit: u64, sums: &mut [u64], moves: bool
     }
 }
 
-// 254, 14, 15, and what a step refuses. Good after `limit` rows, or done, sets `sums` to the rows found and their sum.
+// 254, 14, 15, backwards what the last region's rows refuse, and what a step refuses. Good after `limit` rows, or done, sets `sums` to the rows found and their sum.
 #[no_mangle]
 pub extern "C" fn slatedb_walk_by_value(
     block: &[u8],

@@ -32,11 +32,11 @@ module _ (n : tie.After-next Inv-loop μ-loop) where
 -- the row that a turn finds
 module _ (k : tie.After-known-told Inv-loop μ-loop) where
   row-found : let l = k .before .before .before .before .before .before .before .loop in
-      Finds (k .before .before .before .before .before .before .before .before .before .args .block .now) (viewOf (l .c)) (viewOf (k .before .before .before .before .next .result .iterator)) (rowFrom (k .before .answer .given .0 .0)) (k .before .before .before .before .next .last .1 .1 .0)
+      Finds (k .before .before .before .before .before .before .before .before .before .args .block .now) (viewOf (l .c)) (viewOf (k .before .before .before .before .next .result .iterator)) (k .before .answer .given .0 .0) (k .before .answer .given .0 .1 .0) (rowFrom (k .before .answer .given .0 .1 .1 .0)) (k .before .before .before .before .next .last .1 .1 .0)
   row-found =
       let l = k .before .before .before .before .before .before .before .loop in
       let n = k .before .before .before .before .next in
-      finds _ _ _ (l .key) _ (l .inv .1) (λ few. length-take-le _ _ (omega (arith, few, l .inv .2))) _ (yes saysNext (n .ensures .answer) (k .before .answer .given .1)) (n .ensures .view) (n .ensures .lent)
+      finds _ _ _ (l .key) _ (l .inv .1) (λ few. length-take-le _ _ (omega (arith, few, l .inv .2))) _ _ _ (yes saysNext (n .ensures .answer) (k .before .answer .given .1)) (n .ensures .view) (n .ensures .lent)
 
 loop-holds : tie.Need-loop-holds Inv-loop μ-loop
 loop-holds c = (walking-start _ _ _, search needs, search needs)

@@ -12,7 +12,7 @@ use Rattle.layout.specs.RowRead.{mayShare}
 use Rattle.trailer.specs.Says.{regionFrom}
 use Rattle.place_v2.specs.Says.{viewIn}
 use Rattle.region_rows_v2.specs.Bounds.{Inside}
-use Rattle.region_rows_v2.specs.Region.{PlainFits, movedTo, inside-long, inside-region, share-none, share-key}
+use Rattle.region_rows_v2.specs.Region.{PlainFits, movedTo, inside-long, inside-region, inside-counts, share-none, share-key}
 use Rattle.compare_walks.specs.Walk.{Walk}
 use Rattle.compare_walks.specs.Loop.{Walking}
 use Rattle.compare_walks.proofs.Plain.{plain-fits, plain-over, plain-stays, plain-inside}
@@ -81,14 +81,23 @@ returns-2 c =
     let k = c .before .before .before .before .before .before .before .before .before in
     let l = k .before .before .before .before .before .before .before .loop in
     let s = start k in
-    let on : (want : Res Walk) → Walking want (s .args .block .now) (s .args .limit) (viewIn (s .args .came .place) (s .args .key .now)) (s .args .came .rows) (s .args .came .sum) → Walking want (s .args .block .now) (s .args .limit) (viewIn (movedTo (l .p) (l .p .region + 1) (k .before .before .plain-at .result .next) 0) (c .before .before .before .before .before .before .pass-plain .last .0)) (l .rows + 1) (c .before .before .before .before .before .before .pass-plain .result) =
+    let on : (want : Res Walk) → Walking want (s .args .block .now) (s .args .limit) (viewIn (s .args .came .place) (s .args .key .now)) (s .args .came .rows) (s .args .came .sum) → Walking want (s .args .block .now) (s .args .limit) (viewIn (movedTo (l .p) (l .p .region + 1) (k .before .before .plain-at .result .next) 0 0) (c .before .before .before .before .before .before .pass-plain .last .0)) (l .rows + 1) (c .before .before .before .before .before .before .pass-plain .result) =
     λ want w. plain-over (s .args .block .now) (s .args .b .size) (regionFrom (s .args .b .region)) (l .p) (l .key) (l .inv .1) (l .inv .2) (k .before .before .plain-at .result) (share-is (k .before .before .before .before)) (k .before .before .plain-at .ensures) (k .if2 .left)
     (k .before .before .before .before .before .before .loop-test .taken) (c .before .before .before .before .before .before .pass-plain .ensures) (c .before .if3 .taken) (l .inv .0 want w) in
     record { most = omega (arith, l .inv .3); on = on }
 
+-- a row more is counted: there are no more rows than bytes
 add-p-2 : tie.Need-add-p-2 Inv-loop μ-loop
 add-p-2 c =
-    let f = fits (c .before .before .before .before .before .before .before .before .before) in
+    let k = c .before .before .before .before .before .before .before .before .before in
+    let l = k .before .before .before .before .before .before .before .loop in
+    let s = start k in
+    let ends : k .before .before .plain-at .result .next < 2 ^ 64 = search needs in
+    omega (arith, inside-counts (s .args .block .now) (s .args .b .size) (regionFrom (s .args .b .region)) (viewIn (l .p) (l .key)) (l .inv .1), fits k .ends, ends)
+
+add-p-3 : tie.Need-add-p-3 Inv-loop μ-loop
+add-p-3 c =
+    let f = fits (c .before .before .before .before .before .before .before .before .before .before) in
     omega (arith, f .shared-small, f .unshared-small)
 
 loop-less : tie.Need-loop-less Inv-loop μ-loop
@@ -96,15 +105,15 @@ loop-less c = omega arith
 
 loop-again : tie.Need-loop-again Inv-loop μ-loop
 loop-again c =
-    let k = c .before .before .before .before .before .before .before .before .before in
+    let k = c .before .before .before .before .before .before .before .before .before .before in
     let l = k .before .before .before .before .before .before .before .loop in
     let s = start k in
     let e = k .before .before .plain-at .ensures in
-    let q = c .before .before .before .before .before .before .pass-plain .ensures in
+    let q = c .before .before .before .before .before .before .before .pass-plain .ensures in
     let few = k .before .before .before .before .before .before .loop-test .taken in (
       (λ want w.
-          plain-stays (s .args .block .now) (s .args .b .size) (regionFrom (s .args .b .region)) (l .p) (l .key) (l .inv .1) (l .inv .2) (k .before .before .plain-at .result) (share-is (k .before .before .before .before)) e (k .if2 .left) few q (c .before .if3 .left) (l .inv .0 want w)),
-      plain-inside (s .args .block .now) (s .args .b .size) (regionFrom (s .args .b .region)) (l .p) (l .key) (l .inv .1) (l .inv .2) (k .before .before .plain-at .result) (share-is (k .before .before .before .before)) e (k .if2 .left) few q (c .before .if3 .left),
+          plain-stays (s .args .block .now) (s .args .b .size) (regionFrom (s .args .b .region)) (l .p) (l .key) (l .inv .1) (l .inv .2) (k .before .before .plain-at .result) (share-is (k .before .before .before .before)) e (k .if2 .left) few q (c .before .before .if3 .left) (l .inv .0 want w)),
+      plain-inside (s .args .block .now) (s .args .b .size) (regionFrom (s .args .b .region)) (l .p) (l .key) (l .inv .1) (l .inv .2) (k .before .before .plain-at .result) (share-is (k .before .before .before .before)) e (k .if2 .left) few q (c .before .before .if3 .left),
       search needs,
       omega (arith, l .inv .3),
     )
@@ -118,4 +127,4 @@ run-spec =
     (tie.spec
     Inv-loop μ-loop loop-holds slice-aggregate-plain-at (λ c κs. search needs) (λ c. search needs) returns
     slice-aggregate-pass-plain pass-plain-requires (λ c. search needs) add-p (λ c. search needs) returns-2
-    add-p-2 loop-less loop-again (λ c. search needs) returns-3)
+    add-p-2 add-p-3 loop-less loop-again (λ c. search needs) returns-3)

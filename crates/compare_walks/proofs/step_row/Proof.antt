@@ -19,7 +19,7 @@ module _ (k : tie.After-known-told) where
   abbrev start : tie.Start
   start = made .before .before .before .before .before .before
 
-  row-found : Finds (start .args .block .now) (viewIn (start .args .here .place) (start .args .carried .now)) (viewIn (k .before .moved .given .0 .0) (made .next-in-place .last .0)) (rowFrom (k .before .moved .given .0 .1 .0)) (made .next-in-place .last .1 .1 .1 .0)
+  row-found : Finds (start .args .block .now) (viewIn (start .args .here .place) (start .args .carried .now)) (viewIn (k .before .moved .given .0 .0) (made .next-in-place .last .0)) (k .before .moved .given .0 .1 .0) (k .before .moved .given .0 .1 .1 .0) (rowFrom (k .before .moved .given .0 .1 .1 .1 .0)) (made .next-in-place .last .1 .1 .1 .0)
   row-found = moved-finds _ _ _ _ _ _ _ (start .pre .0) (start .pre .1) (made .next-in-place .ensures) (k .before .moved .given .1)
 
   long : length (made .next-in-place .last .1 .1 .1 .0) ≡ maxKey

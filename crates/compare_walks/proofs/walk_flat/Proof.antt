@@ -22,21 +22,21 @@ returns-3 c =
     let opened = c .before .before .before .before .before .before .before .before .before in
     let known = opened .before .before in
     let start = known .before .before .before .before .before .before in
-    walks-told (start .args .block .now) (start .args .order) (start .args .limit) (start .args .sums .now) _ _ (known .before .before .before .if1 .left) (yes saysOrdered (known .before .before .order-in .ensures) (known .ordered .given .1)) (opened .open-place .ensures) (c .before .before .before .before .before .before .enum-told2 .given .1) (c .before .before .before .before .by-value .ensures) (c .before .before .tell .ensures)
+    walks-told (start .args .block .now) (start .args .order) (start .args .limit) (start .args .sums .now) _ (known .ordered .given .0 .0) (known .before .before .before .if1 .left) (yes saysOrdered (known .before .before .order-in .ensures) (known .ordered .given .1)) (opened .open-place .ensures) (c .before .before .before .before .before .before .enum-told2 .given .1) (c .before .before .before .before .by-value .ensures) (c .before .before .tell .ensures)
 
 returns-4 : tie.Need-returns-4
 returns-4 c =
     let opened = c .before .before .before .before .before .before .before .before .before in
     let known = opened .before .before in
     let start = known .before .before .before .before .before .before in
-    walks-told (start .args .block .now) (start .args .order) (start .args .limit) (start .args .sums .now) _ _ (known .before .before .before .if1 .left) (yes saysOrdered (known .before .before .order-in .ensures) (known .ordered .given .1)) (opened .open-place .ensures) (c .before .before .before .before .before .before .enum-told2 .given .1) (c .before .before .before .before .in-place .ensures) (c .before .before .tell2 .ensures)
+    walks-told (start .args .block .now) (start .args .order) (start .args .limit) (start .args .sums .now) _ (known .ordered .given .0 .0) (known .before .before .before .if1 .left) (yes saysOrdered (known .before .before .order-in .ensures) (known .ordered .given .1)) (opened .open-place .ensures) (c .before .before .before .before .before .before .enum-told2 .given .1) (c .before .before .before .before .in-place .ensures) (c .before .before .tell2 .ensures)
 
 returns-5 : tie.Need-returns-5
 returns-5 c =
     let opened = c .before .before .before .before .before in
     let known = opened .before .before in
     let start = known .before .before .before .before .before .before in
-    walks-not-opened (start .args .block .now) (start .args .order) (start .args .limit) (start .args .sums .now) _ _ (known .before .before .before .if1 .left) (yes saysOrdered (known .before .before .order-in .ensures) (known .ordered .given .1)) (opened .open-place .ensures) (c .before .before .answer .given .1) (c .number .ensures)
+    walks-not-opened (start .args .block .now) (start .args .order) (start .args .limit) (start .args .sums .now) _ (known .ordered .given .0 .0) (known .before .before .before .if1 .left) (yes saysOrdered (known .before .before .order-in .ensures) (known .ordered .given .1)) (opened .open-place .ensures) (c .before .before .answer .given .1) (c .number .ensures)
 
 pub walk-flat-spec : {M : Type 1} → statement M
 walk-flat-spec =
