@@ -1,4 +1,1 @@
 pub mod Numbers
-pub mod Named
-pub mod One
-pub mod Writes

@@ -1,9 +1,6 @@
 pub mod Number
 pub mod Record
 pub mod Reader
-pub mod Counts
-pub mod Balance
-pub mod Append
 pub mod Promise
 pub mod OneOutcome
 pub mod Parts

@@ -1,13 +1,10 @@
-// The switch's journal: debits, top-ups and closes of cards, one after another, until their rows reach a block. It is read, a card's balance is had from it,
-// and a record is appended to it. Nothing of slatedb's: added.
+// The switch's journal: debits, top-ups and closes of cards, one after another, until their rows reach a block. Here it is read; a card's balance is had from it by
+// `journal_balance`, and a record is appended to it by `journal_append`. Nothing of slatedb's: added.
 ghost use mathlib.Core.Path.{_≡_};
-ghost use Prim.Native.Nat.{_+_, _^_, _≤_, _<_};
-ghost use lib.IntN.{pos, _-ℤ_};
-ghost use lib.ListN.{length, getD};
-ghost use Rattle.layout.specs.Place.{splice};
-ghost use Rattle.journal.specs.Record.{lengthOf, kindOf, bodyBytes, recordBytes, numberAt, bodyAt, foundIn};
-ghost use Rattle.journal.specs.Parts.{Named, Earlier, CountsOne, Places};
-ghost use Rattle.journal.specs.Promise.{Numbered, Finds, ReadsAll, Balances, Appends};
+ghost use Prim.Native.Nat.{_+_, _≤_, _<_};
+ghost use lib.ListN.{length};
+ghost use Rattle.journal.specs.Record.{lengthOf, numberAt, bodyAt, foundIn};
+ghost use Rattle.journal.specs.Promise.{Numbered, Measures, Finds, ReadsAll};
 
 // A journal has no more bytes.
 const MAX_JOURNAL: usize = 65536;
@@ -51,17 +48,6 @@ pub enum Reading {
     Refused(Refusal),
 }
 
-pub enum Balanced {
-    Amount { balance: i64, tail: Tail },
-    Refused(Refusal),
-}
-
-// The new used length.
-pub enum Appended {
-    Used(usize),
-    Refused(Refusal),
-}
-
 pub fn number(r: Refusal) -> u8
     ensures { λ n. ⌜ Numbered r n ⌝ }
 {
@@ -77,8 +63,8 @@ pub fn number(r: Refusal) -> u8
 // ---- the reader
 
 // How many bytes a record of this kind takes; 0 for another kind.
-fn length_of(kind: u8) -> usize
-    ensures { λ r. ⌜ r ≡ lengthOf kind ⌝ }
+pub fn length_of(kind: u8) -> usize
+    ensures { λ r. ⌜ Measures kind r ⌝ }
 {
     if kind == 1 {
         return 21;
@@ -197,217 +183,5 @@ pub fn read(journal: &[u8]) -> Reading
     Reading::Complete {
         records,
         tail: Tail::Nothing,
-    }
-}
-
-// ---- the balance
-
-// The amounts that count so far, and whether the card is closed.
-struct Sums {
-    ups: u64,
-    downs: u64,
-    closed: bool,
-}
-
-// Whether the record at `p` has this kind, card and retry number. The retry number comes first: of three it most often tells two records apart.
-fn named_at(journal: &[u8], p: usize, kind: u8, card: u64, retry: u64) -> bool
-    requires { ⌜ (p < length (now journal)) × (length (now journal) ≤ 65536) × (lengthOf kind ≡ 21) ⌝ }
-    ensures { λ r. ⌜ Named (now (journal .entry)) p kind card retry r ⌝ }
-{
-    if buf::eight(journal, p + 9) != retry {
-        return false;
-    }
-    if buf::eight(journal, p + 1) != card {
-        return false;
-    }
-    if journal[p] != kind {
-        return false;
-    }
-    true
-}
-
-// Whether one of this kind, card and retry number stands before `at`: what came before is read again.
-fn earlier(journal: &[u8], at: usize, kind: u8, card: u64, retry: u64) -> bool
-    requires { ⌜ (at ≤ length (now journal)) × (length (now journal) ≤ 65536) × (lengthOf kind ≡ 21) ⌝ }
-    ensures { λ r. ⌜ Earlier (now (journal .entry)) at kind card retry r ⌝ }
-{
-    let mut p = 0;
-    while p < at {
-        if named_at(journal, p, kind, card, retry) {
-            return true;
-        }
-        let n = length_of(journal[p]);
-        // Not met: what came before is records.
-        if n == 0 {
-            return false;
-        }
-        p += n;
-    }
-    false
-}
-
-// The sums after the record at `at`. A record counts if none of its kind, card and retry number came before it, and no close of its card did.
-fn counted(journal: &[u8], at: usize, kind: u8, card: u64, s: Sums) -> Sums
-    requires { ⌜ (kind ≡ getD (now journal) at 0) × (0 < lengthOf kind) × (at + lengthOf kind ≤ length (now journal)) × (length (now journal) ≤ 65536) × (s .ups + s .downs ≤ 2 ^ 48) ⌝ }
-    ensures { λ r. ⌜ CountsOne (now (journal .entry)) at card s r ⌝ }
-{
-    if s.closed {
-        return s;
-    }
-    if eight_at(journal, at + 1) != card {
-        return s;
-    }
-    if kind == 3 {
-        return Sums {
-            ups: s.ups,
-            downs: s.downs,
-            closed: true,
-        };
-    }
-    let retry = eight_at(journal, at + 9);
-    if earlier(journal, at, kind, card, retry) {
-        return s;
-    }
-    let amount = four_at(journal, at + 17) as u64;
-    if kind == 1 {
-        return Sums {
-            ups: s.ups,
-            downs: s.downs + amount,
-            closed: false,
-        };
-    }
-    Sums {
-        ups: s.ups + amount,
-        downs: s.downs,
-        closed: false,
-    }
-}
-
-// Top-ups less debits.
-fn less(ups: u64, downs: u64) -> i64
-    requires { ⌜ (ups < 2 ^ 49) × (downs < 2 ^ 49) ⌝ }
-    ensures { λ r. ⌜ r ≡ pos ups -ℤ pos downs ⌝ }
-{
-    (ups as i64) - (downs as i64)
-}
-
-// The balance of a card.
-pub fn balance(journal: &[u8], card: u64) -> Balanced
-    ensures { λ r. ⌜ Balances (now (journal .entry)) card r ⌝ }
-{
-    if MAX_JOURNAL < journal.len() {
-        return Balanced::Refused(Refusal::TooLong);
-    }
-    let mut s = Sums {
-        ups: 0,
-        downs: 0,
-        closed: false,
-    };
-    let mut at = 0;
-    while at < journal.len() {
-        let kind = journal[at];
-        let n = length_of(kind);
-        if n == 0 {
-            return Balanced::Refused(Refusal::UnknownKind(at));
-        }
-        if journal.len() - at < n {
-            return Balanced::Amount {
-                balance: less(s.ups, s.downs),
-                tail: Tail::From(at),
-            };
-        }
-        s = counted(journal, at, kind, card, s);
-        at += n;
-    }
-    Balanced::Amount {
-        balance: less(s.ups, s.downs),
-        tail: Tail::Nothing,
-    }
-}
-
-// ---- the writer
-
-fn kind_of(record: Record) -> u8
-    ensures { λ r. ⌜ r ≡ kindOf «record» ⌝ }
-{
-    match record {
-        Record::Debit {
-            card: _,
-            retry: _,
-            amount: _,
-        } => 1,
-        Record::TopUp {
-            card: _,
-            retry: _,
-            amount: _,
-        } => 2,
-        Record::Close { card: _ } => 3,
-    }
-}
-
-// Card, retry number and amount, high byte first.
-fn write_body(buffer: &mut [u8], at: usize, card: u64, retry: u64, amount: u32)
-    requires { ⌜ at + 20 ≤ length (now buffer) ⌝ }
-    ensures { λ _. ⌜ now (buffer .exit) ≡ splice (now (buffer .entry)) at (bodyBytes card retry amount) ⌝ }
-{
-    buf_mut::put_u64(buffer, at, card);
-    buf_mut::put_u64(buffer, at + 8, retry);
-    buf_mut::put_u16(buffer, at + 16, (amount / 65536) as u16);
-    buf_mut::put_u16(buffer, at + 18, (amount % 65536) as u16);
-}
-
-// A record at `used`, which there is room for.
-fn write_record(buffer: &mut [u8], used: usize, record: Record)
-    requires { ⌜ used + lengthOf (kindOf «record») ≤ length (now buffer) ⌝ }
-    ensures { λ _. ⌜ now (buffer .exit) ≡ splice (now (buffer .entry)) used (recordBytes «record») ⌝ }
-{
-    buffer[used] = kind_of(record);
-    match record {
-        Record::Debit {
-            card,
-            retry,
-            amount,
-        } => write_body(buffer, used + 1, card, retry, amount),
-        Record::TopUp {
-            card,
-            retry,
-            amount,
-        } => write_body(buffer, used + 1, card, retry, amount),
-        Record::Close { card } => {
-            buf_mut::put_u64(buffer, used + 1, card);
-        }
-    }
-}
-
-// A record after a used part that is whole.
-fn append_whole(buffer: &mut [u8], used: usize, record: Record) -> Appended
-    requires { ⌜ (used ≤ length (now buffer)) × (used ≤ 65536) ⌝ }
-    ensures { λ r. ⌜ Places (now (buffer .entry)) used «record» r (now (buffer .exit)) ⌝ }
-{
-    let n = length_of(kind_of(record));
-    if buffer.len() - used < n {
-        return Appended::Refused(Refusal::NoRoom);
-    }
-    if MAX_JOURNAL - used < n {
-        return Appended::Refused(Refusal::NoRoom);
-    }
-    write_record(buffer, used, record);
-    Appended::Used(used + n)
-}
-
-// Appends a record to the first `used` bytes of the buffer: 32, 30, 31, 33, 34.
-pub fn append(buffer: &mut [u8], used: usize, record: Record) -> Appended
-    ensures { λ r. ⌜ Appends (now (buffer .entry)) used «record» r (now (buffer .exit)) ⌝ }
-{
-    if buffer.len() < used {
-        return Appended::Refused(Refusal::UsedPastBuffer);
-    }
-    let reading = read(&buffer[..used]);
-    match reading {
-        Reading::Refused(refusal) => Appended::Refused(refusal),
-        Reading::Complete { records: _, tail } => match tail {
-            Tail::From(_) => Appended::Refused(Refusal::EndsInside),
-            Tail::Nothing => append_whole(buffer, used, record),
-        },
     }
 }

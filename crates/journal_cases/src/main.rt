@@ -1,8 +1,8 @@
 // Worked examples of the journal, through the code. It prints what the code answered; what that should be stands in the file `stdout` alone.
 mod say;
 
-use journal::Appended;
 use journal::Record;
+use journal_append::Appended;
 
 fn debit(card: u64, retry: u64, amount: u32) -> Record {
     Record::Debit {
@@ -29,14 +29,14 @@ fn first(buffer: &[u8], n: usize) -> &[u8] {
 }
 
 fn add(buffer: &mut [u8], used: usize, record: Record) -> usize {
-    say::appended(journal::append(buffer, used, record), used)
+    say::appended(journal_append::append(buffer, used, record), used)
 }
 
 // What is read, and the balances of cards 7 and 8.
 fn shown(journal: &[u8]) {
     say::reading(journal::read(journal));
-    say::balanced(journal::balance(journal, 7));
-    say::balanced(journal::balance(journal, 8));
+    say::balanced(journal_balance::balance(journal, 7));
+    say::balanced(journal_balance::balance(journal, 8));
 }
 
 fn at(journal: &[u8], place: usize) {
@@ -95,7 +95,7 @@ fn closes() {
 fn cut(journal: &[u8]) {
     let mut n = 0;
     while n < journal.len() {
-        say::balanced(journal::balance(first(journal, n), 7));
+        say::balanced(journal_balance::balance(first(journal, n), 7));
         n += 1;
     }
 }
@@ -141,7 +141,7 @@ fn fill(buffer: &mut [u8]) -> usize {
     let mut used = 0;
     let mut i = 0;
     while i < 3120 {
-        match journal::append(buffer, used, debit(7, i, 4294967295)) {
+        match journal_append::append(buffer, used, debit(7, i, 4294967295)) {
             Appended::Used(n) => {
                 used = n;
             }

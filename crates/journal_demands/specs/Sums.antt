@@ -11,11 +11,11 @@ use borrow.Author.Tests.{eq-eqb, ne-eqb}
 use Rattle.layout.specs.Laws.Res.{eqb-cases}
 use Rattle.journal.specs.declared.Record.{Record}
 use Rattle.journal.specs.Record.{closeKind, kindOf, cardOf}
-use Rattle.journal.specs.Counts.{alike, closes, some}
-use Rattle.journal.specs.Balance.{worth, total}
-use Rattle.journal.specs.Laws.Walk.{some-none, some-more, or-true}
-use Rattle.journal.specs.Laws.Loops.{total-none, total-more}
-use Rattle.journal.specs.Laws.Counts.{and-false, worth-not, worth-other, worth-closed, counts-double}
+use Rattle.journal_balance.specs.Counts.{alike, closes, some}
+use Rattle.journal_balance.specs.Balance.{worth, total}
+use Rattle.journal_balance.specs.Laws.Walk.{some-none, some-more, or-true}
+use Rattle.journal_balance.specs.Laws.Loops.{total-none, total-more}
+use Rattle.journal_balance.specs.Laws.Counts.{and-false, worth-not, worth-other, worth-closed, counts-double}
 
 -- records one after another, put on those before, of which the last comes first
 abbrev pub onto : List Record → List Record → List Record

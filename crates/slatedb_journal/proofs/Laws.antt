@@ -11,15 +11,15 @@ use Rattle.journal.specs.declared.Found.the-variants.{Refused as FoundRefused}
 use Rattle.journal.specs.declared.Tail.{Tail}
 use Rattle.journal.specs.declared.Reading.{Reading}
 use Rattle.journal.specs.declared.Reading.the-variants.{Complete, Refused as ReadingRefused}
-use Rattle.journal.specs.declared.Balanced.{Balanced}
-use Rattle.journal.specs.declared.Balanced.the-variants.{Amount, Refused as BalancedRefused}
-use Rattle.journal.specs.declared.Appended.{Appended}
-use Rattle.journal.specs.declared.Appended.the-variants.{Refused as AppendedRefused}
+use Rattle.journal_balance.specs.declared.Balanced.{Balanced}
+use Rattle.journal_balance.specs.declared.Balanced.the-variants.{Amount, Refused as BalancedRefused}
+use Rattle.journal_append.specs.declared.Appended.{Appended}
+use Rattle.journal_append.specs.declared.Appended.the-variants.{Refused as AppendedRefused}
 use Rattle.journal.specs.Number.{number}
 use Rattle.journal.specs.Reader.{recordAt, readingOf}
-use Rattle.journal.specs.Balance.{balanceIn}
-use Rattle.journal.specs.Append.{written}
-use Rattle.journal.specs.Promise.{Appends}
+use Rattle.journal_balance.specs.Balance.{balanceIn}
+use Rattle.journal_append.specs.Append.{written}
+use Rattle.journal_append.specs.Promise.{Appends}
 use Rattle.slatedb_journal.specs.declared.JournalRecord.{JournalRecord}
 use Rattle.slatedb_journal.specs.declared.JournalAppended.{JournalAppended}
 use Rattle.slatedb_journal.specs.declared.Offered.{Offered}

@@ -13,10 +13,10 @@ use Rattle.journal.specs.declared.Tail.{Tail}
 use Rattle.journal.specs.declared.Tail.the-variants.{Nothing, From}
 use Rattle.journal.specs.declared.Reading.{Reading}
 use Rattle.journal.specs.declared.Reading.the-variants.{Complete, Refused as ReadingRefused}
-use Rattle.journal.specs.declared.Balanced.{Balanced}
-use Rattle.journal.specs.declared.Balanced.the-variants.{Amount, Refused as BalancedRefused}
-use Rattle.journal.specs.declared.Appended.{Appended}
-use Rattle.journal.specs.declared.Appended.the-variants.{Used, Refused as AppendedRefused}
+use Rattle.journal_balance.specs.declared.Balanced.{Balanced}
+use Rattle.journal_balance.specs.declared.Balanced.the-variants.{Amount, Refused as BalancedRefused}
+use Rattle.journal_append.specs.declared.Appended.{Appended}
+use Rattle.journal_append.specs.declared.Appended.the-variants.{Used, Refused as AppendedRefused}
 use Rattle.journal.specs.Number.{number}
 use Rattle.journal.specs.Record.{debitKind, topUpKind, closeKind, kindOf, cardOf, retryOf, amountOf}
 use Rattle.slatedb_journal.specs.declared.JournalRecord.{JournalRecord}

@@ -4,8 +4,8 @@ use mathlib.Core.Path.{_≡_}
 use mathlib.Core.List.{List}
 use lib.ListN.{length}
 use Rattle.journal.specs.Reader.{recordAt, readingOf}
-use Rattle.journal.specs.Balance.{balanceIn}
-use Rattle.journal.specs.Append.{appended, written}
+use Rattle.journal_balance.specs.Balance.{balanceIn}
+use Rattle.journal_append.specs.Append.{appended, written}
 use Rattle.slatedb_journal.specs.declared.JournalRecord.{JournalRecord}
 use Rattle.slatedb_journal.specs.declared.JournalRead.{JournalRead}
 use Rattle.slatedb_journal.specs.declared.JournalBalance.{JournalBalance}

@@ -3,13 +3,13 @@
 ghost use mathlib.Core.Path.{_≡_};
 ghost use Rattle.slatedb_journal.specs.Flat.{positionOf, tailPlace, wholeFlat, noRecord, placedFlat, offeredBy};
 ghost use Rattle.slatedb_journal.specs.Promise.{FindsFlat, ReadsFlat, BalancesFlat, AppendsFlat};
-use journal::Appended;
-use journal::Balanced;
 use journal::Found;
 use journal::Reading;
 use journal::Record;
 use journal::Refusal;
 use journal::Tail;
+use journal_append::Appended;
+use journal_balance::Balanced;
 
 // A record: its kind, 1 to 3, and the place after it. A close has retry number and amount 0. Of a refusal `next` is its position, where it is 31.
 #[repr(C)]
@@ -160,7 +160,7 @@ pub extern "C" fn slatedb_journal_read(journal: &[u8]) -> JournalRead
 pub extern "C" fn slatedb_journal_balance(journal: &[u8], card: u64) -> JournalBalance
     ensures { λ r. ⌜ BalancesFlat (now (journal .entry)) card r ⌝ }
 {
-    let balanced = journal::balance(journal, card);
+    let balanced = journal_balance::balance(journal, card);
     match balanced {
         Balanced::Amount { balance, tail } => JournalBalance {
             code: 0,
@@ -233,7 +233,7 @@ pub extern "C" fn slatedb_journal_append(
 {
     let offer = offer_of(kind, card, retry, amount);
     match offer {
-        Offered::Is(record) => placed(journal::append(buffer, used, record)),
+        Offered::Is(record) => placed(journal_append::append(buffer, used, record)),
         Offered::Unknown => JournalAppended {
             code: 254,
             place: 0,

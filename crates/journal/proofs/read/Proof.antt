@@ -9,7 +9,7 @@ use Rattle.journal.specs.Record.{lengthOf, kindAt, bodyAt}
 use Rattle.journal.specs.Reader.{readingOf}
 use Rattle.journal.specs.Parts.{shown}
 use Rattle.journal.specs.Laws.Going.{Going, going-end, going-unknown, going-tail, going-more}
-use Rattle.journal.specs.Laws.Loops.{tail-from, tail-none, reading-long, shown-start, shown-more, shown-last}
+use Rattle.journal.specs.Laws.Read.{tail-from, tail-none, reading-long, shown-start, shown-more, shown-last}
 use Rattle.journal.proofs.read.Statement.{statement}
 use Rattle.journal.proofs.read.Tie as tie
 

@@ -1,0 +1,6 @@
+pub mod Counts
+pub mod Balance
+pub mod Promise
+pub mod OneOutcome
+pub mod Parts
+pub mod Laws
