@@ -3,4 +3,5 @@ pub mod Balance
 pub mod Promise
 pub mod OneOutcome
 pub mod Parts
+pub mod Tree
 pub mod Laws

@@ -5,6 +5,7 @@ ghost use lib.IntN.{pos, _-ℤ_};
 ghost use lib.ListN.{length, getD};
 ghost use Rattle.journal.specs.Record.{lengthOf};
 ghost use Rattle.journal_balance.specs.Parts.{amountIn, Named, Earlier, CountsOne};
+ghost use Rattle.journal_balance.specs.Tree.{Tree, Offers, Keeps};
 ghost use Rattle.journal_balance.specs.Promise.{Balances};
 use journal::Found;
 use journal::Record;
@@ -13,6 +14,9 @@ use journal::Tail;
 
 // A journal has no more bytes.
 const MAX_JOURNAL: usize = 65536;
+
+// The tree's slots: one for each kind, and two for each 21 bytes.
+const SLOTS: usize = 6240;
 
 pub enum Balanced {
     Amount { balance: i64, tail: Tail },
@@ -43,23 +47,33 @@ fn named_at(journal: &[u8], p: usize, kind: u8, card: u64, retry: u64) -> bool
     true
 }
 
-// Whether one of this kind, card and retry number stands before `at`: what came before is read again.
-fn earlier(journal: &[u8], at: usize, kind: u8, card: u64, retry: u64) -> bool
-    requires { ⌜ (at ≤ length (now journal)) × (length (now journal) ≤ 65536) × (lengthOf kind ≡ 21) ⌝ }
-    ensures { λ r. ⌜ Earlier (now (journal .entry)) at kind card retry r ⌝ }
+fn wide(x: u16) -> usize
+    ensures { λ r. ⌜ (r ≡ x) × (r < 65536) ⌝ }
 {
-    let mut p = 0;
-    while p < at {
+    x as usize
+}
+
+// Whether one of the kind, card and retry number of the record at `at` stands before it; if none does, the tree takes in this one. A walk meets at most 65 records: two
+// retry numbers that differ part within 64 bits.
+fn seen(journal: &[u8], tree: &mut [u16; SLOTS], at: usize, kind: u8, card: u64, retry: u64) -> bool
+    requires { ⌜ Offers (now journal) at kind card retry ⌝ }
+    requires { ⌜ Tree (now journal) card at (now tree) ⌝ }
+    ensures { λ r. ⌜ Earlier (now (journal .entry)) at kind card retry r ⌝ }
+    ensures { λ _. ⌜ Tree (now (journal .entry)) card (at + 21) (now (tree .exit)) ⌝ }
+{
+    let mut slot = (kind % 2) as usize;
+    let mut bits = retry;
+    let mut held = wide(tree[slot]);
+    while held != 0 {
+        let p = held - 1;
         if named_at(journal, p, kind, card, retry) {
             return true;
         }
-        let n = journal::length_of(journal[p]);
-        // Not met: what came before is records.
-        if n == 0 {
-            return false;
-        }
-        p += n;
+        slot = 2 + p / 21 * 2 + (bits % 2) as usize;
+        bits = bits / 2;
+        held = wide(tree[slot]);
     }
+    tree[slot] = (at + 1) as u16;
     false
 }
 
@@ -88,9 +102,11 @@ fn amount_in(found: Found) -> u32
 }
 
 // The sums after the record at `at`. A record counts if none of its kind, card and retry number came before it, and no close of its card did.
-fn counted(journal: &[u8], at: usize, kind: u8, card: u64, s: Sums) -> Sums
+fn counted(journal: &[u8], tree: &mut [u16; SLOTS], at: usize, kind: u8, card: u64, s: Sums) -> Sums
     requires { ⌜ (kind ≡ getD (now journal) at 0) × (0 < lengthOf kind) × (at + lengthOf kind ≤ length (now journal)) × (length (now journal) ≤ 65536) × (s .ups + s .downs ≤ 2 ^ 48) ⌝ }
+    requires { ⌜ Keeps (now journal) card at (s .closed) (now tree) ⌝ }
     ensures { λ r. ⌜ CountsOne (now (journal .entry)) at card s r ⌝ }
+    ensures { λ r. ⌜ Keeps (now (journal .entry)) card (at + lengthOf kind) (r .closed) (now (tree .exit)) ⌝ }
 {
     if s.closed {
         return s;
@@ -106,7 +122,7 @@ fn counted(journal: &[u8], at: usize, kind: u8, card: u64, s: Sums) -> Sums
         };
     }
     let retry = buf::eight(journal, at + 9);
-    if earlier(journal, at, kind, card, retry) {
+    if seen(journal, tree, at, kind, card, retry) {
         return s;
     }
     let amount = amount_in(journal::record_at(journal, at)) as u64;
@@ -139,6 +155,7 @@ pub fn balance(journal: &[u8], card: u64) -> Balanced
     if MAX_JOURNAL < journal.len() {
         return Balanced::Refused(Refusal::TooLong);
     }
+    let mut tree = [0; SLOTS];
     let mut s = Sums {
         ups: 0,
         downs: 0,
@@ -157,7 +174,7 @@ pub fn balance(journal: &[u8], card: u64) -> Balanced
                 tail: Tail::From(at),
             };
         }
-        s = counted(journal, at, kind, card, s);
+        s = counted(journal, &mut tree, at, kind, card, s);
         at += n;
     }
     Balanced::Amount {

@@ -1,5 +1,5 @@
--- `balance` keeps its promise. The loop's invariant (`Balancing`): the sums are those of the records passed, and what is made of the rest, added to them, is what is made of the
--- whole journal.
+-- `balance` keeps its promise. The loop's invariant: the sums are those of the records passed, what is made of the rest, added to them, is what is made of the whole journal
+-- (`Balancing`), and the tree has the card's records that were passed (`Keeps`).
 use Prim.Native.Nat.{_+_, _-_, _≤_, _<_}
 use mathlib.Core.Path.{_≡_, refl, sym, _∙_}
 use native.Mathlib.Omega.{arith}
@@ -11,24 +11,27 @@ use Rattle.journal.specs.declared.Tail.the-variants.{Nothing, From}
 use Rattle.journal.specs.Record.{lengthOf, kindAt, bodyAt}
 use Rattle.journal_balance.specs.Balance.{balanceIn}
 use Rattle.journal_balance.specs.Parts.{settledFrom}
+use Rattle.journal_balance.specs.Tree.{Keeps}
 use Rattle.journal.specs.Laws.Found.{found-whole}
 use Rattle.journal.specs.Laws.Going.{going-end, going-unknown, going-tail}
 use Rattle.journal.specs.Laws.Read.{tail-from, tail-none}
 use Rattle.journal_balance.specs.Laws.Loops.{balance-long, Balancing, balancing-start, balancing-more, balancing-last}
+use Rattle.journal_balance.specs.Laws.Tree.{tree-start}
 use Rattle.journal_balance.proofs.balance.Statement.{statement}
 use Rattle.journal_balance.proofs.balance.Tie as tie
 
 abbrev Inv-loop : tie.InvT-loop
-Inv-loop journal card s₀ at₀ s at = (at ≤ length journal) × (length journal ≤ 65536) × Balancing journal card s at
+Inv-loop journal card tree₀ s₀ at₀ tree s at =
+    (at ≤ length journal) × (length journal ≤ 65536) × Balancing journal card s at × Keeps journal card at (s .closed) tree
 
 abbrev μ-loop : tie.MeasureT-loop
-μ-loop journal card s₀ at₀ s at = length journal - at
+μ-loop journal card tree₀ s₀ at₀ tree s at = length journal - at
 
 returns : tie.Need-returns Inv-loop μ-loop
 returns c = sym (balance-long _ _ (c .if1 .taken))
 
 loop-holds : tie.Need-loop-holds Inv-loop μ-loop
-loop-holds c = (omega arith, omega arith, balancing-start _ _ _ refl (omega arith))
+loop-holds c = (omega arith, omega arith, balancing-start _ _ _ refl (omega arith), λ f. tree-start _ _ 6240 refl)
 
 shared-slice-read-kind : tie.Need-shared-slice-read-kind Inv-loop μ-loop
 shared-slice-read-kind c = omega arith
@@ -64,9 +67,11 @@ returns-3 c =
 
 counted-requires : tie.Need-counted-requires Inv-loop μ-loop
 counted-requires c κs =
-    let n = c .before .before in
-    let l = n .before .before .before in
-    (refl, omega (arith, n .length-of .ensures), omega (arith, n .length-of .ensures), omega arith, omega (arith, l .loop .inv .2 .small))
+    let n = c .before .before .before in
+    let l = n .before .before .before in (
+      (refl, omega (arith, n .length-of .ensures), omega (arith, n .length-of .ensures), omega arith, omega (arith, l .loop .inv .2 .small)),
+      l .loop .inv .3,
+    )
 
 add-at : tie.Need-add-at Inv-loop μ-loop
 add-at c = omega arith
@@ -76,7 +81,7 @@ loop-less c = omega arith
 
 loop-again : tie.Need-loop-again Inv-loop μ-loop
 loop-again c =
-    let o = c .before in
+    let o = c .before .before in
     let n = o .before .before in
     let l = n .before .before .before in
     let b = l .loop .inv .2 in
@@ -90,7 +95,8 @@ loop-again c =
       omega arith,
       rw (n .length-of .ensures)
           (balancing-more d (s .args .card) (l .loop .s) at b _ h some fits
-          (c .counted .ensures .sums (b .before) (bodyAt (kindAt d at) d at) (at + lengthOf (kindAt d at)) (b .passed) (found-whole d at h some fits) (b .closed)) (c .counted .ensures .small)),
+          (c .counted .ensures .0 .sums (b .before) (bodyAt (kindAt d at) d at) (at + lengthOf (kindAt d at)) (b .passed) (found-whole d at h some fits) (b .closed)) (c .counted .ensures .0 .small)),
+      rw (n .length-of .ensures) (c .counted .ensures .1),
     )
 
 less-requires-2 : tie.Need-less-requires-2 Inv-loop μ-loop

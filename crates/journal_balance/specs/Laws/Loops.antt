@@ -1,7 +1,7 @@
--- The two loops over a journal: the balance's, and the search for an earlier record. Each has a record that says how far it has come, and laws for what it meets.
+-- The balance's loop over a journal: a record says how far it has come, with a law for each thing that it meets.
 use Prim.Native.Nat.{ℕ, _+_, _*_, _^_, _≤_, _<_}
 use mathlib.Core.Path.{_≡_, refl, ap, sym, _∙_}
-use mathlib.Core.Bool.{Bool, true, false, _||_}
+use mathlib.Core.Bool.{false}
 use mathlib.Core.List.{List, [], _∷_}
 use native.Mathlib.Nat.{zero-add, add-zero, add-assoc}
 use native.Mathlib.Omega.{arith}
@@ -16,12 +16,10 @@ use Rattle.journal.specs.Record.{debitKind, topUpKind, lengthOf, kindAt, bodyAt
 use Rattle.journal.specs.Reader.{maxJournal, Journal, holds, refused, after, journalOf, tailOf}
 use Rattle.journal_balance.specs.Counts.{closes, some}
 use Rattle.journal_balance.specs.Balance.{worth, total, settled, balanceIn}
-use Rattle.journal_balance.specs.Parts.{Walk, here, Passed, Earlier, Named, named, TakesIn, settledFrom}
-use Rattle.journal.specs.Laws.Found.{tells, found-whole}
+use Rattle.journal_balance.specs.Parts.{here, Passed, TakesIn, settledFrom}
+use Rattle.journal.specs.Laws.Found.{found-whole}
 use Rattle.journal.specs.Laws.Going.{Going, going-start, going-more, journal-long}
-use Rattle.journal_balance.specs.Laws.Walk.{walk-more, walk-over, walk-rest, walk-some, or-false, some-none, some-more}
-
--- ---- the balance
+use Rattle.journal_balance.specs.Laws.Walk.{walk-more, some-none}
 
 pub total-none : (kind card : ℕ) (before : List Record) → total kind card before [] ≡ 0
 unfolding total
@@ -99,41 +97,3 @@ module _ (d : List ℕ) (card : ℕ) (s : Sums) (at : ℕ) (b : Balancing d card
         e,
         f,
       )
-
--- ---- the search for an earlier record
-
-pub record Searching (d : List ℕ) (at : ℕ) (test : Record → Bool) (all : List Record) (p : ℕ) : Type 0 where
-  pub before : List Record
-  pub walk : Walk d at all p before
-  pub none : some test before ≡ false
-
-module _ (d : List ℕ) (at kind card retry p : ℕ) where
-  abbrev sought : Record → Bool
-  sought = named kind card retry
-
-  abbrev pub Sought : Type 0
-  Sought = (all : List Record) → Passed d at all → Searching d at sought all p
-
-  pub sought-over : at ≤ p → Sought → Earlier d at kind card retry false
-  sought-over h s all w = let g = s all w in sym (ap (some sought) (walk-over (g .walk) h) ∙ g .none)
-
-  module _ (h : p < at) where
-    here-is : (before : List Record) (r : Record) (b : Bool) → b ≡ sought r → some sought before ≡ false → some sought (r ∷ before) ≡ b
-    here-is before r b e n = some-more sought r before ∙ ap (λ (x : Bool). x || some sought before) (sym e) ∙ ap (λ (x : Bool). b || x) n ∙ or-false b
-
-    pub sought-found : Named d p kind card retry true → Sought → Earlier d at kind card retry true
-    sought-found n s all w =
-        let g = s all w in
-        walk-rest (g .walk) h λ r next e v. sym (walk-some sought v (here-is (g .before) r true (n r next e) (g .none)))
-
-    pub sought-none : lengthOf (kindAt d p) ≡ 0 → Sought → (b : Bool) → Earlier d at kind card retry b
-    sought-none z s b all w =
-        let g = s all w in
-        walk-rest (g .walk) h λ r next e v. absurd (let t = tells d p r next e in omega (arith, t .some, z))
-
-    pub sought-more : Named d p kind card retry false → Sought → (q : ℕ) → q ≡ p + lengthOf (kindAt d p) → (all : List Record) → Passed d at all → Searching d at sought all q
-    sought-more n s q e all w =
-        let g = s all w in
-        walk-rest (g .walk) h λ r next f v.
-        let same : next ≡ q = tells d p r next f .past ∙ sym e in
-        record { before = r ∷ g .before; walk = rw same at v; none = here-is (g .before) r false (n r next f) (g .none) }

@@ -1,6 +1,6 @@
--- The records that were passed: a walk goes on by the record that stands at its end, and what holds of one record of it holds of one of all.
+-- The records that were passed: a walk goes on by the record that stands at its end.
 use Prim.Native.Nat.{ℕ, _≤_, _<_}
-use mathlib.Core.Path.{_≡_, refl, ap, _∙_}
+use mathlib.Core.Path.{_≡_, refl}
 use mathlib.Core.Bool.{Bool, true, false, _||_}
 use mathlib.Core.List.{List, [], _∷_}
 use native.Mathlib.Omega.{arith}
@@ -23,10 +23,6 @@ pub or-true : (b : Bool) → b || true ≡ true
 or-true true = refl
 or-true false = refl
 
-pub or-false : (b : Bool) → b || false ≡ b
-or-false true = refl
-or-false false = refl
-
 module _ {d : List ℕ} {end : ℕ} {all : List Record} where
   pub walk-le : {at : ℕ} {before : List Record} → Walk d end all at before → at ≤ end
   walk-le here = omega arith
@@ -35,10 +31,6 @@ module _ {d : List ℕ} {end : ℕ} {all : List Record} where
   pub walk-more : {r : Record} {next : ℕ} {at : ℕ} {before : List Record} → Walk d end all at before → foundIn d end ≡ Whole r next → Walk d next (r ∷ all) at before
   walk-more here f = step f here
   walk-more (step e w) f = step e (walk-more w f)
-
-  pub walk-some : (test : Record → Bool) {at : ℕ} {before : List Record} → Walk d end all at before → some test before ≡ true → some test all ≡ true
-  walk-some test here t = t
-  walk-some test (step {r} {before} e w) t = walk-some test w (some-more test r before ∙ ap (λ (b : Bool). test r || b) t ∙ or-true (test r))
 
   -- at its end it has passed all; before that a record stands there, and the rest goes on
   pub walk-over : {at : ℕ} {before : List Record} → Walk d end all at before → end ≤ at → all ≡ before
