@@ -1,6 +1,6 @@
 /* Serves the proved library slatedb_journal to another process: commands on standard input, answers on standard output, all
  * numbers of 64 bits, low byte first, as this processor has them. A command is a letter, a number of bytes and these, and
- * six numbers. An answer is six numbers; of an append the buffer follows. */
+ * six numbers. An answer is the code and six words, which are lent filled with a pattern; of an append the buffer follows. */
 #include <stdio.h>
 #include <stdlib.h>
 #include <string.h>
@@ -18,28 +18,22 @@ int main(void) {
         uint64_t n, w[6];
         if (!in(&letter, 1)) return 0;
         if (!in(&n, 8) || n > (1 << 20) || !in(bytes, n) || !in(w, sizeof w)) return 1;
-        uint64_t a[6] = {0};
+        uint64_t a[7];
+        memset(a, 0xA5, sizeof a);
         switch (letter) {
-        case 'a': {
-            slatedb_journal_record r = slatedb_journal_record_at(bytes, n, w[0]);
-            memcpy(a, &r, sizeof r);
+        case 'a': /* in so many words */
+            if (w[1] > 6) return 1;
+            a[0] = slatedb_journal_record_at(bytes, n, w[0], a + 1, w[1]);
             break;
-        }
-        case 'r': {
-            slatedb_journal_reading r = slatedb_journal_read(bytes, n);
-            memcpy(a, &r, sizeof r);
+        case 'r':
+            a[0] = slatedb_journal_read(bytes, n, a + 1, a + 2);
             break;
-        }
-        case 'b': {
-            slatedb_journal_balanced r = slatedb_journal_balance(bytes, n, w[0]);
-            memcpy(a, &r, sizeof r);
+        case 'b':
+            a[0] = slatedb_journal_balance(bytes, n, w[0], (int64_t *)(a + 1), a + 2);
             break;
-        }
-        case 'p': {
-            slatedb_journal_appended r = slatedb_journal_append(bytes, n, w[0], w[1], w[2], w[3], (uint32_t)w[4]);
-            memcpy(a, &r, sizeof r);
+        case 'p':
+            a[0] = slatedb_journal_append(bytes, n, w[0], w[1], w[2], w[3], (uint32_t)w[4], a + 1);
             break;
-        }
         default:
             return 1;
         }

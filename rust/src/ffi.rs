@@ -162,63 +162,41 @@ pub(crate) fn is_empty(block: &[u8], cursor: &[u64], empty: &mut u64) -> u8 {
 #[path = "ffi_tests.rs"]
 mod tests;
 
-// ---- the journal (`include/slatedb_journal.h`): nothing is lent for writing but an append's buffer, and answers come by value
+// ---- the journal (`include/slatedb_journal.h`)
 
-#[derive(Clone, Copy)]
-#[repr(C)]
-pub(crate) struct JournalRecord {
-    pub code: u64,
-    pub kind: u64,
-    pub card: u64,
-    pub retry: u64,
-    pub amount: u64,
-    pub next: u64,
-}
-
-#[derive(Clone, Copy)]
-#[repr(C)]
-pub(crate) struct JournalReading {
-    pub code: u64,
-    pub records: u64,
-    pub place: u64,
-}
-
-#[derive(Clone, Copy)]
-#[repr(C)]
-pub(crate) struct JournalBalanced {
-    pub code: u64,
-    pub balance: i64,
-    pub place: u64,
-}
-
-#[derive(Clone, Copy)]
-#[repr(C)]
-pub(crate) struct JournalAppended {
-    pub code: u64,
-    pub place: u64,
-}
+pub(crate) const JOURNAL_RECORD_WORDS: usize = 5;
 
 #[rustfmt::skip]
 extern "C" {
-    fn slatedb_journal_record_at(journal: *const u8, journal_len: usize, at: usize) -> JournalRecord;
-    fn slatedb_journal_read(journal: *const u8, journal_len: usize) -> JournalReading;
-    fn slatedb_journal_balance(journal: *const u8, journal_len: usize, card: u64) -> JournalBalanced;
-    fn slatedb_journal_append(buffer: *mut u8, buffer_len: usize, used: usize, kind: u64, card: u64, retry: u64, amount: u32)
-        -> JournalAppended;
+    fn slatedb_journal_record_at(journal: *const u8, journal_len: usize, at: usize, words: *mut u64, words_len: usize) -> u8;
+    fn slatedb_journal_read(journal: *const u8, journal_len: usize, records: *mut u64, place: *mut u64) -> u8;
+    fn slatedb_journal_balance(journal: *const u8, journal_len: usize, card: u64, balance: *mut i64, place: *mut u64) -> u8;
+    fn slatedb_journal_append(buffer: *mut u8, buffer_len: usize, used: usize, kind: u64, card: u64, retry: u64, amount: u32,
+        place: *mut u64) -> u8;
 }
 
-pub(crate) fn journal_record_at(journal: &[u8], at: usize) -> JournalRecord {
-    unsafe { slatedb_journal_record_at(journal.as_ptr(), journal.len(), at) }
+pub(crate) fn journal_record_at(journal: &[u8], at: usize, words: &mut [u64]) -> u8 {
+    unsafe { slatedb_journal_record_at(journal.as_ptr(), journal.len(), at, words.as_mut_ptr(), words.len()) }
 }
 
-pub(crate) fn journal_read(journal: &[u8]) -> JournalReading {
-    unsafe { slatedb_journal_read(journal.as_ptr(), journal.len()) }
+pub(crate) fn journal_read(journal: &[u8], records: &mut u64, place: &mut u64) -> u8 {
+    unsafe { slatedb_journal_read(journal.as_ptr(), journal.len(), records, place) }
 }
 
-pub(crate) fn journal_balance(journal: &[u8], card: u64) -> JournalBalanced {
-    unsafe { slatedb_journal_balance(journal.as_ptr(), journal.len(), card) }
+pub(crate) fn journal_balance(journal: &[u8], card: u64, balance: &mut i64, place: &mut u64) -> u8 {
+    unsafe { slatedb_journal_balance(journal.as_ptr(), journal.len(), card, balance, place) }
 }
 
-pub(crate) fn journal_append(buffer: &mut [u8], used: usize, kind: u64, card: u64, retry: u64, amount: u32) -> JournalAppended {
-    unsafe { slatedb_journal_append(buffer.as_mut_ptr(), buffer.len(), used, kind, card, retry, amount) }
+/// A record that is offered: `kind` 1 to 3.
+pub(crate) struct JournalOffer {
+    pub kind: u64,
+    pub card: u64,
+    pub retry: u64,
+    pub amount: u32,
+}
+
+#[rustfmt::skip]
+pub(crate) fn journal_append(buffer: &mut [u8], used: usize, offer: JournalOffer, place: &mut u64) -> u8 {
+    let JournalOffer { kind, card, retry, amount } = offer;
+    unsafe { slatedb_journal_append(buffer.as_mut_ptr(), buffer.len(), used, kind, card, retry, amount, place) }
 }

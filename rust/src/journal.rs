@@ -6,7 +6,7 @@
 use std::error::Error;
 use std::fmt;
 
-use crate::ffi;
+use crate::ffi::{self, JournalOffer};
 
 /// A record of a journal.
 #[derive(Clone, Copy, Debug, PartialEq, Eq, Hash)]
@@ -85,7 +85,7 @@ pub struct Balance {
 }
 
 // good, or the refusal of this number, with its position where it is 31
-fn good(code: u64, place: u64) -> Result<(), Refusal> {
+fn good(code: u8, place: u64) -> Result<(), Refusal> {
     match code {
         0 => Ok(()),
         30 => Err(Refusal::TooLong),
@@ -103,43 +103,44 @@ fn tail(journal: &[u8], place: u64) -> Option<usize> {
 
 /// The record at a place.
 pub fn record_at(journal: &[u8], at: usize) -> Result<Found, Refusal> {
-    let r = ffi::journal_record_at(journal, at);
-    match r.code {
+    let mut words = [0; ffi::JOURNAL_RECORD_WORDS];
+    match ffi::journal_record_at(journal, at, &mut words) {
         253 => return Ok(Found::Incomplete),
         255 => return Ok(Found::End),
-        code => good(code, r.next)?,
+        code => good(code, at as u64)?,
     }
-    let (card, retry, amount) = (r.card, r.retry, r.amount as u32);
-    let record = match r.kind {
+    let [kind, card, retry, amount, next] = words;
+    let amount = amount as u32;
+    let record = match kind {
         1 => Record::Debit { card, retry, amount },
         2 => Record::TopUp { card, retry, amount },
         _ => Record::Close { card },
     };
-    Ok(Found::Whole { record, next: r.next as usize })
+    Ok(Found::Whole { record, next: next as usize })
 }
 
 /// Reads a whole journal.
 pub fn read(journal: &[u8]) -> Result<Reading, Refusal> {
-    let r = ffi::journal_read(journal);
-    good(r.code, r.place)?;
-    Ok(Reading { records: r.records as usize, tail: tail(journal, r.place) })
+    let (mut records, mut place) = (0, 0);
+    good(ffi::journal_read(journal, &mut records, &mut place), place)?;
+    Ok(Reading { records: records as usize, tail: tail(journal, place) })
 }
 
 /// The balance of a card.
 pub fn balance(journal: &[u8], card: u64) -> Result<Balance, Refusal> {
-    let r = ffi::journal_balance(journal, card);
-    good(r.code, r.place)?;
-    Ok(Balance { amount: r.balance, tail: tail(journal, r.place) })
+    let (mut amount, mut place) = (0, 0);
+    good(ffi::journal_balance(journal, card, &mut amount, &mut place), place)?;
+    Ok(Balance { amount, tail: tail(journal, place) })
 }
 
 /// Appends a record to the first `used` bytes of the buffer, and answers the new used length.
 pub fn append(buffer: &mut [u8], used: usize, record: Record) -> Result<usize, Refusal> {
-    let (kind, card, retry, amount) = match record {
-        Record::Debit { card, retry, amount } => (1, card, retry, amount),
-        Record::TopUp { card, retry, amount } => (2, card, retry, amount),
-        Record::Close { card } => (3, card, 0, 0),
+    let offer = match record {
+        Record::Debit { card, retry, amount } => JournalOffer { kind: 1, card, retry, amount },
+        Record::TopUp { card, retry, amount } => JournalOffer { kind: 2, card, retry, amount },
+        Record::Close { card } => JournalOffer { kind: 3, card, retry: 0, amount: 0 },
     };
-    let r = ffi::journal_append(buffer, used, kind, card, retry, amount);
-    good(r.code, r.place)?;
-    Ok(r.place as usize)
+    let mut place = 0;
+    good(ffi::journal_append(buffer, used, offer, &mut place), place)?;
+    Ok(place as usize)
 }

@@ -1,56 +1,66 @@
--- An answer of the journal's that is known to be one of its cases, with the numbers that the code made of it, is what the definitions make of it.
+-- An answer of the journal's that is known to be one of its cases, with the code and the words that the code made of it, is what the definitions make of it.
 use Prim.Native.Nat.{ℕ}
 use mathlib.Core.Path.{_≡_, ap, sym, _∙_}
-use mathlib.Core.List.{List}
-use lib.IntN.{ℤ, pos}
-use lib.ListN.{length}
-use Rattle.journal.specs.declared.Refusal.{Refusal}
+use mathlib.Core.List.{List, [], _∷_}
+use native.Mathlib.Omega.{arith}
+use lib.IntN.{ℤ}
+use lib.ListN.{length, set, drop-of-length-le}
+use lib.Seq.{sets-eq}
+use borrow.Author.Tests.{eq-eqb, ne-eqb}
 use Rattle.journal.specs.declared.Record.{Record}
 use Rattle.journal.specs.declared.Found.{Found}
-use Rattle.journal.specs.declared.Found.the-variants.{Refused as FoundRefused}
-use Rattle.journal.specs.declared.Tail.{Tail}
 use Rattle.journal.specs.declared.Reading.{Reading}
-use Rattle.journal.specs.declared.Reading.the-variants.{Complete, Refused as ReadingRefused}
 use Rattle.journal_balance.specs.declared.Balanced.{Balanced}
-use Rattle.journal_balance.specs.declared.Balanced.the-variants.{Amount, Refused as BalancedRefused}
 use Rattle.journal_append.specs.declared.Appended.{Appended}
-use Rattle.journal_append.specs.declared.Appended.the-variants.{Refused as AppendedRefused}
-use Rattle.journal.specs.Number.{number}
-use Rattle.journal.specs.Reader.{recordAt, readingOf}
-use Rattle.journal_balance.specs.Balance.{balanceIn}
+use Rattle.journal.specs.Reader.{recordAt}
 use Rattle.journal_append.specs.Append.{written}
 use Rattle.journal_append.specs.Promise.{Appends}
-use Rattle.slatedb_journal.specs.declared.JournalRecord.{JournalRecord}
-use Rattle.slatedb_journal.specs.declared.JournalAppended.{JournalAppended}
 use Rattle.slatedb_journal.specs.declared.Offered.{Offered}
 use Rattle.slatedb_journal.specs.declared.Offered.the-variants.{Is}
-use Rattle.slatedb_journal.specs.Flat.{positionOf, tailPlace, noRecord, foundFlat, readFlat, balanceFlat, placedFlat}
-use Rattle.slatedb_journal.specs.Promise.{FindsFlat, ReadsFlat, BalancesFlat, AppendsFlat}
+use Rattle.slatedb_journal.specs.Flat.{badWords, recordCount, fiveWords, recordWords, foundCode, foundWords, readCode, readCount, readPlace, balanceCode, balanceSum, balancePlace, appendCode, appendPlace}
+use Rattle.slatedb_journal.specs.Promise.{FindsFlat, ReadsAs, BalancesAs, AppendsFlat}
 
-pub found-is : (d : List ℕ) (at : ℕ) {x y : Found} {r : JournalRecord} → x ≡ recordAt d at → x ≡ y → r ≡ foundFlat y → FindsFlat d at r
-found-is d at e f g = g ∙ ap foundFlat (sym f ∙ e)
+-- five stores over five words leave nothing of them
+pub five-set : (ws : List ℕ) (k c y a n : ℕ) → length ws ≡ recordCount → set (set (set (set (set ws 0 k) 1 c) 2 y) 3 a) 4 n ≡ fiveWords k c y a n
+five-set ws k c y a n h =
+    sets-eq (k ∷ c ∷ y ∷ a ∷ n ∷ []) ws 0 (omega arith) ∙ ap (λ (r : List ℕ). k ∷ c ∷ y ∷ a ∷ n ∷ r) (drop-of-length-le ws {i = 5} (omega arith))
 
-pub found-no : (d : List ℕ) (at : ℕ) {x : Found} {y : Refusal} {n p : ℕ} {r : JournalRecord} → x ≡ recordAt d at → x ≡ FoundRefused y → n ≡ number y → p ≡ positionOf y → r ≡ noRecord n p → FindsFlat d at r
-found-no d at e f g h k = found-is d at e f (k ∙ (λ i. noRecord (g i) (h i)))
+pub record-set : (next : ℕ) {r q : Record} {ws : List ℕ} → r ≡ q → ws ≡ recordWords q next → ws ≡ recordWords r next
+record-set next e w = rw e w
 
-module _ (d : List ℕ) {x : Reading} (e : x ≡ readingOf d) where
-  pub read-good : {n p : ℕ} {t : Tail} → x ≡ Complete n t → p ≡ tailPlace t (length d) → ReadsFlat d (record { code = 0; records = n; place = p })
-  read-good f g = rw g (ap (readFlat (length d)) (sym f ∙ e))
+module _ (d : List ℕ) (at : ℕ) (ws : List ℕ) where
+  pub finds-bad : (length ws ≡ recordCount → ⊥) → FindsFlat d at ws badWords ws
+  finds-bad n = record { answer = rw (ne-eqb (length ws) recordCount n); words = rw (ne-eqb (length ws) recordCount n) }
 
-  pub read-no : {y : Refusal} {n p : ℕ} → x ≡ ReadingRefused y → n ≡ number y → p ≡ positionOf y → ReadsFlat d (record { code = n; records = 0; place = p })
-  read-no f g h = rw (g, h) (ap (readFlat (length d)) (sym f ∙ e))
+  pub finds-is : length ws ≡ recordCount → {x y : Found} {code : ℕ} {ws′ : List ℕ} → x ≡ recordAt d at → x ≡ y → code ≡ foundCode y → ws′ ≡ foundWords y ws → FindsFlat d at ws code ws′
+  finds-is h e f c w =
+      record {
+        answer = rw (eq-eqb (length ws) recordCount h) (c ∙ ap foundCode (sym f ∙ e));
+        words = rw (eq-eqb (length ws) recordCount h) (w ∙ ap (λ (z : Found). foundWords z ws) (sym f ∙ e));
+      }
 
-module _ (d : List ℕ) (card : ℕ) {x : Balanced} (e : x ≡ balanceIn d card) where
-  pub balance-good : {z y : ℤ} {p : ℕ} {t : Tail} → x ≡ Amount z t → y ≡ z → p ≡ tailPlace t (length d) → BalancesFlat d card (record { code = 0; balance = y; place = p })
-  balance-good f y g = rw (y, g) (ap (balanceFlat (length d)) (sym f ∙ e))
+module _ (size p : ℕ) {code p′ : ℕ} where
+  pub reads-is : (n : ℕ) {n′ : ℕ} {want x y : Reading} → x ≡ want → x ≡ y → code ≡ readCode y → n′ ≡ readCount y n → p′ ≡ readPlace size y p → ReadsAs want size n p code n′ p′
+  reads-is n e f c m q =
+      record {
+        answer = c ∙ ap readCode (sym f ∙ e);
+        count = m ∙ ap (λ (z : Reading). readCount z n) (sym f ∙ e);
+        place = q ∙ ap (λ (z : Reading). readPlace size z p) (sym f ∙ e);
+      }
 
-  pub balance-no : {y : Refusal} {n p : ℕ} → x ≡ BalancedRefused y → n ≡ number y → p ≡ positionOf y → BalancesFlat d card (record { code = n; balance = pos 0; place = p })
-  balance-no f g h = rw (g, h) (ap (balanceFlat (length d)) (sym f ∙ e))
+  pub balances-is : (z : ℤ) {z′ : ℤ} {want x y : Balanced} → x ≡ want → x ≡ y → code ≡ balanceCode y → z′ ≡ balanceSum y z → p′ ≡ balancePlace size y p → BalancesAs want size z p code z′ p′
+  balances-is z e f c m q =
+      record {
+        answer = c ∙ ap balanceCode (sym f ∙ e);
+        sum = m ∙ ap (λ (b : Balanced). balanceSum b z) (sym f ∙ e);
+        place = q ∙ ap (λ (b : Balanced). balancePlace size b p) (sym f ∙ e);
+      }
 
-pub placed-no : {a : Appended} {y : Refusal} {n p : ℕ} → a ≡ AppendedRefused y → n ≡ number y → p ≡ positionOf y → _≡_ {A = JournalAppended} (record { code = n; place = p }) (placedFlat a)
-placed-no f g h = rw (f, g, h)
-
-pub append-is : {buffer buffer′ : List ℕ} {used : ℕ} {o want : Offered} {r : Record} {a : Appended} {q : JournalAppended} → o ≡ want → o ≡ Is r → Appends buffer used r a buffer′ → q ≡ placedFlat a
-    → AppendsFlat buffer used want q buffer′
-append-is {buffer} {buffer′} {used} {r = r} {a = a} e f p g =
-    rw (sym e ∙ f) (record { answer = g ∙ ap placedFlat (p .answer); bytes = p .bytes ∙ ap (λ (x : Appended). written x buffer used r) (p .answer) })
+pub appends-is : {buffer buffer′ : List ℕ} {used : ℕ} {o want : Offered} {r : Record} {a y : Appended} (p : ℕ) {code p′ : ℕ} → o ≡ want → o ≡ Is r → Appends buffer used r a buffer′ → a ≡ y
+    → code ≡ appendCode y → p′ ≡ appendPlace y p → AppendsFlat buffer used want p code buffer′ p′
+appends-is {buffer} {used = used} {r = r} p e f q g c m =
+    rw (sym e ∙ f) (record {
+      answer = c ∙ ap appendCode (sym g ∙ q .answer);
+      bytes = q .bytes ∙ ap (λ (x : Appended). written x buffer used r) (q .answer);
+      place = m ∙ ap (λ (x : Appended). appendPlace x p) (sym g ∙ q .answer);
+    })

@@ -1,8 +1,9 @@
--- The journal's answers as numbers.
+-- The journal's answers as codes and lent words. A refusal leaves the words, but for the position that 31 tells.
 use Prim.Native.Nat.{ℕ}
 use mathlib.Core.Bool.{cond}
+use mathlib.Core.List.{List, [], _∷_}
 use lib.Dec.{eqb}
-use lib.IntN.{pos}
+use lib.IntN.{ℤ}
 use Rattle.journal.specs.declared.Refusal.{Refusal}
 use Rattle.journal.specs.declared.Refusal.the-variants.{TooLong, UnknownKind, UsedPastBuffer, EndsInside, NoRoom}
 use Rattle.journal.specs.declared.Record.{Record}
@@ -19,49 +20,86 @@ use Rattle.journal_append.specs.declared.Appended.{Appended}
 use Rattle.journal_append.specs.declared.Appended.the-variants.{Used, Refused as AppendedRefused}
 use Rattle.journal.specs.Number.{number}
 use Rattle.journal.specs.Record.{debitKind, topUpKind, closeKind, kindOf, cardOf, retryOf, amountOf}
-use Rattle.slatedb_journal.specs.declared.JournalRecord.{JournalRecord}
-use Rattle.slatedb_journal.specs.declared.JournalRead.{JournalRead}
-use Rattle.slatedb_journal.specs.declared.JournalBalance.{JournalBalance}
-use Rattle.slatedb_journal.specs.declared.JournalAppended.{JournalAppended}
 use Rattle.slatedb_journal.specs.declared.Offered.{Offered}
 use Rattle.slatedb_journal.specs.declared.Offered.the-variants.{Is, Unknown}
 
+-- lent words that are not as many as they must be, and a kind offered that is none of the three
+abbrev pub badWords : ℕ
+badWords = 254
+
 -- 31 tells its position
-abbrev pub positionOf : Refusal → ℕ
-positionOf TooLong = 0
-positionOf (UnknownKind at) = at
-positionOf UsedPastBuffer = 0
-positionOf EndsInside = 0
-positionOf NoRoom = 0
+abbrev pub placeTold : Refusal → ℕ → ℕ
+placeTold TooLong p = p
+placeTold (UnknownKind at) p = at
+placeTold UsedPastBuffer p = p
+placeTold EndsInside p = p
+placeTold NoRoom p = p
 
 -- where the complete records end: the tail's start, or the journal's end
 abbrev pub tailPlace : Tail → ℕ → ℕ
 tailPlace Nothing size = size
 tailPlace (From at) size = at
 
-abbrev pub wholeFlat : Record → ℕ → JournalRecord
-wholeFlat r next = record { code = 0; kind = kindOf r; card = cardOf r; retry = retryOf r; amount = amountOf r; next = next }
+-- ---- a record, as words
 
-abbrev pub noRecord : ℕ → ℕ → JournalRecord
-noRecord code next = record { code = code; kind = 0; card = 0; retry = 0; amount = 0; next = next }
+abbrev pub recordCount : ℕ
+recordCount = 5
 
-abbrev pub foundFlat : Found → JournalRecord
-foundFlat (Whole r next) = wholeFlat r next
-foundFlat Incomplete = noRecord 253 0
-foundFlat End = noRecord 255 0
-foundFlat (FoundRefused x) = noRecord (number x) (positionOf x)
+abbrev pub fiveWords : ℕ → ℕ → ℕ → ℕ → ℕ → List ℕ
+fiveWords kind card retry amount next = kind ∷ card ∷ retry ∷ amount ∷ next ∷ []
 
-abbrev pub readFlat : ℕ → Reading → JournalRead
-readFlat size (Complete n t) = record { code = 0; records = n; place = tailPlace t size }
-readFlat size (ReadingRefused x) = record { code = number x; records = 0; place = positionOf x }
+abbrev pub recordWords : Record → ℕ → List ℕ
+recordWords r next = fiveWords (kindOf r) (cardOf r) (retryOf r) (amountOf r) next
 
-abbrev pub balanceFlat : ℕ → Balanced → JournalBalance
-balanceFlat size (Amount z t) = record { code = 0; balance = z; place = tailPlace t size }
-balanceFlat size (BalancedRefused x) = record { code = number x; balance = pos 0; place = positionOf x }
+abbrev pub foundCode : Found → ℕ
+foundCode (Whole r next) = 0
+foundCode Incomplete = 253
+foundCode End = 255
+foundCode (FoundRefused x) = number x
 
-abbrev pub placedFlat : Appended → JournalAppended
-placedFlat (Used next) = record { code = 0; place = next }
-placedFlat (AppendedRefused x) = record { code = number x; place = positionOf x }
+abbrev pub foundWords : Found → List ℕ → List ℕ
+foundWords (Whole r next) ws = recordWords r next
+foundWords Incomplete ws = ws
+foundWords End ws = ws
+foundWords (FoundRefused x) ws = ws
+
+-- ---- what was read
+
+abbrev pub readCode : Reading → ℕ
+readCode (Complete n t) = 0
+readCode (ReadingRefused x) = number x
+
+abbrev pub readCount : Reading → ℕ → ℕ
+readCount (Complete n t) m = n
+readCount (ReadingRefused x) m = m
+
+abbrev pub readPlace : ℕ → Reading → ℕ → ℕ
+readPlace size (Complete n t) p = tailPlace t size
+readPlace size (ReadingRefused x) p = placeTold x p
+
+-- ---- a balance
+
+abbrev pub balanceCode : Balanced → ℕ
+balanceCode (Amount z t) = 0
+balanceCode (BalancedRefused x) = number x
+
+abbrev pub balanceSum : Balanced → ℤ → ℤ
+balanceSum (Amount z t) y = z
+balanceSum (BalancedRefused x) y = y
+
+abbrev pub balancePlace : ℕ → Balanced → ℕ → ℕ
+balancePlace size (Amount z t) p = tailPlace t size
+balancePlace size (BalancedRefused x) p = placeTold x p
+
+-- ---- what was appended
+
+abbrev pub appendCode : Appended → ℕ
+appendCode (Used next) = 0
+appendCode (AppendedRefused x) = number x
+
+abbrev pub appendPlace : Appended → ℕ → ℕ
+appendPlace (Used next) p = next
+appendPlace (AppendedRefused x) p = placeTold x p
 
 -- the record that a kind and the numbers beside it stand for
 unfoldable pub offeredBy : ℕ → ℕ → ℕ → ℕ → Offered

@@ -1,7 +1,9 @@
-// The journal's C interface: flat functions over numbers and lent slices, whose answers are structs of numbers. A code is 0 for good, the number of a refusal, 253 for a
-// record that the journal ends inside, 254 for a kind offered that there is not, which is tested first, and 255 at the journal's end. Nothing of slatedb's: added.
+// The journal's C interface: flat functions over numbers and lent slices. Each answers a code: 0 for good, the number of a refusal, 253 for a record that the journal ends
+// inside, 254 for lent words or a kind offered that mean nothing, which is tested first, and 255 at the journal's end; what else it answers goes to lent words. A refusal
+// leaves them, but for the position that 31 tells. Nothing of slatedb's: added.
 ghost use mathlib.Core.Path.{_≡_};
-ghost use Rattle.slatedb_journal.specs.Flat.{positionOf, tailPlace, wholeFlat, noRecord, placedFlat, offeredBy};
+ghost use lib.ListN.{length};
+ghost use Rattle.slatedb_journal.specs.Flat.{recordCount, fiveWords, recordWords, placeTold, tailPlace, offeredBy};
 ghost use Rattle.slatedb_journal.specs.Promise.{FindsFlat, ReadsFlat, BalancesFlat, AppendsFlat};
 use journal::Found;
 use journal::Reading;
@@ -11,49 +13,27 @@ use journal::Tail;
 use journal_append::Appended;
 use journal_balance::Balanced;
 
-// A record: its kind, 1 to 3, and the place after it. A close has retry number and amount 0. Of a refusal `next` is its position, where it is 31.
-#[repr(C)]
-pub struct JournalRecord {
-    pub code: u64,
-    pub kind: u64,
-    pub card: u64,
-    pub retry: u64,
-    pub amount: u64,
-    pub next: u64,
-}
+const GOOD: u8 = 0;
 
-// How many complete records there are, and where they end: the tail's start, or the journal's end. Of a refusal `place` is its position, where it is 31.
-#[repr(C)]
-pub struct JournalRead {
-    pub code: u64,
-    pub records: u64,
-    pub place: u64,
-}
+const INCOMPLETE: u8 = 253;
 
-#[repr(C)]
-pub struct JournalBalance {
-    pub code: u64,
-    pub balance: i64,
-    pub place: u64,
-}
+const BAD_WORDS: u8 = 254;
 
-// The new used length. Of a refusal `place` is its position, where it is 31.
-#[repr(C)]
-pub struct JournalAppended {
-    pub code: u64,
-    pub place: u64,
-}
+const END: u8 = 255;
 
-// The position that 31 tells.
-fn position(refusal: Refusal) -> u64
-    ensures { λ r. ⌜ r ≡ positionOf refusal ⌝ }
+// A record's: kind, card, retry number, amount, and the place after it.
+const RECORD_WORDS: usize = 5;
+
+// 31 tells its position; of another refusal the word stays.
+fn told(refusal: Refusal, place: u64) -> u64
+    ensures { λ r. ⌜ r ≡ placeTold refusal place ⌝ }
 {
     match refusal {
         Refusal::UnknownKind(at) => at as u64,
-        Refusal::TooLong => 0,
-        Refusal::UsedPastBuffer => 0,
-        Refusal::EndsInside => 0,
-        Refusal::NoRoom => 0,
+        Refusal::TooLong => place,
+        Refusal::UsedPastBuffer => place,
+        Refusal::EndsInside => place,
+        Refusal::NoRoom => place,
     }
 }
 
@@ -67,113 +47,105 @@ fn tail_place(tail: Tail, size: usize) -> u64
     }
 }
 
-// A record that was found.
-fn whole(record: Record, next: usize) -> JournalRecord
-    ensures { λ r. ⌜ r ≡ wholeFlat «record» next ⌝ }
+// ---- the reader
+
+fn put_words(words: &mut [u64], kind: u64, card: u64, retry: u64, amount: u64, next: u64)
+    requires { ⌜ length (now words) ≡ recordCount ⌝ }
+    ensures { λ _. ⌜ now (words .exit) ≡ fiveWords kind card retry amount next ⌝ }
+{
+    words[0] = kind;
+    words[1] = card;
+    words[2] = retry;
+    words[3] = amount;
+    words[4] = next;
+}
+
+// A record that was found. A close has retry number and amount 0.
+fn put_record(words: &mut [u64], record: Record, next: usize)
+    requires { ⌜ length (now words) ≡ recordCount ⌝ }
+    ensures { λ _. ⌜ now (words .exit) ≡ recordWords «record» next ⌝ }
 {
     match record {
         Record::Debit {
             card,
             retry,
             amount,
-        } => JournalRecord {
-            code: 0,
-            kind: 1,
-            card,
-            retry,
-            amount: amount as u64,
-            next: next as u64,
-        },
+        } => put_words(words, 1, card, retry, amount as u64, next as u64),
         Record::TopUp {
             card,
             retry,
             amount,
-        } => JournalRecord {
-            code: 0,
-            kind: 2,
-            card,
-            retry,
-            amount: amount as u64,
-            next: next as u64,
-        },
-        Record::Close { card } => JournalRecord {
-            code: 0,
-            kind: 3,
-            card,
-            retry: 0,
-            amount: 0,
-            next: next as u64,
-        },
+        } => put_words(words, 2, card, retry, amount as u64, next as u64),
+        Record::Close { card } => put_words(words, 3, card, 0, 0, next as u64),
     }
 }
 
-// No record: why.
-fn no_record(code: u64, next: u64) -> JournalRecord
-    ensures { λ r. ⌜ r ≡ noRecord code next ⌝ }
-{
-    JournalRecord {
-        code,
-        kind: 0,
-        card: 0,
-        retry: 0,
-        amount: 0,
-        next,
-    }
-}
-
-// The record at `at`: 30; 255 at the end, 31, 253.
+// The record at `at`: 254, 30, 255, 31, 253. The position of a 31 is `at`.
 #[no_mangle]
-pub extern "C" fn slatedb_journal_record_at(journal: &[u8], at: usize) -> JournalRecord
-    ensures { λ r. ⌜ FindsFlat (now (journal .entry)) at r ⌝ }
+pub extern "C" fn slatedb_journal_record_at(journal: &[u8], at: usize, words: &mut [u64]) -> u8
+    ensures { λ r. ⌜ FindsFlat (now (journal .entry)) at (now (words .entry)) r (now (words .exit)) ⌝ }
 {
+    if words.len() != RECORD_WORDS {
+        return BAD_WORDS;
+    }
     let found = journal::record_at(journal, at);
     match found {
-        Found::Whole { record, next } => whole(record, next),
-        Found::Incomplete => no_record(253, 0),
-        Found::End => no_record(255, 0),
-        Found::Refused(refusal) => { no_record(journal::number(refusal) as u64, position(refusal)) }
+        Found::Whole { record, next } => {
+            put_record(words, record, next);
+            GOOD
+        }
+        Found::Incomplete => INCOMPLETE,
+        Found::End => END,
+        Found::Refused(refusal) => journal::number(refusal),
     }
 }
 
-// Reads a journal: 30, 31.
+// Reads a journal: 30, 31. Good sets `records` to how many complete ones there are, and `place` to where they end: the tail's start, or the journal's length.
 #[no_mangle]
-pub extern "C" fn slatedb_journal_read(journal: &[u8]) -> JournalRead
-    ensures { λ r. ⌜ ReadsFlat (now (journal .entry)) r ⌝ }
+pub extern "C" fn slatedb_journal_read(journal: &[u8], records: &mut u64, place: &mut u64) -> u8
+    ensures { λ r. ⌜ ReadsFlat (now (journal .entry)) (now (records .entry)) (now (place .entry)) r (now (records .exit)) (now (place .exit)) ⌝ }
 {
     let reading = journal::read(journal);
     match reading {
-        Reading::Complete { records, tail } => JournalRead {
-            code: 0,
-            records: records as u64,
-            place: tail_place(tail, journal.len()),
-        },
-        Reading::Refused(refusal) => JournalRead {
-            code: journal::number(refusal) as u64,
-            records: 0,
-            place: position(refusal),
-        },
+        Reading::Complete { records: n, tail } => {
+            *records = n as u64;
+            *place = tail_place(tail, journal.len());
+            GOOD
+        }
+        Reading::Refused(refusal) => {
+            *place = told(refusal, *place);
+            journal::number(refusal)
+        }
     }
 }
 
-// The balance of a card: 30, 31.
+// ---- the balance
+
+// The balance of a card: 30, 31. Good sets `balance`, and `place` as the reader does.
 #[no_mangle]
-pub extern "C" fn slatedb_journal_balance(journal: &[u8], card: u64) -> JournalBalance
-    ensures { λ r. ⌜ BalancesFlat (now (journal .entry)) card r ⌝ }
+pub extern "C" fn slatedb_journal_balance(
+    journal: &[u8],
+    card: u64,
+    balance: &mut i64,
+    place: &mut u64,
+) -> u8
+    ensures { λ r. ⌜ BalancesFlat (now (journal .entry)) card (now (balance .entry)) (now (place .entry)) r (now (balance .exit)) (now (place .exit)) ⌝ }
 {
     let balanced = journal_balance::balance(journal, card);
     match balanced {
-        Balanced::Amount { balance, tail } => JournalBalance {
-            code: 0,
-            balance,
-            place: tail_place(tail, journal.len()),
-        },
-        Balanced::Refused(refusal) => JournalBalance {
-            code: journal::number(refusal) as u64,
-            balance: 0,
-            place: position(refusal),
-        },
+        Balanced::Amount { balance: z, tail } => {
+            *balance = z;
+            *place = tail_place(tail, journal.len());
+            GOOD
+        }
+        Balanced::Refused(refusal) => {
+            *place = told(refusal, *place);
+            journal::number(refusal)
+        }
     }
 }
+
+// ---- the writer
 
 // What is offered to be appended.
 enum Offered {
@@ -204,22 +176,7 @@ fn offer_of(kind: u64, card: u64, retry: u64, amount: u32) -> Offered
     Offered::Unknown
 }
 
-fn placed(answer: Appended) -> JournalAppended
-    ensures { λ r. ⌜ r ≡ placedFlat answer ⌝ }
-{
-    match answer {
-        Appended::Used(next) => JournalAppended {
-            code: 0,
-            place: next as u64,
-        },
-        Appended::Refused(refusal) => JournalAppended {
-            code: journal::number(refusal) as u64,
-            place: position(refusal),
-        },
-    }
-}
-
-// Appends a record to the first `used` bytes: 254, 32, 30, 31, 33, 34. A close takes no notice of the retry number and the amount.
+// Appends a record to the first `used` bytes: 254, 32, 30, 31, 33, 34. Good sets `place` to the new used length. A close takes no notice of the retry number and the amount.
 #[no_mangle]
 pub extern "C" fn slatedb_journal_append(
     buffer: &mut [u8],
@@ -228,15 +185,23 @@ pub extern "C" fn slatedb_journal_append(
     card: u64,
     retry: u64,
     amount: u32,
-) -> JournalAppended
-    ensures { λ r. ⌜ AppendsFlat (now (buffer .entry)) used (offeredBy kind card retry amount) r (now (buffer .exit)) ⌝ }
+    place: &mut u64,
+) -> u8
+    ensures { λ r. ⌜ AppendsFlat (now (buffer .entry)) used (offeredBy kind card retry amount) (now (place .entry)) r (now (buffer .exit)) (now (place .exit)) ⌝ }
 {
     let offer = offer_of(kind, card, retry, amount);
-    match offer {
-        Offered::Is(record) => placed(journal_append::append(buffer, used, record)),
-        Offered::Unknown => JournalAppended {
-            code: 254,
-            place: 0,
-        },
+    let Offered::Is(record) = offer else {
+        return BAD_WORDS;
+    };
+    let appended = journal_append::append(buffer, used, record);
+    match appended {
+        Appended::Used(next) => {
+            *place = next as u64;
+            GOOD
+        }
+        Appended::Refused(refusal) => {
+            *place = told(refusal, *place);
+            journal::number(refusal)
+        }
     }
 }

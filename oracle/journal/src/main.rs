@@ -10,14 +10,16 @@ use model::journal::{self, Found, Record, Refusal};
 mod rng;
 use rng::Rng;
 
+type Answer = [u64; 7];
+
 struct Guest {
     to: BufWriter<ChildStdin>,
     from: BufReader<ChildStdout>,
 }
 
 impl Guest {
-    /// The six numbers of an answer, and the bytes after it where they come back.
-    fn ask(&mut self, letter: u8, bytes: &[u8], words: &[u64]) -> ([u64; 6], Vec<u8>) {
+    /// The code and the six lent words of an answer, and the bytes after it where they come back.
+    fn ask(&mut self, letter: u8, bytes: &[u8], words: &[u64]) -> (Answer, Vec<u8>) {
         let mut w = [0; 6];
         w[..words.len()].copy_from_slice(words);
         let mut line = vec![letter];
@@ -27,11 +29,11 @@ impl Guest {
             line.extend(x.to_le_bytes());
         }
         self.to.write_all(&line).and_then(|()| self.to.flush()).expect("the guest listens");
-        let mut answer = [0; 48];
+        let mut answer = [0; 56];
         self.from.read_exact(&mut answer).expect("the guest answers");
         let mut after = vec![0; if letter == b'p' { bytes.len() } else { 0 }];
         self.from.read_exact(&mut after).expect("the guest answers");
-        let mut a = [0; 6];
+        let mut a = [0; 7];
         for (x, b) in a.iter_mut().zip(answer.chunks(8)) {
             *x = u64::from_le_bytes(b.try_into().unwrap());
         }
@@ -39,46 +41,66 @@ impl Guest {
     }
 }
 
-fn position(x: Refusal) -> u64 {
-    if let Refusal::UnknownKind(at) = x { at as u64 } else { 0 }
+// as the guest lends a word
+const LENT: u64 = 0xA5A5_A5A5_A5A5_A5A5;
+
+// a code and the words that it leaves
+fn answer(code: u64, words: &[u64]) -> Answer {
+    let mut a = [LENT; 7];
+    a[0] = code;
+    a[1..=words.len()].copy_from_slice(words);
+    a
 }
 
-fn record_at(journal: &[u8], at: usize) -> [u64; 6] {
+// a refusal, which leaves all words but the one for the position of a 31
+fn refused(x: Refusal, place: usize) -> Answer {
+    let mut a = answer(x.number(), &[]);
+    if let Refusal::UnknownKind(at) = x {
+        a[place] = at as u64;
+    }
+    a
+}
+
+fn record_at(journal: &[u8], at: usize, words: u64) -> Answer {
+    if words != 5 {
+        return answer(254, &[]);
+    }
     let next = at as u64;
     match journal::record_at(journal, at) {
-        Ok(Found::Whole(Record::Debit { card, retry, amount }, _)) => [0, 1, card, retry, amount.into(), next + 21],
-        Ok(Found::Whole(Record::TopUp { card, retry, amount }, _)) => [0, 2, card, retry, amount.into(), next + 21],
-        Ok(Found::Whole(Record::Close { card }, _)) => [0, 3, card, 0, 0, next + 9],
-        Ok(Found::Incomplete) => [253, 0, 0, 0, 0, 0],
-        Ok(Found::End) => [255, 0, 0, 0, 0, 0],
-        Err(x) => [x.number(), 0, 0, 0, 0, position(x)],
+        Ok(Found::Whole(Record::Debit { card, retry, amount }, _)) => answer(0, &[1, card, retry, amount.into(), next + 21]),
+        Ok(Found::Whole(Record::TopUp { card, retry, amount }, _)) => answer(0, &[2, card, retry, amount.into(), next + 21]),
+        Ok(Found::Whole(Record::Close { card }, _)) => answer(0, &[3, card, 0, 0, next + 9]),
+        Ok(Found::Incomplete) => answer(253, &[]),
+        Ok(Found::End) => answer(255, &[]),
+        // its position is the place asked for, and no word tells it
+        Err(x) => answer(x.number(), &[]),
     }
 }
 
-fn read(journal: &[u8]) -> [u64; 6] {
+fn read(journal: &[u8]) -> Answer {
     match journal::read(journal) {
-        Ok((records, end)) => [0, records.len() as u64, end as u64, 0, 0, 0],
-        Err(x) => [x.number(), 0, position(x), 0, 0, 0],
+        Ok((records, end)) => answer(0, &[records.len() as u64, end as u64]),
+        Err(x) => refused(x, 2),
     }
 }
 
-fn balance(journal: &[u8], card: u64) -> [u64; 6] {
+fn balance(journal: &[u8], card: u64) -> Answer {
     match journal::balance(journal, card) {
-        Ok((sum, end)) => [0, sum as u64, end as u64, 0, 0, 0],
-        Err(x) => [x.number(), 0, position(x), 0, 0, 0],
+        Ok((sum, end)) => answer(0, &[sum as u64, end as u64]),
+        Err(x) => refused(x, 2),
     }
 }
 
-fn append(buffer: &mut [u8], used: usize, kind: u64, card: u64, retry: u64, amount: u32) -> [u64; 6] {
+fn append(buffer: &mut [u8], used: usize, kind: u64, card: u64, retry: u64, amount: u32) -> Answer {
     let record = match kind {
         1 => Record::Debit { card, retry, amount },
         2 => Record::TopUp { card, retry, amount },
         3 => Record::Close { card },
-        _ => return [254, 0, 0, 0, 0, 0],
+        _ => return answer(254, &[]),
     };
     match journal::append(buffer, used, record) {
-        Ok(next) => [0, next as u64, 0, 0, 0, 0],
-        Err(x) => [x.number(), position(x), 0, 0, 0, 0],
+        Ok(next) => answer(0, &[next as u64]),
+        Err(x) => refused(x, 1),
     }
 }
 
@@ -106,8 +128,9 @@ impl Inputs {
         }
     }
 
-    fn record(&mut self, retries: u64) -> Record {
-        let (card, retry, amount) = (self.card(), self.below(retries), self.amount());
+    // of so many retry numbers, whose low bits are alike up to a place
+    fn record(&mut self, retries: u64, shift: u32) -> Record {
+        let (card, retry, amount) = (self.card(), self.below(retries) << shift, self.amount());
         let retry = if self.below(16) == 0 { u64::MAX - retry } else { retry };
         match self.below(24) {
             0 => Record::Close { card },
@@ -118,10 +141,11 @@ impl Inputs {
 
     fn journal(&mut self) -> Vec<u8> {
         let records = if self.below(200) == 0 { 3_000 + self.below(400) } else { self.below(40) };
-        let retries = [2, 8, 1 << 40][self.below(3) as usize];
+        let retries = [2, 8, 4096, 1 << 40][self.below(4) as usize];
+        let shift = [0, 13, 52][self.below(3) as usize];
         let mut v = Vec::new();
         for _ in 0..records {
-            v.extend(self.record(retries).bytes());
+            v.extend(self.record(retries, shift).bytes());
         }
         match self.below(6) {
             0 => v.truncate(self.below(v.len() as u64 + 1) as usize),
@@ -152,7 +176,7 @@ fn main() {
     let mut codes = std::collections::BTreeMap::new();
     while asked < answers {
         let journal = inputs.journal();
-        let mut hold = |letter: u8, bytes: &[u8], words: &[u64], wanted: [u64; 6], wanted_after: &[u8]| {
+        let mut hold = |letter: u8, bytes: &[u8], words: &[u64], wanted: Answer, wanted_after: &[u8]| {
             let (a, after) = guest.ask(letter, bytes, words);
             asked += 1;
             *codes.entry((letter as char, a[0])).or_insert(0u64) += 1;
@@ -167,10 +191,11 @@ fn main() {
         }
         let size = journal.len() as u64;
         for at in [0, size, inputs.below(size + 3), u64::MAX] {
-            hold(b'a', &journal, &[at], record_at(&journal, at as usize), &[]);
+            let words = if inputs.below(16) == 0 { inputs.below(7) } else { 5 };
+            hold(b'a', &journal, &[at, words], record_at(&journal, at as usize, words), &[]);
         }
         for _ in 0..4 {
-            let record = inputs.record(4);
+            let record = inputs.record(4, 0);
             let (card, retry, amount) = (inputs.card(), inputs.below(4), inputs.amount());
             let kind = if inputs.below(12) == 0 { inputs.0.next() } else { 1 + inputs.below(3) };
             let mut buffer = journal.clone();
