@@ -1,3 +1,1 @@
 pub mod Found
-pub mod Going
-pub mod Read

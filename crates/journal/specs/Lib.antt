@@ -1,7 +1,5 @@
 pub mod Number
 pub mod Record
-pub mod Reader
 pub mod Promise
 pub mod OneOutcome
-pub mod Parts
 pub mod Laws

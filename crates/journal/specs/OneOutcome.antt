@@ -4,8 +4,7 @@ use mathlib.Core.Path.{_≡_, sym, _∙_}
 use mathlib.Core.List.{List}
 use Rattle.journal.specs.declared.Refusal.{Refusal}
 use Rattle.journal.specs.declared.Found.{Found}
-use Rattle.journal.specs.declared.Reading.{Reading}
-use Rattle.journal.specs.Promise.{Numbered, Measures, Finds, ReadsAll}
+use Rattle.journal.specs.Promise.{Numbered, Measures, Finds}
 
 pub number-settled : (r : Refusal) (m n : ℕ) → Numbered r m → Numbered r n → m ≡ n
 number-settled r m n p q = p ∙ sym q
@@ -13,9 +12,5 @@ number-settled r m n p q = p ∙ sym q
 pub length-settled : (kind m n : ℕ) → Measures kind m → Measures kind n → m ≡ n
 length-settled kind m n p q = p ∙ sym q
 
-module _ (d : List ℕ) where
-  pub record-at-settled : (at : ℕ) (r q : Found) → Finds d at r → Finds d at q → r ≡ q
-  record-at-settled at r q a b = a ∙ sym b
-
-  pub read-settled : (r q : Reading) → ReadsAll d r → ReadsAll d q → r ≡ q
-  read-settled r q a b = a ∙ sym b
+pub record-at-settled : (d : List ℕ) (at : ℕ) (r q : Found) → Finds d at r → Finds d at q → r ≡ q
+record-at-settled d at r q a b = a ∙ sym b

@@ -4,10 +4,8 @@ use mathlib.Core.Path.{_≡_}
 use mathlib.Core.List.{List}
 use Rattle.journal.specs.declared.Refusal.{Refusal}
 use Rattle.journal.specs.declared.Found.{Found}
-use Rattle.journal.specs.declared.Reading.{Reading}
 use Rattle.journal.specs.Number.{number}
-use Rattle.journal.specs.Record.{lengthOf}
-use Rattle.journal.specs.Reader.{recordAt, readingOf}
+use Rattle.journal.specs.Record.{lengthOf, recordAt}
 
 abbrev pub Numbered : Refusal → ℕ → Type 0
 Numbered r n = n ≡ number r
@@ -17,6 +15,3 @@ Measures kind r = r ≡ lengthOf kind
 
 abbrev pub Finds : List ℕ → ℕ → Found → Type 0
 Finds d at r = r ≡ recordAt d at
-
-abbrev pub ReadsAll : List ℕ → Reading → Type 0
-ReadsAll d r = r ≡ readingOf d

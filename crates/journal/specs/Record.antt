@@ -7,7 +7,7 @@ use lib.Dec.{ltb, leb, eqb}
 use lib.ListN.{length, take, drop, getD}
 use Rattle.layout.specs.Bytes.{Bytes}
 use Rattle.layout.specs.Fixed.{big, unbig}
-use Rattle.journal.specs.declared.Refusal.the-variants.{UnknownKind}
+use Rattle.journal.specs.declared.Refusal.the-variants.{TooLong, UnknownKind}
 use Rattle.journal.specs.declared.Record.{Record}
 use Rattle.journal.specs.declared.Record.the-variants.{Debit, TopUp, Close}
 use Rattle.journal.specs.declared.Found.{Found}
@@ -80,3 +80,11 @@ foundIn d at =
     (cond (eqb (lengthOf (kindAt d at)) 0) (Refused (UnknownKind at))
     (cond (ltb (length d) (at + lengthOf (kindAt d at))) Incomplete
     (Whole (bodyAt (kindAt d at) d at) (at + lengthOf (kindAt d at)))))
+
+-- ---- a single record of a journal: "a journal over 65,536 bytes answers 30"
+
+abbrev pub maxJournal : ℕ
+maxJournal = 65536
+
+unfoldable pub recordAt : Bytes → ℕ → Found
+recordAt d at = cond (ltb maxJournal (length d)) (Refused TooLong) (foundIn d at)

@@ -1,10 +1,10 @@
-// The switch's journal: debits, top-ups and closes of cards, one after another, until their rows reach a block. Here it is read; a card's balance is had from it by
-// `journal_balance`, and a record is appended to it by `journal_append`. Nothing of slatedb's: added.
+// The switch's journal: debits, top-ups and closes of cards, one after another, until their rows reach a block. Here are its records. `journal_read` reads all of it,
+// `journal_balance` has a card's balance from it, `journal_append` appends to it. Nothing of slatedb's: added.
 ghost use mathlib.Core.Path.{_≡_};
 ghost use Prim.Native.Nat.{_+_, _≤_, _<_};
 ghost use lib.ListN.{length};
 ghost use Rattle.journal.specs.Record.{lengthOf, numberAt, bodyAt, foundIn};
-ghost use Rattle.journal.specs.Promise.{Numbered, Measures, Finds, ReadsAll};
+ghost use Rattle.journal.specs.Promise.{Numbered, Measures, Finds};
 
 // A journal has no more bytes.
 const MAX_JOURNAL: usize = 65536;
@@ -36,18 +36,6 @@ pub enum Found {
     Refused(Refusal),
 }
 
-// Where an incomplete record starts, if the journal ends inside one.
-pub enum Tail {
-    Nothing,
-    From(usize),
-}
-
-// How many complete records there are.
-pub enum Reading {
-    Complete { records: usize, tail: Tail },
-    Refused(Refusal),
-}
-
 pub fn number(r: Refusal) -> u8
     ensures { λ n. ⌜ Numbered r n ⌝ }
 {
@@ -59,8 +47,6 @@ pub fn number(r: Refusal) -> u8
         Refusal::NoRoom => 34,
     }
 }
-
-// ---- the reader
 
 // How many bytes a record of this kind takes; 0 for another kind.
 pub fn length_of(kind: u8) -> usize
@@ -76,13 +62,6 @@ pub fn length_of(kind: u8) -> usize
         return 9;
     }
     0
-}
-
-fn eight_at(journal: &[u8], at: usize) -> u64
-    requires { ⌜ at + 8 ≤ length (now journal) ⌝ }
-    ensures { λ r. ⌜ r ≡ numberAt 8 (now (journal .entry)) at ⌝ }
-{
-    buf::eight(journal, at)
 }
 
 fn wide32(x: u8) -> u32
@@ -107,11 +86,11 @@ fn body_at(journal: &[u8], at: usize, kind: u8) -> Record
     requires { ⌜ (0 < lengthOf kind) × (at + lengthOf kind ≤ length (now journal)) ⌝ }
     ensures { λ r. ⌜ r ≡ bodyAt kind (now (journal .entry)) at ⌝ }
 {
-    let card = eight_at(journal, at + 1);
+    let card = buf::eight(journal, at + 1);
     if kind == 3 {
         return Record::Close { card };
     }
-    let retry = eight_at(journal, at + 9);
+    let retry = buf::eight(journal, at + 9);
     let amount = four_at(journal, at + 17);
     if kind == 1 {
         return Record::Debit {
@@ -155,33 +134,4 @@ pub fn record_at(journal: &[u8], at: usize) -> Found
         return Found::Refused(Refusal::TooLong);
     }
     found_in(journal, at)
-}
-
-// All of it: how many complete records there are, and where the tail starts.
-pub fn read(journal: &[u8]) -> Reading
-    ensures { λ r. ⌜ ReadsAll (now (journal .entry)) r ⌝ }
-{
-    if MAX_JOURNAL < journal.len() {
-        return Reading::Refused(Refusal::TooLong);
-    }
-    let mut at = 0;
-    let mut records = 0;
-    while at < journal.len() {
-        let n = length_of(journal[at]);
-        if n == 0 {
-            return Reading::Refused(Refusal::UnknownKind(at));
-        }
-        if journal.len() - at < n {
-            return Reading::Complete {
-                records,
-                tail: Tail::From(at),
-            };
-        }
-        at += n;
-        records += 1;
-    }
-    Reading::Complete {
-        records,
-        tail: Tail::Nothing,
-    }
 }

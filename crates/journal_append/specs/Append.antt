@@ -10,8 +10,8 @@ use Rattle.journal.specs.declared.Refusal.the-variants.{UsedPastBuffer, EndsIns
 use Rattle.journal.specs.declared.Record.{Record}
 use Rattle.journal_append.specs.declared.Appended.{Appended}
 use Rattle.journal_append.specs.declared.Appended.the-variants.{Used, Refused}
-use Rattle.journal.specs.Record.{lengthOf, kindOf, recordBytes}
-use Rattle.journal.specs.Reader.{maxJournal, Journal, holds, refused, journalOf}
+use Rattle.journal.specs.Record.{lengthOf, kindOf, recordBytes, maxJournal}
+use Rattle.journal_read.specs.Reader.{Journal, holds, refused, journalOf}
 
 -- a record of n bytes after the used part, in a buffer of `room` bytes: the new used length
 abbrev pub placed : ℕ → ℕ → ℕ → Journal → Appended

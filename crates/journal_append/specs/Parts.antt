@@ -6,7 +6,7 @@ use lib.ListN.{length}
 use Rattle.journal.specs.declared.Record.{Record}
 use Rattle.journal_append.specs.declared.Appended.{Appended}
 use Rattle.journal.specs.Record.{lengthOf, kindOf}
-use Rattle.journal.specs.Reader.{holds}
+use Rattle.journal_read.specs.Reader.{holds}
 use Rattle.journal_append.specs.Append.{placed, written}
 
 pub record Places (buffer : List ℕ) (used : ℕ) (record′ : Record) (r : Appended) (buffer′ : List ℕ) : Type 0 where

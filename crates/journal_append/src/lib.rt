@@ -6,10 +6,10 @@ ghost use Rattle.layout.specs.Place.{splice};
 ghost use Rattle.journal.specs.Record.{lengthOf, kindOf, bodyBytes, recordBytes};
 ghost use Rattle.journal_append.specs.Parts.{Places};
 ghost use Rattle.journal_append.specs.Promise.{Appends};
-use journal::Reading;
 use journal::Record;
 use journal::Refusal;
-use journal::Tail;
+use journal_read::Reading;
+use journal_read::Tail;
 
 // A journal has no more bytes.
 const MAX_JOURNAL: usize = 65536;
@@ -95,7 +95,7 @@ pub fn append(buffer: &mut [u8], used: usize, record: Record) -> Appended
     if buffer.len() < used {
         return Appended::Refused(Refusal::UsedPastBuffer);
     }
-    let reading = journal::read(&buffer[..used]);
+    let reading = journal_read::read(&buffer[..used]);
     match reading {
         Reading::Refused(refusal) => Appended::Refused(refusal),
         Reading::Complete { records: _, tail } => match tail {

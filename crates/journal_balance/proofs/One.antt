@@ -8,12 +8,10 @@ use lib.ListN.{length}
 use Rattle.journal.specs.declared.Record.{Record}
 use Rattle.journal_balance.specs.declared.Sums.{Sums}
 use Rattle.journal.specs.declared.Found.the-variants.{Whole}
-use Rattle.journal.specs.Record.{lengthOf, kindOf, cardOf, retryOf, amountOf, numberAt, kindAt, foundIn}
-use Rattle.journal.specs.Reader.{maxJournal, recordAt}
+use Rattle.journal.specs.Record.{lengthOf, kindOf, cardOf, retryOf, amountOf, numberAt, kindAt, foundIn, maxJournal, recordAt}
 use Rattle.journal_balance.specs.Counts.{alike, some}
 use Rattle.journal_balance.specs.Parts.{amountIn, Passed, Earlier, named, CountsOne}
-use Rattle.journal.specs.Laws.Found.{length-long, found-kind, found-card, found-retry}
-use Rattle.journal.specs.Laws.Read.{record-short}
+use Rattle.journal.specs.Laws.Found.{length-long, found-kind, found-card, found-retry, record-short}
 use Rattle.journal_balance.specs.Laws.Counts.{takes-closed, takes-other, takes-close, takes-double, takes-debit, takes-up}
 
 module _ (d : List ℕ) (at kind card : ℕ) (s : Sums) (k : kind ≡ kindAt d at) (some′ : 0 < lengthOf kind) where

@@ -10,7 +10,7 @@ use Rattle.journal.specs.declared.Record.{Record}
 use Rattle.journal_balance.specs.declared.Balanced.{Balanced}
 use Rattle.journal_balance.specs.declared.Balanced.the-variants.{Amount, Refused}
 use Rattle.journal.specs.Record.{debitKind, topUpKind, kindOf, cardOf, amountOf}
-use Rattle.journal.specs.Reader.{Journal, holds, refused, journalOf, tailOf}
+use Rattle.journal_read.specs.Reader.{Journal, holds, refused, journalOf, tailOf}
 use Rattle.journal_balance.specs.Counts.{counts}
 
 -- what a record after those in `before` adds to the sum of a kind for a card

@@ -12,7 +12,7 @@ use Rattle.journal_balance.specs.declared.Balanced.{Balanced}
 use Rattle.journal_balance.specs.declared.Balanced.the-variants.{Amount, Refused as BalancedRefused}
 use Rattle.journal_balance.specs.declared.Sums.{Sums}
 use Rattle.journal.specs.Record.{debitKind, topUpKind, kindOf, cardOf, retryOf, amountOf, foundIn}
-use Rattle.journal.specs.Reader.{Journal, holds, refused, tailOf}
+use Rattle.journal_read.specs.Reader.{Journal, holds, refused, tailOf}
 use Rattle.journal_balance.specs.Counts.{closes, some}
 use Rattle.journal_balance.specs.Balance.{worth, total}
 

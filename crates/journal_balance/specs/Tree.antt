@@ -8,8 +8,7 @@ use mathlib.Core.List.{List}
 use lib.ListN.{length, getD}
 use Rattle.journal.specs.declared.Record.{Record}
 use Rattle.journal.specs.declared.Found.the-variants.{Whole}
-use Rattle.journal.specs.Record.{lengthOf, numberAt, kindAt, foundIn}
-use Rattle.journal.specs.Reader.{maxJournal}
+use Rattle.journal.specs.Record.{lengthOf, numberAt, kindAt, foundIn, maxJournal}
 use Rattle.journal_balance.specs.Counts.{some}
 use Rattle.journal_balance.specs.Parts.{Passed, named, Named}
 

@@ -10,7 +10,7 @@ ghost use Rattle.journal_balance.specs.Promise.{Balances};
 use journal::Found;
 use journal::Record;
 use journal::Refusal;
-use journal::Tail;
+use journal_read::Tail;
 
 // A journal has no more bytes.
 const MAX_JOURNAL: usize = 65536;

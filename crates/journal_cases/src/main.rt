@@ -34,7 +34,7 @@ fn add(buffer: &mut [u8], used: usize, record: Record) -> usize {
 
 // What is read, and the balances of cards 7 and 8.
 fn shown(journal: &[u8]) {
-    say::reading(journal::read(journal));
+    say::reading(journal_read::read(journal));
     say::balanced(journal_balance::balance(journal, 7));
     say::balanced(journal_balance::balance(journal, 8));
 }

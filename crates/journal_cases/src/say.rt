@@ -1,11 +1,11 @@
 // Words, numbers, refusals and answers, as lines of text.
 use journal::Found;
-use journal::Reading;
 use journal::Record;
 use journal::Refusal;
-use journal::Tail;
 use journal_append::Appended;
 use journal_balance::Balanced;
+use journal_read::Reading;
+use journal_read::Tail;
 use libc::STDOUT_FILENO;
 
 pub fn text(words: &[u8]) {

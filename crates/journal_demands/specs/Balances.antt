@@ -14,12 +14,12 @@ use Rattle.layout.specs.Fixed.{unbig}
 use Rattle.journal.specs.declared.Record.{Record}
 use Rattle.journal.specs.declared.Found.the-variants.{Whole}
 use Rattle.journal_balance.specs.declared.Balanced.the-variants.{Amount}
-use Rattle.journal.specs.Record.{debitKind, topUpKind, closeKind, lengthOf, kindOf, cardOf, amountOf, recordBytes, numberAt, kindAt, foundIn}
-use Rattle.journal.specs.Reader.{maxJournal, holds, journalOf, tailOf}
+use Rattle.journal.specs.Record.{debitKind, topUpKind, closeKind, lengthOf, kindOf, cardOf, amountOf, recordBytes, numberAt, kindAt, foundIn, maxJournal}
+use Rattle.journal_read.specs.Reader.{holds, journalOf, tailOf}
 use Rattle.journal_balance.specs.Counts.{alike, closes, some, counts}
 use Rattle.journal_balance.specs.Balance.{worth, total, balanceOf, balanceIn}
 use Rattle.journal.specs.Laws.Found.{Tells, tells, one-of, OneOf, debit, up, close, body-close, found-kind, found-amount}
-use Rattle.journal.specs.Laws.Read.{tail-none}
+use Rattle.journal_read.specs.Laws.Read.{tail-none}
 use Rattle.journal_balance.specs.Laws.Loops.{total-none, total-more}
 use Rattle.journal_demands.specs.Run.{Run, over, tail, more, run-of, run-inside, readable-short}
 use Rattle.journal_demands.specs.Sums.{onto, onto-some, total-append, total-closed, total-double, own, total-own}

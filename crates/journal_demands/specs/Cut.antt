@@ -15,7 +15,7 @@ use Rattle.journal.specs.declared.Refusal.the-variants.{UnknownKind}
 use Rattle.journal.specs.declared.Found.the-variants.{Whole, Incomplete, End, Refused}
 use Rattle.journal_balance.specs.declared.Balanced.the-variants.{Amount}
 use Rattle.journal.specs.Record.{lengthOf, kindOf, kindAt, bodyAt, foundIn}
-use Rattle.journal.specs.Reader.{holds, journalOf, tailOf}
+use Rattle.journal_read.specs.Reader.{holds, journalOf, tailOf}
 use Rattle.journal_balance.specs.Balance.{balanceOf, settled, balanceIn}
 use Rattle.journal.specs.Laws.Found.{Tells, tells}
 use Rattle.journal_demands.specs.Run.{Run, over, tail, more, run-of, read-run, readable-short, next-is}

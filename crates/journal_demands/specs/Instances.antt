@@ -14,11 +14,11 @@ use Rattle.layout.specs.Fixed.{big, unbig}
 use Rattle.layout.specs.Laws.Res.{ltb-cases, clash}
 use Rattle.journal.specs.declared.Record.{Record}
 use Rattle.journal.specs.declared.Record.the-variants.{Debit, TopUp, Close}
-use Rattle.journal.specs.declared.Tail.the-variants.{Nothing, From}
+use Rattle.journal_read.specs.declared.Tail.the-variants.{Nothing, From}
 use Rattle.journal_balance.specs.declared.Balanced.the-variants.{Amount}
 use Rattle.journal_append.specs.declared.Appended.the-variants.{Used}
 use Rattle.journal.specs.Record.{debitKind, topUpKind, lengthOf, recordBytes, numberAt, bodyAt, foundIn}
-use Rattle.journal.specs.Reader.{holds, recordsFrom, journalOf}
+use Rattle.journal_read.specs.Reader.{holds, recordsFrom, journalOf}
 use Rattle.journal_balance.specs.Counts.{some}
 use Rattle.journal_balance.specs.Balance.{total, balanceOf, balanceIn}
 use Rattle.journal_append.specs.Append.{appended, written}

@@ -18,8 +18,8 @@ use Rattle.journal.specs.declared.Record.{Record}
 use Rattle.journal.specs.declared.Record.the-variants.{Debit, TopUp, Close}
 use Rattle.journal.specs.declared.Found.the-variants.{Whole}
 use Rattle.journal_append.specs.declared.Appended.the-variants.{Used, Refused}
-use Rattle.journal.specs.Record.{lengthOf, kindOf, bodyBytes, recordBytes, numberAt, kindAt, bodyAt, foundIn}
-use Rattle.journal.specs.Reader.{maxJournal, Journal, holds, refused, journalOf}
+use Rattle.journal.specs.Record.{lengthOf, kindOf, bodyBytes, recordBytes, numberAt, kindAt, bodyAt, foundIn, maxJournal}
+use Rattle.journal_read.specs.Reader.{Journal, holds, refused, journalOf}
 use Rattle.journal_append.specs.Append.{placed, appended, written}
 use Rattle.journal.specs.Laws.Found.{kind-length, body-debit, body-up, body-close, found-whole, found-end}
 use Rattle.journal_append.specs.Laws.Append.{length-record}

@@ -10,10 +10,10 @@ use borrow.Author.Tests.{ltb-true, ltb-false}
 use Rattle.journal.specs.declared.Record.{Record}
 use Rattle.journal.specs.declared.Found.{Found}
 use Rattle.journal.specs.declared.Found.the-variants.{Whole, Incomplete, End, Refused}
-use Rattle.journal.specs.Record.{lengthOf, kindOf, foundIn}
-use Rattle.journal.specs.Reader.{maxJournal, Journal, holds, refused, after, onward, recordsFrom, journalOf}
+use Rattle.journal.specs.Record.{lengthOf, kindOf, foundIn, maxJournal}
+use Rattle.journal_read.specs.Reader.{Journal, holds, refused, after, onward, recordsFrom, journalOf}
 use Rattle.journal.specs.Laws.Found.{tells, found-moves, found-end, found-kind}
-use Rattle.journal.specs.Laws.Going.{journal-long, journal-from, records-over, records-step}
+use Rattle.journal_read.specs.Laws.Going.{journal-long, journal-from, records-over, records-step}
 
 pub data Run (d : List ℕ) : ℕ → List Record → ℕ → Type 0 where
   over : {at : ℕ} → foundIn d at ≡ End → Run d at [] at

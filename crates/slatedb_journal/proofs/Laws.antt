@@ -9,10 +9,10 @@ use lib.Seq.{sets-eq}
 use borrow.Author.Tests.{eq-eqb, ne-eqb}
 use Rattle.journal.specs.declared.Record.{Record}
 use Rattle.journal.specs.declared.Found.{Found}
-use Rattle.journal.specs.declared.Reading.{Reading}
+use Rattle.journal_read.specs.declared.Reading.{Reading}
 use Rattle.journal_balance.specs.declared.Balanced.{Balanced}
 use Rattle.journal_append.specs.declared.Appended.{Appended}
-use Rattle.journal.specs.Reader.{recordAt}
+use Rattle.journal.specs.Record.{recordAt}
 use Rattle.journal_append.specs.Append.{written}
 use Rattle.journal_append.specs.Promise.{Appends}
 use Rattle.slatedb_journal.specs.declared.Offered.{Offered}

@@ -10,10 +10,10 @@ use Rattle.journal.specs.declared.Record.{Record}
 use Rattle.journal.specs.declared.Record.the-variants.{Debit, TopUp, Close}
 use Rattle.journal.specs.declared.Found.{Found}
 use Rattle.journal.specs.declared.Found.the-variants.{Whole, Incomplete, End, Refused as FoundRefused}
-use Rattle.journal.specs.declared.Tail.{Tail}
-use Rattle.journal.specs.declared.Tail.the-variants.{Nothing, From}
-use Rattle.journal.specs.declared.Reading.{Reading}
-use Rattle.journal.specs.declared.Reading.the-variants.{Complete, Refused as ReadingRefused}
+use Rattle.journal_read.specs.declared.Tail.{Tail}
+use Rattle.journal_read.specs.declared.Tail.the-variants.{Nothing, From}
+use Rattle.journal_read.specs.declared.Reading.{Reading}
+use Rattle.journal_read.specs.declared.Reading.the-variants.{Complete, Refused as ReadingRefused}
 use Rattle.journal_balance.specs.declared.Balanced.{Balanced}
 use Rattle.journal_balance.specs.declared.Balanced.the-variants.{Amount, Refused as BalancedRefused}
 use Rattle.journal_append.specs.declared.Appended.{Appended}

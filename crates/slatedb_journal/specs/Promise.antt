@@ -6,8 +6,9 @@ use mathlib.Core.List.{List}
 use lib.Dec.{eqb}
 use lib.IntN.{ℤ}
 use lib.ListN.{length}
-use Rattle.journal.specs.declared.Reading.{Reading}
-use Rattle.journal.specs.Reader.{recordAt, readingOf}
+use Rattle.journal_read.specs.declared.Reading.{Reading}
+use Rattle.journal.specs.Record.{recordAt}
+use Rattle.journal_read.specs.Reader.{readingOf}
 use Rattle.journal_balance.specs.declared.Balanced.{Balanced}
 use Rattle.journal_balance.specs.Balance.{balanceIn}
 use Rattle.journal_append.specs.Append.{appended, written}

@@ -6,12 +6,12 @@ ghost use lib.ListN.{length};
 ghost use Rattle.slatedb_journal.specs.Flat.{recordCount, fiveWords, recordWords, placeTold, tailPlace, offeredBy};
 ghost use Rattle.slatedb_journal.specs.Promise.{FindsFlat, ReadsFlat, BalancesFlat, AppendsFlat};
 use journal::Found;
-use journal::Reading;
 use journal::Record;
 use journal::Refusal;
-use journal::Tail;
 use journal_append::Appended;
 use journal_balance::Balanced;
+use journal_read::Reading;
+use journal_read::Tail;
 
 const GOOD: u8 = 0;
 
@@ -105,7 +105,7 @@ pub extern "C" fn slatedb_journal_record_at(journal: &[u8], at: usize, words: &m
 pub extern "C" fn slatedb_journal_read(journal: &[u8], records: &mut u64, place: &mut u64) -> u8
     ensures { λ r. ⌜ ReadsFlat (now (journal .entry)) (now (records .entry)) (now (place .entry)) r (now (records .exit)) (now (place .exit)) ⌝ }
 {
-    let reading = journal::read(journal);
+    let reading = journal_read::read(journal);
     match reading {
         Reading::Complete { records: n, tail } => {
             *records = n as u64;

@@ -1,5 +1,5 @@
 -- `record_at` tests 30 first.
-use Rattle.journal.specs.Reader.{recordAt}
+use Rattle.journal.specs.Record.{recordAt}
 use borrow.Author.Tests.{lt-ltb, le-ltb}
 use borrow.Author.Needs.{needs}
 use Rattle.journal.proofs.record_at.Statement.{statement}

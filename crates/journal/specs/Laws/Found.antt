@@ -13,7 +13,7 @@ use Rattle.journal.specs.declared.Refusal.the-variants.{UnknownKind}
 use Rattle.journal.specs.declared.Record.{Record}
 use Rattle.journal.specs.declared.Record.the-variants.{Debit, TopUp, Close}
 use Rattle.journal.specs.declared.Found.the-variants.{Whole, Incomplete, End, Refused}
-use Rattle.journal.specs.Record.{lengthOf, kindOf, cardOf, retryOf, amountOf, numberAt, kindAt, bodyAt, foundIn}
+use Rattle.journal.specs.Record.{lengthOf, kindOf, cardOf, retryOf, amountOf, numberAt, kindAt, bodyAt, foundIn, maxJournal, recordAt}
 
 -- ---- lengths
 
@@ -197,3 +197,9 @@ module _ (d : List ℕ) (at : ℕ) (r : Record) (next : ℕ) (e : foundIn d at �
 
   pub found-amount : lengthOf (kindAt d at) ≡ 21 → amountOf r ≡ numberAt 4 d (at + 17)
   found-amount l = ap amountOf (tells d at r next e .is) ∙ body-amount (kindAt d at) d at l
+
+-- ---- a single record
+
+pub record-short : (d : List ℕ) (at : ℕ) → length d ≤ maxJournal → recordAt d at ≡ foundIn d at
+unfolding recordAt
+record-short d at h = rw (le-ltb maxJournal (length d) h)

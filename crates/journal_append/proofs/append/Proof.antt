@@ -9,13 +9,13 @@ use borrow.Author.Needs.{needs}
 use Rattle.journal.specs.declared.Refusal.{Refusal}
 use Rattle.journal.specs.declared.Refusal.the-variants.{EndsInside}
 use Rattle.journal.specs.declared.Record.{Record}
-use Rattle.journal.specs.declared.Tail.{Tail}
-use Rattle.journal.specs.declared.Tail.the-variants.{Nothing, From}
-use Rattle.journal.specs.declared.Reading.{Reading}
-use Rattle.journal.specs.declared.Reading.the-variants.{Complete, Refused as ReadingRefused}
+use Rattle.journal_read.specs.declared.Tail.{Tail}
+use Rattle.journal_read.specs.declared.Tail.the-variants.{Nothing, From}
+use Rattle.journal_read.specs.declared.Reading.{Reading}
+use Rattle.journal_read.specs.declared.Reading.the-variants.{Complete, Refused as ReadingRefused}
 use Rattle.journal_append.specs.declared.Appended.{Appended}
 use Rattle.journal_append.specs.declared.Appended.the-variants.{Refused}
-use Rattle.journal.specs.Reader.{journalOf, counted, readingOf}
+use Rattle.journal_read.specs.Reader.{journalOf, counted, readingOf}
 use Rattle.journal_append.specs.Append.{appended}
 use Rattle.journal_append.specs.Promise.{Appends}
 use Rattle.journal_append.specs.Parts.{Places}

@@ -14,15 +14,15 @@ use Rattle.journal.specs.declared.Refusal.{Refusal}
 use Rattle.journal.specs.declared.Refusal.the-variants.{UsedPastBuffer, EndsInside, NoRoom}
 use Rattle.journal.specs.declared.Record.{Record}
 use Rattle.journal.specs.declared.Record.the-variants.{Debit, TopUp, Close}
-use Rattle.journal.specs.declared.Tail.{Tail}
-use Rattle.journal.specs.declared.Tail.the-variants.{Nothing, From}
-use Rattle.journal.specs.declared.Reading.the-variants.{Complete, Refused as ReadingRefused}
+use Rattle.journal_read.specs.declared.Tail.{Tail}
+use Rattle.journal_read.specs.declared.Tail.the-variants.{Nothing, From}
+use Rattle.journal_read.specs.declared.Reading.the-variants.{Complete, Refused as ReadingRefused}
 use Rattle.journal_append.specs.declared.Appended.the-variants.{Used, Refused}
-use Rattle.journal.specs.Record.{lengthOf, kindOf, recordBytes, bodyBytes}
-use Rattle.journal.specs.Reader.{maxJournal, Journal, holds, refused, journalOf, tailOf, counted, readingOf}
+use Rattle.journal.specs.Record.{lengthOf, kindOf, recordBytes, bodyBytes, maxJournal}
+use Rattle.journal_read.specs.Reader.{Journal, holds, refused, journalOf, tailOf, counted, readingOf}
 use Rattle.journal_append.specs.Append.{placed, appended}
 use Rattle.journal.specs.Laws.Found.{length-debit, length-up, length-close}
-use Rattle.journal.specs.Laws.Going.{journal-long}
+use Rattle.journal_read.specs.Laws.Going.{journal-long}
 
 -- ---- after a whole used part
 

@@ -7,14 +7,14 @@ use lib.ListN.{length}
 use mir.Syntax.{w64}
 use mir.Facts.{toZ-ofZ}
 use borrow.Author.Needs.{needs}
-use Rattle.journal.specs.declared.Tail.the-variants.{Nothing, From}
+use Rattle.journal_read.specs.declared.Tail.the-variants.{Nothing, From}
 use Rattle.journal.specs.Record.{lengthOf, kindAt, bodyAt}
 use Rattle.journal_balance.specs.Balance.{balanceIn}
 use Rattle.journal_balance.specs.Parts.{settledFrom}
 use Rattle.journal_balance.specs.Tree.{Keeps}
 use Rattle.journal.specs.Laws.Found.{found-whole}
-use Rattle.journal.specs.Laws.Going.{going-end, going-unknown, going-tail}
-use Rattle.journal.specs.Laws.Read.{tail-from, tail-none}
+use Rattle.journal_read.specs.Laws.Going.{going-end, going-unknown, going-tail}
+use Rattle.journal_read.specs.Laws.Read.{tail-from, tail-none}
 use Rattle.journal_balance.specs.Laws.Loops.{balance-long, Balancing, balancing-start, balancing-more, balancing-last}
 use Rattle.journal_balance.specs.Laws.Tree.{tree-start}
 use Rattle.journal_balance.proofs.balance.Statement.{statement}

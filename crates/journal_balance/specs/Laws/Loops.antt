@@ -9,16 +9,16 @@ use lib.IntN.{ℤ, pos, _-ℤ_}
 use lib.ListN.{length}
 use Rattle.journal.specs.declared.Refusal.the-variants.{TooLong}
 use Rattle.journal.specs.declared.Record.{Record}
-use Rattle.journal.specs.declared.Tail.{Tail}
+use Rattle.journal_read.specs.declared.Tail.{Tail}
 use Rattle.journal_balance.specs.declared.Balanced.the-variants.{Amount, Refused as BalancedRefused}
 use Rattle.journal_balance.specs.declared.Sums.{Sums}
-use Rattle.journal.specs.Record.{debitKind, topUpKind, lengthOf, kindAt, bodyAt}
-use Rattle.journal.specs.Reader.{maxJournal, Journal, holds, refused, after, journalOf, tailOf}
+use Rattle.journal.specs.Record.{debitKind, topUpKind, lengthOf, kindAt, bodyAt, maxJournal}
+use Rattle.journal_read.specs.Reader.{Journal, holds, refused, after, journalOf, tailOf}
 use Rattle.journal_balance.specs.Counts.{closes, some}
 use Rattle.journal_balance.specs.Balance.{worth, total, settled, balanceIn}
 use Rattle.journal_balance.specs.Parts.{here, Passed, TakesIn, settledFrom}
 use Rattle.journal.specs.Laws.Found.{found-whole}
-use Rattle.journal.specs.Laws.Going.{Going, going-start, going-more, journal-long}
+use Rattle.journal_read.specs.Laws.Going.{Going, going-start, going-more, journal-long}
 use Rattle.journal_balance.specs.Laws.Walk.{walk-more, some-none}
 
 pub total-none : (kind card : ℕ) (before : List Record) → total kind card before [] ≡ 0

@@ -13,8 +13,7 @@ use borrow.Author.Tests.{eq-eqb, eqb-true}
 use Rattle.layout.specs.Laws.Res.{eqb-cases, clash}
 use Rattle.journal.specs.declared.Record.{Record}
 use Rattle.journal.specs.declared.Found.the-variants.{Whole}
-use Rattle.journal.specs.Record.{lengthOf, kindOf, cardOf, retryOf, numberAt, kindAt, bodyAt, foundIn}
-use Rattle.journal.specs.Reader.{maxJournal}
+use Rattle.journal.specs.Record.{lengthOf, kindOf, cardOf, retryOf, numberAt, kindAt, bodyAt, foundIn, maxJournal}
 use Rattle.journal.specs.Laws.Found.{found-moves, found-whole, found-kind, found-card, found-retry}
 use Rattle.journal_balance.specs.Counts.{some}
 use Rattle.journal_balance.specs.Parts.{Walk, here as walk-here, step, Earlier, Named, named}

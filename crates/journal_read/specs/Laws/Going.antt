@@ -7,10 +7,10 @@ use native.Mathlib.Omega.{arith}
 use lib.ListN.{length}
 use borrow.Author.Tests.{lt-ltb, le-ltb}
 use Rattle.layout.specs.Laws.Res.{spend}
 use Rattle.journal.specs.declared.Refusal.the-variants.{TooLong, UnknownKind}
-use Rattle.journal.specs.Record.{lengthOf, kindAt, bodyAt, foundIn}
-use Rattle.journal.specs.Reader.{maxJournal, Journal, holds, refused, after, onward, recordsFrom, journalOf}
+use Rattle.journal.specs.Record.{lengthOf, kindAt, bodyAt, foundIn, maxJournal}
+use Rattle.journal_read.specs.Reader.{Journal, holds, refused, after, onward, recordsFrom, journalOf}
 use Rattle.journal.specs.Laws.Found.{found-end, found-unknown, found-incomplete, found-whole}
 
 pub journal-long : (d : List ℕ) → maxJournal < length d → journalOf d ≡ refused TooLong
 unfolding journalOf

@@ -5,23 +5,16 @@ use mathlib.Core.List.{List, [], _∷_}
 use lib.Dec.{ltb}
 use lib.ListN.{length}
 use Rattle.layout.specs.Bytes.{Bytes}
 use Rattle.journal.specs.declared.Refusal.{Refusal}
 use Rattle.journal.specs.declared.Refusal.the-variants.{TooLong}
 use Rattle.journal.specs.declared.Record.{Record}
 use Rattle.journal.specs.declared.Found.{Found}
 use Rattle.journal.specs.declared.Found.the-variants.{Whole, Incomplete, End, Refused as FoundRefused}
-use Rattle.journal.specs.declared.Tail.{Tail}
-use Rattle.journal.specs.declared.Tail.the-variants.{Nothing, From}
-use Rattle.journal.specs.declared.Reading.{Reading}
-use Rattle.journal.specs.declared.Reading.the-variants.{Complete, Refused}
-use Rattle.journal.specs.Record.{foundIn}
-
-abbrev pub maxJournal : ℕ
-maxJournal = 65536
-
--- a single record of a journal
-unfoldable pub recordAt : Bytes → ℕ → Found
-recordAt d at = cond (ltb maxJournal (length d)) (FoundRefused TooLong) (foundIn d at)
+use Rattle.journal_read.specs.declared.Tail.{Tail}
+use Rattle.journal_read.specs.declared.Tail.the-variants.{Nothing, From}
+use Rattle.journal_read.specs.declared.Reading.{Reading}
+use Rattle.journal_read.specs.declared.Reading.the-variants.{Complete, Refused}
+use Rattle.journal.specs.Record.{foundIn, maxJournal}
 
 -- a journal: its complete records in order, and where they end; or a refusal
 pub data Journal : Type 0 where

@@ -6,15 +6,15 @@ use native.Mathlib.Nat.{zero-add, add-zero}
 use native.Mathlib.Omega.{arith}
 use lib.ListN.{length}
 use borrow.Author.Tests.{lt-ltb, le-ltb}
 use Rattle.journal.specs.declared.Refusal.the-variants.{TooLong}
 use Rattle.journal.specs.declared.Record.{Record}
-use Rattle.journal.specs.declared.Tail.{Tail}
-use Rattle.journal.specs.declared.Tail.the-variants.{Nothing, From}
-use Rattle.journal.specs.declared.Reading.the-variants.{Complete, Refused as ReadingRefused}
-use Rattle.journal.specs.Record.{foundIn}
-use Rattle.journal.specs.Reader.{maxJournal, Journal, holds, refused, after, recordAt, journalOf, tailOf, counted, readingOf}
-use Rattle.journal.specs.Parts.{shown}
-use Rattle.journal.specs.Laws.Going.{Going, going-start, journal-long}
+use Rattle.journal_read.specs.declared.Tail.{Tail}
+use Rattle.journal_read.specs.declared.Tail.the-variants.{Nothing, From}
+use Rattle.journal_read.specs.declared.Reading.the-variants.{Complete, Refused as ReadingRefused}
+use Rattle.journal.specs.Record.{maxJournal}
+use Rattle.journal_read.specs.Reader.{Journal, holds, refused, after, journalOf, tailOf, counted, readingOf}
+use Rattle.journal_read.specs.Parts.{shown}
+use Rattle.journal_read.specs.Laws.Going.{Going, going-start, journal-long}
 
 -- ---- where the records end
 
@@ -23,12 +23,6 @@ tail-from at size h = rw (lt-ltb at size h)
 
 pub tail-none : (at size : ℕ) → size ≤ at → tailOf at size ≡ Nothing
 tail-none at size h = rw (le-ltb at size h)
-
--- ---- a single record
-
-pub record-short : (d : List ℕ) (at : ℕ) → length d ≤ maxJournal → recordAt d at ≡ foundIn d at
-unfolding recordAt
-record-short d at h = rw (le-ltb maxJournal (length d) h)
 
 -- ---- the reader
 

@@ -4,14 +4,14 @@ use mathlib.Core.Path.{_≡_, sym, _∙_}
 use native.Mathlib.Omega.{arith}
 use lib.ListN.{length}
 use borrow.Author.Needs.{needs}
-use Rattle.journal.specs.declared.Tail.the-variants.{Nothing, From}
+use Rattle.journal_read.specs.declared.Tail.the-variants.{Nothing, From}
 use Rattle.journal.specs.Record.{lengthOf, kindAt, bodyAt}
-use Rattle.journal.specs.Reader.{readingOf}
-use Rattle.journal.specs.Parts.{shown}
-use Rattle.journal.specs.Laws.Going.{Going, going-end, going-unknown, going-tail, going-more}
-use Rattle.journal.specs.Laws.Read.{tail-from, tail-none, reading-long, shown-start, shown-more, shown-last}
-use Rattle.journal.proofs.read.Statement.{statement}
-use Rattle.journal.proofs.read.Tie as tie
+use Rattle.journal_read.specs.Reader.{readingOf}
+use Rattle.journal_read.specs.Parts.{shown}
+use Rattle.journal_read.specs.Laws.Going.{Going, going-end, going-unknown, going-tail, going-more}
+use Rattle.journal_read.specs.Laws.Read.{tail-from, tail-none, reading-long, shown-start, shown-more, shown-last}
+use Rattle.journal_read.proofs.read.Statement.{statement}
+use Rattle.journal_read.proofs.read.Tie as tie
 
 abbrev Inv-loop : tie.InvT-loop
 Inv-loop journal at₀ records₀ at records = (records ≤ at) × (at ≤ length journal) × (length journal ≤ 65536) × Going journal (shown (length journal) records) (readingOf journal) at

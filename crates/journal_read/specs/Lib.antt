@@ -1,0 +1,5 @@
+pub mod Reader
+pub mod Promise
+pub mod OneOutcome
+pub mod Parts
+pub mod Laws
