@@ -7,7 +7,7 @@ ghost use Rattle.journal.specs.Record.{lengthOf, numberAt, bodyAt, found
 ghost use Rattle.journal.specs.Promise.{Numbered, Measures, Finds};
 
 // A journal has no more bytes.
-const MAX_JOURNAL: usize = 65536;
+pub const MAX_JOURNAL: usize = 65536;
 
 pub enum Refusal {
     // 30: the journal has over 65,536 bytes

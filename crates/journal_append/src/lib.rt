@@ -11,9 +11,6 @@ use journal::Refusal;
 use journal_read::Reading;
 use journal_read::Tail;
 
-// A journal has no more bytes.
-const MAX_JOURNAL: usize = 65536;
-
 // The new used length.
 pub enum Appended {
     Used(usize),
@@ -81,7 +78,7 @@ fn append_whole(buffer: &mut [u8], used: usize, record: Record) -> Appended
     if buffer.len() - used < n {
         return Appended::Refused(Refusal::NoRoom);
     }
-    if MAX_JOURNAL - used < n {
+    if journal::MAX_JOURNAL - used < n {
         return Appended::Refused(Refusal::NoRoom);
     }
     write_record(buffer, used, record);

@@ -12,9 +12,6 @@ use journal::Record;
 use journal::Refusal;
 use journal_read::Tail;
 
-// A journal has no more bytes.
-const MAX_JOURNAL: usize = 65536;
-
 // The tree's slots: one for each kind, and two for each 21 bytes.
 const SLOTS: usize = 6240;
 
@@ -152,7 +149,7 @@ fn less(ups: u64, downs: u64) -> i64
 pub fn balance(journal: &[u8], card: u64) -> Balanced
     ensures { λ r. ⌜ Balances (now (journal .entry)) card r ⌝ }
 {
-    if MAX_JOURNAL < journal.len() {
+    if journal::MAX_JOURNAL < journal.len() {
         return Balanced::Refused(Refusal::TooLong);
     }
     let mut tree = [0; SLOTS];

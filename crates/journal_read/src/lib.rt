@@ -2,9 +2,6 @@
 ghost use Rattle.journal_read.specs.Promise.{ReadsAll};
 use journal::Refusal;
 
-// A journal has no more bytes.
-const MAX_JOURNAL: usize = 65536;
-
 // Where an incomplete record starts, if the journal ends inside one.
 pub enum Tail {
     Nothing,
@@ -21,7 +18,7 @@ pub enum Reading {
 pub fn read(journal: &[u8]) -> Reading
     ensures { λ r. ⌜ ReadsAll (now (journal .entry)) r ⌝ }
 {
-    if MAX_JOURNAL < journal.len() {
+    if journal::MAX_JOURNAL < journal.len() {
         return Reading::Refused(Refusal::TooLong);
     }
     let mut at = 0;
