@@ -61,8 +61,8 @@ fn copy_16(buf: &mut [u8], at: usize, src: &[u8], from: usize)
     let end = half + 8;
     let mid = from + 8;
     let last = mid + 8;
-    buf_mut::copy_8(&mut buf[at..half], &src[from..mid]);
-    buf_mut::copy_8(&mut buf[half..end], &src[mid..last]);
+    copies::copy_8(&mut buf[at..half], &src[from..mid]);
+    copies::copy_8(&mut buf[half..end], &src[mid..last]);
 }
 
 // Gives the key of a plain row to the start of `out`, and has it carried. Bytes past a carried key tell nothing, so that sixteen may go where the suffix has

@@ -6,7 +6,7 @@ use lib.IntN.{ℤ}
 use Rattle.layout.specs.Fixed.{big, bits}
 use Rattle.basics.specs.declared.Refusal.{Refusal}
 use Rattle.buf_mut.specs.declared.Put.{Put}
-use Rattle.buf_mut.specs.Promise.{Puts, CopiesFirst, PlaceAfter, PutRefusal}
+use Rattle.buf_mut.specs.Promise.{Puts, PlaceAfter, PutRefusal}
 use Rattle.buf_mut.specs.Says.{saysPut-one}
 
 -- any bytes, and those of each writer
@@ -26,16 +26,6 @@ module _ (buf : List ℕ) (at : ℕ) (r q : Put) (ys zs : List ℕ) where
 
   pub copy-in-settled : (src : List ℕ) → Puts src buf at r ys → Puts src buf at q zs → (r ≡ q) × (ys ≡ zs)
   copy-in-settled src = puts-settled src buf at r q ys zs
-
--- any number of bytes, and that of each copy
-pub copies-settled : (n : ℕ) (src buf ys zs : List ℕ) → CopiesFirst n src buf ys → CopiesFirst n src buf zs → ys ≡ zs
-copies-settled n src buf ys zs a b = a ∙ sym b
-
-pub copy-8-settled : (src buf ys zs : List ℕ) → CopiesFirst 8 src buf ys → CopiesFirst 8 src buf zs → ys ≡ zs
-copy-8-settled = copies-settled 8
-
-pub copy-4-settled : (src buf ys zs : List ℕ) → CopiesFirst 4 src buf ys → CopiesFirst 4 src buf zs → ys ≡ zs
-copy-4-settled = copies-settled 4
 
 pub place-after-settled : (put : Put) (m n : ℕ) → PlaceAfter put m → PlaceAfter put n → m ≡ n
 place-after-settled put m n p q = p ∙ sym q

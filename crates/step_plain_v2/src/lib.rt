@@ -126,7 +126,7 @@ fn copy_4(buf: &mut [u8], at: usize, src: &[u8], from: usize)
 {
     let end = at + 4;
     let last = from + 4;
-    buf_mut::copy_4(&mut buf[at..end], &src[from..last]);
+    copies::copy_4(&mut buf[at..end], &src[from..last]);
 }
 
 fn copy_8(buf: &mut [u8], at: usize, src: &[u8], from: usize)
@@ -135,7 +135,7 @@ fn copy_8(buf: &mut [u8], at: usize, src: &[u8], from: usize)
 {
     let end = at + 8;
     let last = from + 8;
-    buf_mut::copy_8(&mut buf[at..end], &src[from..last]);
+    copies::copy_8(&mut buf[at..end], &src[from..last]);
 }
 
 // The first and the last of `n` bytes, which are all of them, some twice.

@@ -4,7 +4,7 @@ use mathlib.Core.Path.{_≡_}
 use native.Mathlib.Omega.{arith}
 use lib.ListN.{length}
 use borrow.Rule.Slice.PartMut.{putMid}
-use Rattle.buf_mut.proofs.Copies.{part-copied}
+use Rattle.copies.proofs.Copies.{part-copied}
 use Rattle.block_rows_v2.proofs.Plain.{sixteen}
 use borrow.Author.Needs.{needs}
 use Rattle.block_rows_v2.proofs.copy_16.Statement.{statement}

@@ -1,5 +1,5 @@
 -- `copy_1` keeps its promise: one store is one write (`all-copied`).
-use Rattle.buf_mut.proofs.Copies.{all-copied}
+use Rattle.copies.proofs.Copies.{all-copied}
 use borrow.Author.Needs.{needs}
 use Rattle.step_plain_v2.proofs.copy_1.Statement.{statement}
 use Rattle.step_plain_v2.proofs.copy_1.Tie as tie

@@ -1,5 +1,5 @@
 -- `copy_8` keeps its promise: the parts that are lent have eight bytes, so that all are copied (`part-copied`).
-use Rattle.buf_mut.proofs.Copies.{part-copied}
+use Rattle.copies.proofs.Copies.{part-copied}
 use borrow.Author.Needs.{needs}
 use Rattle.step_plain_v2.proofs.copy_8.Statement.{statement}
 use Rattle.step_plain_v2.proofs.copy_8.Tie as tie

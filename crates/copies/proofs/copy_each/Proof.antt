@@ -6,8 +6,8 @@ use native.Mathlib.Omega.{arith}
 use lib.ListN.{length, drop, length-set, drop-of-length-le}
 use lib.Seq.{sets, drop-cons}
 use Rattle.layout.specs.Laws.Splice.{sets-splice}
-use Rattle.buf_mut.proofs.copy_each.Statement.{statement}
-use Rattle.buf_mut.proofs.copy_each.Tie as tie
+use Rattle.copies.proofs.copy_each.Statement.{statement}
+use Rattle.copies.proofs.copy_each.Tie as tie
 
 abbrev Inv-loop : tie.InvT-loop
 Inv-loop buf₀ at src i₀ buf i = (i ≤ length src) × (sets buf (at + i) (drop i src) ≡ sets buf₀ at src) × (length buf ≡ length buf₀)

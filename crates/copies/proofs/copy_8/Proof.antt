@@ -1,8 +1,8 @@
 -- `copy_8` keeps its promise: nothing where either slice is too short, else eight bytes, copied from the start of the one to the start of the other.
 use borrow.Author.Needs.{needs}
-use Rattle.buf_mut.proofs.Copies.{first-none, first-short, first-all}
-use Rattle.buf_mut.proofs.copy_8.Statement.{statement}
-use Rattle.buf_mut.proofs.copy_8.Tie as tie
+use Rattle.copies.proofs.Copies.{first-none, first-short, first-all}
+use Rattle.copies.proofs.copy_8.Statement.{statement}
+use Rattle.copies.proofs.copy_8.Tie as tie
 
 returns : tie.Need-returns
 returns c = first-none 8 (c .before .before .before .args .src .now) (c .before .before .before .args .buf .now) (c .if1 .taken)

@@ -1,10 +1,10 @@
 -- `copy_4` keeps its promise: nothing where either slice is too short, else four bytes, all read before the first store: four stores in a row are one write (`all-copied`).
 use native.Mathlib.Omega.{arith}
 use lib.ListN.{length-set}
-use Rattle.buf_mut.proofs.Copies.{all-copied, first-none, first-short, first-all}
+use Rattle.copies.proofs.Copies.{all-copied, first-none, first-short, first-all}
 use borrow.Author.Needs.{needs}
-use Rattle.buf_mut.proofs.copy_4.Statement.{statement}
-use Rattle.buf_mut.proofs.copy_4.Tie as tie
+use Rattle.copies.proofs.copy_4.Statement.{statement}
+use Rattle.copies.proofs.copy_4.Tie as tie
 
 returns : tie.Need-returns
 returns c = first-none 4 (c .before .args .src .now) (c .before .args .buf .now) (c .if1 .taken)

@@ -1,9 +1,9 @@
 -- `copy_8_at` keeps its promise: eight bytes of `src`, from `from` on, at `at`. All are read before the first store, and what eight stores in a row leave is one write (`all-copied`).
 use native.Mathlib.Omega.{arith}
 use lib.ListN.{length-set}
-use Rattle.buf_mut.proofs.Copies.{all-copied}
-use Rattle.buf_mut.proofs.copy_8_at.Statement.{statement}
-use Rattle.buf_mut.proofs.copy_8_at.Tie as tie
+use Rattle.copies.proofs.Copies.{next-within, all-copied}
+use Rattle.copies.proofs.copy_8_at.Statement.{statement}
+use Rattle.copies.proofs.copy_8_at.Tie as tie
 
 shared-slice-read-a : tie.Need-shared-slice-read-a
 shared-slice-read-a c = omega arith
@@ -57,43 +57,57 @@ add-buf : tie.Need-add-buf
 add-buf c = omega arith
 
 slice-write-buf-2 : tie.Need-slice-write-buf-2
-slice-write-buf-2 c = simp length-set (omega arith)
+slice-write-buf-2 c =
+    let s = c .before .before .before .before .before .before .before .before in
+    next-within 0 7 (s .args .src .now) (s .args .from) (s .args .buf .now) (s .args .at) (omega arith) (s .pre .0)
 
 add-buf-2 : tie.Need-add-buf-2
 add-buf-2 c = omega arith
 
 slice-write-buf-3 : tie.Need-slice-write-buf-3
-slice-write-buf-3 c = simp length-set (omega arith)
+slice-write-buf-3 c =
+    let s = c .before .before .before .before .before .before .before .before in
+    next-within 1 7 (s .args .src .now) (s .args .from) (s .args .buf .now) (s .args .at) (omega arith) (s .pre .0)
 
 add-buf-3 : tie.Need-add-buf-3
 add-buf-3 c = omega arith
 
 slice-write-buf-4 : tie.Need-slice-write-buf-4
-slice-write-buf-4 c = simp length-set (omega arith)
+slice-write-buf-4 c =
+    let s = c .before .before .before .before .before .before .before .before in
+    next-within 2 7 (s .args .src .now) (s .args .from) (s .args .buf .now) (s .args .at) (omega arith) (s .pre .0)
 
 add-buf-4 : tie.Need-add-buf-4
 add-buf-4 c = omega arith
 
 slice-write-buf-5 : tie.Need-slice-write-buf-5
-slice-write-buf-5 c = simp length-set (omega arith)
+slice-write-buf-5 c =
+    let s = c .before .before .before .before .before .before .before .before in
+    next-within 3 7 (s .args .src .now) (s .args .from) (s .args .buf .now) (s .args .at) (omega arith) (s .pre .0)
 
 add-buf-5 : tie.Need-add-buf-5
 add-buf-5 c = omega arith
 
 slice-write-buf-6 : tie.Need-slice-write-buf-6
-slice-write-buf-6 c = simp length-set (omega arith)
+slice-write-buf-6 c =
+    let s = c .before .before .before .before .before .before .before .before in
+    next-within 4 7 (s .args .src .now) (s .args .from) (s .args .buf .now) (s .args .at) (omega arith) (s .pre .0)
 
 add-buf-6 : tie.Need-add-buf-6
 add-buf-6 c = omega arith
 
 slice-write-buf-7 : tie.Need-slice-write-buf-7
-slice-write-buf-7 c = simp length-set (omega arith)
+slice-write-buf-7 c =
+    let s = c .before .before .before .before .before .before .before .before in
+    next-within 5 7 (s .args .src .now) (s .args .from) (s .args .buf .now) (s .args .at) (omega arith) (s .pre .0)
 
 add-buf-7 : tie.Need-add-buf-7
 add-buf-7 c = omega arith
 
 slice-write-buf-8 : tie.Need-slice-write-buf-8
-slice-write-buf-8 c = simp length-set (omega arith)
+slice-write-buf-8 c =
+    let s = c .before .before .before .before .before .before .before .before in
+    next-within 6 7 (s .args .src .now) (s .args .from) (s .args .buf .now) (s .args .at) (omega arith) (s .pre .0)
 
 same-length : tie.Need-same-length
 same-length c = simp length-set

@@ -11,12 +11,16 @@ use Rattle.layout.specs.Place.{splice}
 use borrow.Author.Tests.{lt-ltb, le-ltb}
 use borrow.Rule.Slice.PartMut.{midOf, putMid, mid-len}
 use Rattle.layout.specs.Laws.Splice.{length-splice, take-splice, drop-past-splice, splice-splice, splice-none, set-splice, splice-lent}
-use Rattle.buf_mut.specs.Promise.{firstCopied, CopiesFirst}
+use Rattle.copies.specs.Promise.{firstCopied, CopiesFirst}
 
 -- n bytes of src, of which the first has number k from `from` on, stored one by one from `at` on
 abbrev pub stored : ℕ → ℕ → List ℕ → ℕ → List ℕ → ℕ → List ℕ
 stored zero k src from buf at = buf
 stored (suc n) k src from buf at = stored n (suc k) src from (set buf (at + k) (getD src (from + k) 0)) at
+
+length-stored : (n k : ℕ) (src : List ℕ) (from : ℕ) (buf : List ℕ) (at : ℕ) → length (stored n k src from buf at) ≡ length buf
+length-stored zero k src from buf at = refl
+length-stored (suc n) k src from buf at = length-stored n (suc k) src from (set buf (at + k) (getD src (from + k) 0)) at ∙ length-set buf (at + k) (getD src (from + k) 0)
 
 stored-splice : (n k : ℕ) (src : List ℕ) (from : ℕ) (buf : List ℕ) (at : ℕ) → at + k + n ≤ length buf → from + k + n ≤ length src
     → stored n k src from buf at ≡ splice buf (at + k) (take n (drop (from + k) src))
@@ -34,6 +38,10 @@ pub all-copied : (n : ℕ) (src : List ℕ) (from : ℕ) (buf : List ℕ) (at : 
     → stored n 1 src from (set buf at (getD src from 0)) at ≡ splice buf at (take (suc n) (drop from src))
 all-copied n src from buf at h f =
     rw (add-zero at, add-zero from) at (stored-splice (suc n) 0 src from buf at (omega arith) (omega arith))
+
+-- the place of the next byte, after n + 1 were stored
+pub next-within : (n m : ℕ) (src : List ℕ) (from : ℕ) (buf : List ℕ) (at : ℕ) → n < m → at + suc m ≤ length buf → at + suc n < length (stored n 1 src from (set buf at (getD src from 0)) at)
+next-within n m src from buf at h k = rw (length-stored n 1 src from (set buf at (getD src from 0)) at, length-set) (omega arith)
 
 -- ---- the first n bytes of a source at the start of a buffer
 

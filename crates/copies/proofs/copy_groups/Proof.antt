@@ -3,9 +3,9 @@
 use Prim.Native.Nat.{_-_}
 use native.Mathlib.Omega.{arith}
 use lib.ListN.{length}
-use Rattle.buf_mut.proofs.Copies.{Copying, copying-start, copying-more, copying-last, copied-length}
-use Rattle.buf_mut.proofs.copy_groups.Statement.{statement}
-use Rattle.buf_mut.proofs.copy_groups.Tie as tie
+use Rattle.copies.proofs.Copies.{Copying, copying-start, copying-more, copying-last, copied-length}
+use Rattle.copies.proofs.copy_groups.Statement.{statement}
+use Rattle.copies.proofs.copy_groups.Tie as tie
 
 abbrev Inv-loop : tie.InvT-loop
 Inv-loop buf₀ at src n i₀ buf i = Copying buf₀ at src buf i
