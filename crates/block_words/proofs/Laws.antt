@@ -5,31 +5,25 @@ use mathlib.Core.Bool.{Bool, true, false, not}
 use mathlib.Core.Path.{_≡_, refl, sym, _∙_}
 use mathlib.Core.List.{List, append-nil}
 use lib.Dec.{eqb}
-use lib.ListN.{length, drop-of-length-le, replicate}
+use lib.ListN.{length, drop-of-length-le}
 use native.Mathlib.Omega.{arith}
-use borrow.Author.Tests.{eq-eqb, ne-eqb, eqb-true, not-false, le-ltb}
+use borrow.Author.Tests.{eq-eqb, ne-eqb, eqb-true, not-false}
 use Rattle.layout.specs.Res.{ok, refuse}
 use Rattle.layout.specs.Cursor.{Direction, Cursor}
 use Rattle.layout.specs.Limits.{maxKey}
-use Rattle.layout.specs.Laws.Res.{guard-then, ok-inj}
-use Rattle.layout.specs.Place.{splice, afterPut}
+use Rattle.layout.specs.Laws.Res.{guard-then}
+use Rattle.layout.specs.Place.{splice}
 use Rattle.buf_mut.specs.Promise.{Puts}
 use Rattle.buf_mut.specs.declared.Put.{Put}
 use Rattle.buf_mut.proofs.Laws.{copied}
-use Rattle.basics.specs.Answers.{apart, yes}
 use Rattle.basics.specs.Says.{saysOrder}
-use Rattle.block_v2.specs.Says.{builderFrom as builderOver}
-use Rattle.block_v2.specs.declared.BlockBuilderV2.{BlockBuilderV2}
-use Rattle.state_v2.specs.declared.State.{State}
 use Rattle.block_iterator_v2.specs.Says.{viewOf}
 use Rattle.block_iterator_v2.specs.declared.BlockIteratorV2.{BlockIteratorV2}
 use Rattle.place_v2.specs.declared.Place.{Place}
-use Rattle.row_words.specs.Words.{badWords, truthIn, orderIn, wordAt, cursorFrom, cursorIn, cursorWords, builderCount, cursorCount}
-use Rattle.block_words.specs.Says.{saysCursor, saysState, stateIn}
+use Rattle.row_words.specs.Words.{badWords, truthIn, orderIn, wordAt, cursorFrom, cursorIn, cursorWords, cursorCount}
+use Rattle.block_words.specs.Says.{saysCursor}
 use Rattle.block_words.specs.declared.CursorRead.the-variants.{Is as IsCursor}
-use Rattle.block_words.specs.declared.StateRead.{StateRead}
-use Rattle.block_words.specs.declared.StateRead.the-variants.{Is as IsState, Bad as BadState}
-use Rattle.block_words.specs.Promise.{roomy, PutsIterator, LoadsState, MakesOver}
+use Rattle.block_words.specs.Promise.{roomy, PutsIterator}
 use Rattle.row_words.proofs.Laws.{counted-not, counted-so}
 
 pub cursor-short : (ws : List ℕ) → (length ws ≡ cursorCount → ⊥) → (key : List ℕ) → refuse badWords ≡ cursorIn ws key
@@ -59,17 +53,6 @@ pub cursor-counts : (ws key : List ℕ) (c : Cursor) → cursorIn ws key ≡ ok 
 unfolding cursorIn
 cursor-counts ws key c e = guard-then (not (eqb (length ws) cursorCount)) badWords _ c e λ t q. eqb-true (length ws) cursorCount (not-false (eqb (length ws) cursorCount) t)
 
--- a builder's words, as `state_in` answered of them
-module _ (ws : List ℕ) {r : StateRead} (l : LoadsState ws r) where
-  pub state-none : r ≡ BadState → length ws ≡ builderCount → ⊥
-  state-none e h = apart (sym (counted-so ws builderCount (ok (stateIn ws)) h) ∙ yes saysState l e)
-
-  pub state-counts : {s : State} → r ≡ IsState s → length ws ≡ builderCount
-  state-counts {s} e = guard-then (not (eqb (length ws) builderCount)) badWords (ok (stateIn ws)) s (yes saysState l e) λ t q. eqb-true (length ws) builderCount (not-false (eqb (length ws) builderCount) t)
-
-  pub state-is : {s : State} → r ≡ IsState s → s ≡ stateIn ws
-  state-is {s} e = sym (ok-inj (sym (counted-so ws builderCount (ok (stateIn ws)) (state-counts e)) ∙ yes saysState l e))
-
 -- ---- what is stored
 
 -- a copy over all bytes leaves what was copied
@@ -77,15 +60,6 @@ pub copied-whole : (src : List ℕ) {key ys : List ℕ} {p : Put} → length key
 unfolding splice
 copied-whole src {key} h k q =
     copied (omega (arith, h, k)) q ∙ rw (drop-of-length-le key {i = 0 + length src} (omega (arith, h, k)), append-nil src) refl
-
-abbrev zeros : List ℕ
-zeros = replicate maxKey 0
-
--- a builder over a last key of as many bytes as it must have
-pub over-whole : (last : List ℕ) {s t : State} {r : BlockBuilderV2} → length last ≡ maxKey → s ≡ t → MakesOver s last r → r ≡ builderOver t last
-unfolding afterPut splice
-over-whole last {s} {t} {r} h e m =
-    m ∙ rw (e, le-ltb (length zeros) (0 + length last) (omega (arith, h)), drop-of-length-le zeros {i = 0 + length last} (omega (arith, h)), append-nil last) refl
 
 module _ (c : BlockIteratorV2) (ws key : List ℕ) where
   pub iterator-no-words : (length ws ≡ cursorCount → ⊥) → PutsIterator c ws key false ws key

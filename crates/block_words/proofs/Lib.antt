@@ -1,4 +1,3 @@
 pub mod Laws
-pub mod Adds
 pub mod Steps
 pub mod Starts

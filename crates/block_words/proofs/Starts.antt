@@ -1,79 +1,17 @@
--- What a call starts from, once its words are loaded: all the tests of words and key bytes in one answer, and what that tells of each.
+-- What a step starts from, once its words are loaded: all the tests of words and key bytes in one answer, and what that tells of each.
 -- A call's own answer is bound to the same tests: refused there, it is refused; passed there, each one is passed.
 use Prim.Native.Nat.{ℕ}
-use mathlib.Core.Bool.{Bool, true, false, not}
-use mathlib.Core.Path.{_≡_, refl, ap, sym, _∙_}
+use mathlib.Core.Bool.{not}
+use mathlib.Core.Path.{_≡_, refl, sym, _∙_}
 use mathlib.Core.List.{List}
 use lib.Dec.{eqb}
 use lib.ListN.{length}
-use borrow.Author.Tests.{eqb-true, not-false}
-use Rattle.layout.specs.Res.{Res, ok, refuse, bind, guard}
+use Rattle.layout.specs.Res.{Res, ok, refuse, bind}
 use Rattle.layout.specs.Cursor.{Cursor}
 use Rattle.layout.specs.Limits.{maxKey}
-use Rattle.layout.specs.Laws.Res.{bind-then, guard-then, ok-inj}
-use Rattle.row_flags.specs.Says.{fieldsFrom}
-use Rattle.row_flags.specs.declared.RowFields.{RowFields}
-use Rattle.state_v2.specs.Says.{viewFrom, stateFrom}
-use Rattle.state_v2.specs.declared.State.{State}
-use Rattle.row_words.specs.Words.{badWords, counted, cursorIn, builderFrom, fieldsIn, builderCount, rowCount}
+use Rattle.row_words.specs.Words.{badWords, counted, cursorIn, rowCount}
 use Rattle.row_words.proofs.Laws.{counted-not, counted-so}
-use Rattle.block_words.specs.Says.{stateIn, Gain, gainIs}
-use Rattle.block_words.specs.Promise.{offerIn}
-
-two-bound : {A B : Type 0} (b c : Bool) (x : Res A) (k : A → Res B) → bind (guard b badWords (guard c badWords x)) k ≡ guard b badWords (guard c badWords (bind x k))
-two-bound true c x k = refl
-two-bound false true x k = refl
-two-bound false false x k = refl
-
-bound-on : {A B C : Type 0} (x : Res A) (f : A → B) (k : B → Res C) → (bind (bind x λ a. ok (f a)) k) ≡ (bind x λ a. k (f a))
-bound-on (ok a) f k = refl
-bound-on (refuse n) f k = refl
-
-counted-then : {A : Type 0} (ws : List ℕ) (n : ℕ) (x : Res A) (a : A) → counted ws n x ≡ ok a → (length ws ≡ n) × (x ≡ ok a)
-counted-then ws n x a e = guard-then (not (eqb (length ws) n)) badWords x a e λ t q. (eqb-true (length ws) n (not-false (eqb (length ws) n) t), q)
-
--- ---- a row that is offered
-
-module _ (ws last fs value : List ℕ) where
-  pub offer-bad : {A : Type 0} (k : Gain → Res A) → offerIn ws last fs value ≡ refuse badWords
-      → counted ws builderCount (counted last maxKey (bind (fieldsIn fs value) λ f. k (gainIs (builderFrom ws last) f))) ≡ refuse badWords
-  offer-bad k e =
-      sym (ap (λ x. counted ws builderCount (counted last maxKey x)) (bound-on (fieldsIn fs value) (gainIs (builderFrom ws last)) k))
-      ∙ sym (two-bound (not (eqb (length ws) builderCount)) (not (eqb (length last) maxKey)) (bind (fieldsIn fs value) λ f. ok (gainIs (builderFrom ws last) f)) k)
-      ∙ rw e refl
-
-  pub offer-short : (length ws ≡ builderCount → ⊥) → refuse badWords ≡ offerIn ws last fs value
-  offer-short h = sym (counted-not ws builderCount _ h)
-
-  pub offer-no-key : length ws ≡ builderCount → (length last ≡ maxKey → ⊥) → refuse badWords ≡ offerIn ws last fs value
-  offer-no-key h k = sym (counted-so ws builderCount _ h ∙ counted-not last maxKey _ k)
-
-  pub offer-no-row : length ws ≡ builderCount → length last ≡ maxKey → fieldsIn fs value ≡ refuse badWords → refuse badWords ≡ offerIn ws last fs value
-  offer-no-row h k q = sym (counted-so ws builderCount _ h ∙ counted-so last maxKey _ k ∙ rw q refl)
-
-  pub offer-so : (s : State) (f : RowFields) → s ≡ stateIn ws → length ws ≡ builderCount → length last ≡ maxKey → fieldsIn fs value ≡ ok (fieldsFrom f value)
-      → ok (gainIs (viewFrom s last) (fieldsFrom f value)) ≡ offerIn ws last fs value
-  offer-so s f e h k q = rw e (sym (counted-so ws builderCount _ h ∙ counted-so last maxKey _ k ∙ rw q refl))
-
-  pub record Offers (s : State) (f : RowFields) : Type 0 where
-    pub six : length ws ≡ builderCount
-    pub long : length last ≡ maxKey
-    pub state : s ≡ stateIn ws
-    pub fields : fieldsIn fs value ≡ ok (fieldsFrom f value)
-
-  pub offer-tells : (s : State) (f : RowFields) → offerIn ws last fs value ≡ ok (gainIs (viewFrom s last) (fieldsFrom f value)) → Offers s f
-  offer-tells s f e =
-      let a = counted-then ws builderCount _ _ e in
-      let b = counted-then last maxKey _ _ (a .1) in
-      bind-then (fieldsIn fs value) _ _ (b .1) λ g q z.
-      record {
-        six = a .0;
-        long = b .0;
-        state = sym (ap (λ (o : Gain). stateFrom (o .builder)) (ok-inj z));
-        fields = q ∙ ap (λ (o : Gain). ok (o .fields)) (ok-inj z);
-      }
-
--- ---- a step
+use Rattle.row_words.proofs.Counted.{two-bound, counted-then}
 
 module _ (ws key row : List ℕ) where
   pub step-no-row : (length row ≡ rowCount → ⊥) → refuse badWords ≡ counted row rowCount (counted key maxKey (cursorIn ws key))

@@ -7,20 +7,15 @@ use mathlib.Core.List.{List, []}
 use lib.ListN.{length, take}
 use Rattle.layout.specs.Res.{Res, ok, refuse, bind}
 use Rattle.layout.specs.Cursor.{Cursor, next}
-use Rattle.layout.specs.Key.{Key}
 use Rattle.layout.specs.Limits.{maxKey}
-use Rattle.block_v2.specs.declared.BlockBuilderV2.{BlockBuilderV2}
-use Rattle.state_v2.specs.declared.State.{State}
 use Rattle.place_v2.specs.declared.Place.{Place}
 use Rattle.block_iterator_v2.specs.declared.BlockIteratorV2.{BlockIteratorV2}
 use Rattle.block_words.specs.declared.OrderRead.{OrderRead}
 use Rattle.block_words.specs.declared.CursorRead.{CursorRead}
-use Rattle.block_words.specs.declared.StateRead.{StateRead}
-use Rattle.block_words.specs.declared.OfferRead.{OfferRead}
 use Rattle.row_words.specs.Words.{counted, cursorIn, rowCount}
-use Rattle.block_words.specs.Says.{saysOrdered-one, saysCursor-one, saysState-one, saysOffer-one}
-use Rattle.block_words.specs.Promise.{LoadsOrder, LoadsCursor, PutsCursor, PutsIterator, LoadsState, PutsState, MakesOver, LoadsOffer, LoadsStep}
-use Rattle.block_words.specs.Exports.{AddsFlat, KeyLeft, StepsFlat}
+use Rattle.block_words.specs.Says.{saysOrdered-one, saysCursor-one}
+use Rattle.block_words.specs.Promise.{LoadsOrder, LoadsCursor, PutsCursor, PutsIterator, LoadsStep}
+use Rattle.block_words.specs.Exports.{KeyLeft, StepsFlat}
 use Rattle.row_words.specs.OneOutcome.{stores-settled}
 
 pub order-in-settled : (w : ℕ) (r q : OrderRead) → LoadsOrder w r → LoadsOrder w q → r ≡ q
@@ -38,38 +33,12 @@ pub put-iterator-settled : (c : BlockIteratorV2) (ws key : List ℕ) (r q : Bool
     → (r ≡ q) × (ys ≡ zs) × (ks ≡ ls)
 put-iterator-settled c ws key r q ys zs ks ls m n = (m .answer ∙ sym (n .answer), m .words ∙ sym (n .words), m .bytes ∙ sym (n .bytes))
 
--- ---- a builder
-
-pub state-in-settled : (ws : List ℕ) (r q : StateRead) → LoadsState ws r → LoadsState ws q → r ≡ q
-state-in-settled ws r q m n = saysState-one r q (m ∙ sym n)
-
-pub put-state-settled : (s : State) (ws : List ℕ) (r q : Bool) (ys zs : List ℕ) → PutsState s ws r ys → PutsState s ws q zs → (r ≡ q) × (ys ≡ zs)
-put-state-settled s ws r q ys zs m n = stores-settled m n
-
-pub builder-over-settled : (s : State) (last : List ℕ) (r q : BlockBuilderV2) → MakesOver s last r → MakesOver s last q → r ≡ q
-builder-over-settled s last r q m n = m ∙ sym n
-
 -- ---- what a call starts from
-
-pub offer-in-settled : (ws last fs : List ℕ) (r q : OfferRead) → LoadsOffer ws last fs r → LoadsOffer ws last fs q → r ≡ q
-offer-in-settled ws last fs r q m n = saysOffer-one last [] r q (m [] ∙ sym (n []))
 
 pub step-in-settled : (ws key row : List ℕ) (r q : CursorRead) → LoadsStep ws key row r → LoadsStep ws key row q → r ≡ q
 step-in-settled ws key row r q m n = saysCursor-one key r q (m ∙ sym n)
 
 -- ---- the exports of the crates above
-
--- adding a row, in place and by value
-pub builder-add-settled : (ws last bytes places : List ℕ) (key : Key) (value fs : List ℕ) (c d : ℕ) (vs ws′ ks ls ys zs os ps : List ℕ)
-    → AddsFlat ws last bytes places key value fs c vs ks ys os → AddsFlat ws last bytes places key value fs d ws′ ls zs ps
-    → (c ≡ d) × (vs ≡ ws′) × (ks ≡ ls) × (ys ≡ zs) × (os ≡ ps)
-builder-add-settled ws last bytes places key value fs c d vs ws′ ks ls ys zs os ps a b = (
-  a .answer ∙ sym (b .answer),
-  a .state ∙ sym (b .state),
-  a .last-after ∙ sym (b .last-after),
-  a .bytes-after ∙ sym (b .bytes-after),
-  a .places-after ∙ sym (b .places-after),
-)
 
 -- key bytes that agree: as far as the cursor's key goes, and after a refusal whole
 abbrev pub SameKey : {A : Type 0} → Res A → (A → Cursor) → List ℕ → List ℕ → Type 0

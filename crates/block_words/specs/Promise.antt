@@ -4,24 +4,16 @@ use mathlib.Core.Bool.{Bool, false, cond}
 use mathlib.Core.Path.{_≡_}
 use mathlib.Core.List.{List, []}
 use lib.Dec.{eqb}
-use lib.ListN.{length, replicate}
-use Rattle.layout.specs.Res.{Res, ok, bind}
+use lib.ListN.{length}
 use Rattle.layout.specs.Limits.{maxKey}
-use Rattle.layout.specs.Place.{afterPut}
-use Rattle.block_v2.specs.Says.{builderFrom as builderOver}
-use Rattle.state_v2.specs.Says.{viewFrom}
-use Rattle.block_v2.specs.declared.BlockBuilderV2.{BlockBuilderV2}
-use Rattle.state_v2.specs.declared.State.{State}
 use Rattle.place_v2.specs.Says.{viewIn}
 use Rattle.place_v2.specs.declared.Place.{Place}
 use Rattle.block_iterator_v2.specs.Says.{viewOf}
 use Rattle.block_iterator_v2.specs.declared.BlockIteratorV2.{BlockIteratorV2}
 use Rattle.block_words.specs.declared.OrderRead.{OrderRead}
 use Rattle.block_words.specs.declared.CursorRead.{CursorRead}
-use Rattle.block_words.specs.declared.StateRead.{StateRead}
-use Rattle.block_words.specs.declared.OfferRead.{OfferRead}
-use Rattle.row_words.specs.Words.{counted, orderIn, cursorIn, cursorWords, builderFrom, builderWords, fieldsIn, builderCount, cursorCount, rowCount}
-use Rattle.block_words.specs.Says.{saysOrdered, saysCursor, saysState, stateIn, Gain, gainIs, saysOffer}
+use Rattle.row_words.specs.Words.{counted, orderIn, cursorIn, cursorWords, cursorCount, rowCount}
+use Rattle.block_words.specs.Says.{saysOrdered, saysCursor}
 use Rattle.row_words.specs.Promise.{Stores}
 
 abbrev pub LoadsOrder : ℕ → OrderRead → Type 0
@@ -45,26 +37,7 @@ pub record PutsIterator (c : BlockIteratorV2) (ws key : List ℕ) (r : Bool) (ws
   pub words : ws′ ≡ cond (roomy ws key) (cursorWords (viewOf c)) ws
   pub bytes : key′ ≡ cond (roomy ws key) (c .key) key
 
--- ---- a builder
-
-abbrev pub LoadsState : List ℕ → StateRead → Type 0
-LoadsState ws r = saysState r ≡ counted ws builderCount (ok (stateIn ws))
-
-abbrev pub PutsState : State → List ℕ → Bool → List ℕ → Type 0
-PutsState s ws r ws′ = Stores builderCount (builderWords (viewFrom s [])) ws r ws′
-
--- the lent bytes lie at the start of the last key's, which are zeros; more than these are not copied
-abbrev pub MakesOver : State → List ℕ → BlockBuilderV2 → Type 0
-MakesOver s last r = r ≡ builderOver s (afterPut (replicate maxKey 0) 0 last)
-
 -- ---- what a call starts from
-
-abbrev pub offerIn : List ℕ → List ℕ → List ℕ → List ℕ → Res Gain
-offerIn ws last fs value = counted ws builderCount (counted last maxKey (bind (fieldsIn fs value) λ f. ok (gainIs (builderFrom ws last) f)))
-
--- whatever value is offered
-abbrev pub LoadsOffer : List ℕ → List ℕ → List ℕ → OfferRead → Type 0
-LoadsOffer ws last fs r = (value : List ℕ) → saysOffer last value r ≡ offerIn ws last fs value
 
 abbrev pub LoadsStep : List ℕ → List ℕ → List ℕ → CursorRead → Type 0
 LoadsStep ws key row r = saysCursor key r ≡ counted row rowCount (counted key maxKey (cursorIn ws key))

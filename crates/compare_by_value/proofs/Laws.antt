@@ -29,9 +29,11 @@ use Rattle.block_iterator_v2.specs.Says.{viewOf, saysNext}
 use Rattle.block_iterator_v2.specs.declared.Next.{Next}
 use Rattle.block_iterator_v2.specs.declared.NextAnswer.the-variants.{Found as NextFound, Done as NextDone, Refused as NextRefused}
 use Rattle.row_words.specs.Words.{doneCode, builderFrom, builderWords, cursorIn, cursorWords, fieldsIn, rowWords, builderCount, rowCount}
-use Rattle.block_words.specs.Says.{iteratorOver, stateIn}
-use Rattle.block_words.specs.Exports.{AddsFlat, StepsFlat}
-use Rattle.block_words.proofs.Adds.{added, unadded, addWanted, adds-asked}
+use Rattle.builder_words.specs.Says.{stateIn}
+use Rattle.block_words.specs.Says.{iteratorOver}
+use Rattle.builder_words.specs.Exports.{AddsFlat}
+use Rattle.block_words.specs.Exports.{StepsFlat}
+use Rattle.builder_words.proofs.Adds.{added, unadded, addWanted, adds-asked}
 use Rattle.block_words.proofs.Steps.{stepped, ended, refused, told-refused, steps-asked}
 
 -- ---- adding a row

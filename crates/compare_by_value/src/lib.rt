@@ -3,7 +3,8 @@
 ghost use mathlib.Core.Path.{_≡_};
 ghost use lib.ListN.{length};
 ghost use Rattle.layout.specs.Limits.{maxKey};
-ghost use Rattle.block_words.specs.Exports.{AddsFlat, StepsFlat};
+ghost use Rattle.builder_words.specs.Exports.{AddsFlat};
+ghost use Rattle.block_words.specs.Exports.{StepsFlat};
 ghost use Rattle.block_words.specs.Says.{iteratorOver};
 ghost use Rattle.row_words.specs.Words.{builderCount};
 ghost use Rattle.compare_by_value.specs.Says.{PutsBuilder};
@@ -12,7 +13,7 @@ use block_iterator_v2::BlockIteratorV2;
 use block_iterator_v2::NextAnswer;
 use block_v2::BlockBuilderV2;
 use block_words::CursorRead;
-use block_words::OfferRead;
+use builder_words::OfferRead;
 use place_v2::Place;
 
 // ---- building a block
@@ -22,7 +23,7 @@ fn put_added(builder: &mut [u64], last_key: &mut [u8], b: BlockBuilderV2)
     requires { ⌜ (length (now builder) ≡ builderCount) × (length (now «last_key») ≡ maxKey) ⌝ }
     ensures { λ _. ⌜ PutsBuilder b (now (builder .exit)) (now («last_key» .exit)) ⌝ }
 {
-    block_words::put_state(builder, b.state);
+    builder_words::put_state(builder, b.state);
     buf_mut::copy_in(last_key, 0, &b.last_key);
 }
 
@@ -39,11 +40,11 @@ pub extern "C" fn slatedb_builder_add_by_value(
 ) -> u8
     ensures { λ r. ⌜ AddsFlat (now (builder .entry)) (now («last_key» .entry)) (now («data» .entry)) (now (restarts .entry)) (now (key .entry)) (now (value .entry)) (now (fields .entry)) r (now (builder .exit)) (now («last_key» .exit)) (now («data» .exit)) (now (restarts .exit)) ⌝ }
 {
-    let loaded = block_words::offer_in(builder, last_key, fields);
+    let loaded = builder_words::offer_in(builder, last_key, fields);
     let OfferRead::Is { state: s, row } = loaded else {
         return block_words::BAD_WORDS;
     };
-    let added = block_words::builder_over(s, last_key).add(data, restarts, key, value, row);
+    let added = builder_words::builder_over(s, last_key).add(data, restarts, key, value, row);
     let answer = added.answer;
     match answer {
         Verdict::Good => {

@@ -33,7 +33,7 @@ use Rattle.place_v2.specs.declared.EmptyRead.{EmptyRead}
 use Rattle.place_v2.specs.declared.EmptyRead.the-variants.{Is as IsEmpty, Refused as EmptyRefused}
 use Rattle.place_v2.specs.declared.Place.{Place}
 use Rattle.row_words.specs.Words.{badWords, truthWord, orderIn, cursorIn, cursorWords, builderFrom, builderWords, builderCount, cursorCount}
-use Rattle.block_words.specs.Says.{stateIn}
+use Rattle.builder_words.specs.Says.{stateIn}
 use Rattle.row_words.proofs.Laws.{counted-not, counted-so}
 use Rattle.row_words.specs.Flat.{sets-good, sets-refused}
 use Rattle.slatedb_block.specs.Promise.{Tells, MakesFlat, EmptiesFlat, BuildsFlat, OpensFlat, TellsFlat}

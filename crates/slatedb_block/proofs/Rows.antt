@@ -36,13 +36,13 @@ use Rattle.build_in_place_v2.specs.declared.Grown.{Grown}
 use Rattle.build_in_place_v2.specs.declared.Grown.the-variants.{Row as GrownRow, Refused as GrownRefused}
 use Rattle.state_v2.specs.declared.State.{State}
 use Rattle.row_words.specs.Words.{badWords, codeOf, builderFrom, builderWords, fieldsIn, singleWords, builderCount, singleCount}
-use Rattle.block_words.specs.Says.{stateIn, Gain, gainIs}
-use Rattle.block_words.specs.Promise.{offerIn}
-use Rattle.block_words.proofs.Starts.{Offers, offer-bad, offer-tells}
-use Rattle.block_words.specs.Exports.{AddsFlat}
+use Rattle.builder_words.specs.Says.{stateIn, Gain, gainIs}
+use Rattle.builder_words.specs.Promise.{offerIn}
+use Rattle.builder_words.proofs.Starts.{Offers, offer-bad, offer-tells}
+use Rattle.builder_words.specs.Exports.{AddsFlat}
 use Rattle.row_words.proofs.Laws.{counted-not, counted-so}
 use Rattle.row_words.specs.Flat.{sets-good, sets-refused}
-use Rattle.block_words.proofs.Adds.{added, unadded, addWanted, adds-asked}
+use Rattle.builder_words.proofs.Adds.{added, unadded, addWanted, adds-asked}
 use Rattle.slatedb_block.specs.Says.{PutsGrown}
 use Rattle.slatedb_block.specs.Promise.{Lays, EncodesFlat, DecodesFlat, FitsFlat}
 

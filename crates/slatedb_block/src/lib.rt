@@ -4,18 +4,19 @@
 ghost use mathlib.Core.Path.{_≡_};
 ghost use lib.ListN.{length};
 ghost use Rattle.block_rows_v2.specs.Promise.{RowsFlat};
-ghost use Rattle.block_words.specs.Exports.{AddsFlat, StepsFlat};
+ghost use Rattle.builder_words.specs.Exports.{AddsFlat};
+ghost use Rattle.block_words.specs.Exports.{StepsFlat};
 ghost use Rattle.row_words.specs.Words.{builderCount, cursorCount, rowCount};
 ghost use Rattle.slatedb_block.specs.Says.{PutsGrown, PutsMoved, PutsFound};
 ghost use Rattle.slatedb_block.specs.Promise.{EncodesFlat, DecodesFlat, MakesFlat, FitsFlat, EmptiesFlat, BuildsFlat, ChecksFlat, OpensFlat, TellsFlat, SeeksFlat};
 use basics::Verdict;
 use block_check_v2::Checked;
 use block_words::CursorRead;
-use block_words::OfferRead;
 use block_words::OrderRead;
-use block_words::StateRead;
 use build_in_place_v2::BuildAnswer;
 use build_in_place_v2::Grown;
+use builder_words::OfferRead;
+use builder_words::StateRead;
 use place_v2::EmptyRead;
 use row_decode_v2::RowRead;
 use row_encode_v2::Encoded;
@@ -79,14 +80,14 @@ pub extern "C" fn slatedb_builder_new(
 ) -> u8
     ensures { λ r. ⌜ MakesFlat (now (builder .entry)) «block_size» «restart_interval» r (now (builder .exit)) ⌝ }
 {
-    if builder.len() != block_words::BUILDER_WORDS {
+    if builder.len() != builder_words::BUILDER_WORDS {
         return block_words::BAD_WORDS;
     }
     let new = state_v2::new_state(block_size, restart_interval);
     let answer = new.answer;
     match answer {
         Verdict::Good => {
-            block_words::put_state(builder, new.state);
+            builder_words::put_state(builder, new.state);
             block_words::GOOD
         }
         Verdict::Refused(refusal) => basics::number(refusal),
@@ -106,7 +107,7 @@ pub extern "C" fn slatedb_builder_would_fit(
 ) -> u8
     ensures { λ r. ⌜ FitsFlat (now (builder .entry)) (now («last_key» .entry)) «data_len» «restarts_len» (now (key .entry)) (now (value .entry)) (now (fields .entry)) r ⌝ }
 {
-    let loaded = block_words::offer_in(builder, last_key, fields);
+    let loaded = builder_words::offer_in(builder, last_key, fields);
     let OfferRead::Is { state: s, row } = loaded else {
         return block_words::BAD_WORDS;
     };
@@ -132,7 +133,7 @@ fn put_grown(builder: &mut [u64], grown: Grown) -> u8
 {
     match grown {
         Grown::Row(t) => {
-            block_words::put_state(builder, t);
+            builder_words::put_state(builder, t);
             block_words::GOOD
         }
         Grown::Refused(refusal) => basics::number(refusal),
@@ -152,7 +153,7 @@ pub extern "C" fn slatedb_builder_add(
 ) -> u8
     ensures { λ r. ⌜ AddsFlat (now (builder .entry)) (now («last_key» .entry)) (now («data» .entry)) (now (restarts .entry)) (now (key .entry)) (now (value .entry)) (now (fields .entry)) r (now (builder .exit)) (now («last_key» .exit)) (now («data» .exit)) (now (restarts .exit)) ⌝ }
 {
-    let loaded = block_words::offer_in(builder, last_key, fields);
+    let loaded = builder_words::offer_in(builder, last_key, fields);
     let OfferRead::Is { state: s, row } = loaded else {
         return block_words::BAD_WORDS;
     };
@@ -165,7 +166,7 @@ pub extern "C" fn slatedb_builder_add(
 pub extern "C" fn slatedb_builder_is_empty(builder: &[u64], empty: &mut u64) -> u8
     ensures { λ r. ⌜ EmptiesFlat (now (builder .entry)) (now (empty .entry)) r (now (empty .exit)) ⌝ }
 {
-    let words = block_words::state_in(builder);
+    let words = builder_words::state_in(builder);
     let StateRead::Is(s) = words else {
         return block_words::BAD_WORDS;
     };
@@ -183,7 +184,7 @@ pub extern "C" fn slatedb_builder_build(
 ) -> u8
     ensures { λ r. ⌜ BuildsFlat (now (builder .entry)) (now («data» .entry)) (now (restarts .entry)) (now (count .entry)) r (now («data» .exit)) (now (count .exit)) ⌝ }
 {
-    let words = block_words::state_in(builder);
+    let words = builder_words::state_in(builder);
     let StateRead::Is(s) = words else {
         return block_words::BAD_WORDS;
     };

@@ -1,10 +1,10 @@
 -- Adding by value keeps the promise of adding in place: the method gives back a whole builder, whose words and key bytes are put back.
 -- Each exit is one law of `Adds` or `Laws`.
 use Rattle.basics.specs.Answers.{yes}
-use Rattle.block_words.specs.Says.{saysOffer}
-use Rattle.block_words.proofs.Laws.{over-whole}
-use Rattle.block_words.proofs.Starts.{Offers, offer-tells}
-use Rattle.block_words.proofs.Adds.{adds-bad}
+use Rattle.builder_words.specs.Says.{saysOffer}
+use Rattle.builder_words.proofs.Laws.{over-whole}
+use Rattle.builder_words.proofs.Starts.{Offers, offer-tells}
+use Rattle.builder_words.proofs.Adds.{adds-bad}
 use Rattle.compare_by_value.proofs.Laws.{adds-good, adds-turned-down}
 use borrow.Author.Needs.{needs}
 use Rattle.compare_by_value.proofs.slatedb_builder_add_by_value.Statement.{statement}

@@ -1,9 +1,9 @@
 -- Adding in place keeps its promise: the words that mean nothing first, then what `add_in_place` promised of the state in the words.
 -- Each exit is one law of `Adds` or `Rows`.
 use Rattle.basics.specs.Answers.{yes}
-use Rattle.block_words.specs.Says.{saysOffer}
-use Rattle.block_words.proofs.Starts.{Offers, offer-tells}
-use Rattle.block_words.proofs.Adds.{adds-bad}
+use Rattle.builder_words.specs.Says.{saysOffer}
+use Rattle.builder_words.proofs.Starts.{Offers, offer-tells}
+use Rattle.builder_words.proofs.Adds.{adds-bad}
 use Rattle.slatedb_block.proofs.Rows.{adds-put}
 use borrow.Author.Needs.{needs}
 use Rattle.slatedb_block.proofs.slatedb_builder_add.Statement.{statement}

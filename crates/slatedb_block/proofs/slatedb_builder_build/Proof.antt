@@ -1,6 +1,6 @@
 -- Building keeps its promise: what is built of the numbers in the words, whatever the last key's bytes are, which are not lent.
 -- Each exit is one law of `Laws`.
-use Rattle.block_words.proofs.Laws.{state-none, state-counts, state-is}
+use Rattle.builder_words.proofs.Laws.{state-none, state-counts, state-is}
 use Rattle.slatedb_block.proofs.Laws.{builds-short, builds-block, builds-refused}
 use borrow.Author.Needs.{needs}
 use Rattle.slatedb_block.proofs.slatedb_builder_build.Statement.{statement}

@@ -1,7 +1,7 @@
 -- `slatedb_builder_is_empty` keeps its promise: 254 for words of another number, else 0 and whether there is no row.
 -- The answer doesn't depend on the last key's bytes, which are not lent: `is_empty_state` tells this whatever they are, and its counter is the one in the words.
 use mathlib.Core.List.{[]}
-use Rattle.block_words.proofs.Laws.{state-none, state-counts, state-is}
+use Rattle.builder_words.proofs.Laws.{state-none, state-counts, state-is}
 use Rattle.slatedb_block.proofs.Laws.{empties-short, empties}
 use borrow.Author.Needs.{needs}
 use Rattle.slatedb_block.proofs.slatedb_builder_is_empty.Statement.{statement}

@@ -5,8 +5,8 @@ use Rattle.layout.specs.Res.{ok}
 use Rattle.basics.specs.Answers.{yes}
 use Rattle.row_flags.specs.Says.{fieldsFrom}
 use Rattle.state_v2.specs.Says.{viewFrom}
-use Rattle.block_words.specs.Says.{gainIs, saysOffer}
-use Rattle.block_words.specs.Promise.{offerIn}
+use Rattle.builder_words.specs.Says.{gainIs, saysOffer}
+use Rattle.builder_words.specs.Promise.{offerIn}
 use Rattle.slatedb_block.proofs.Rows.{fits-bad, fits-yes, fits-refused}
 use borrow.Author.Needs.{needs}
 use Rattle.slatedb_block.proofs.slatedb_builder_would_fit.Statement.{statement}

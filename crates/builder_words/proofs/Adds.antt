@@ -15,10 +15,10 @@ use Rattle.layout.specs.Row.{Fields}
 use Rattle.row_flags.specs.Says.{fieldsFrom}
 use Rattle.row_flags.specs.declared.RowFields.{RowFields}
 use Rattle.row_words.specs.Words.{badWords, builderFrom, builderWords, fieldsIn, builderCount}
-use Rattle.block_words.specs.Says.{Gain, gainIs}
-use Rattle.block_words.specs.Promise.{offerIn}
-use Rattle.block_words.specs.Exports.{gain, AddsAs, AddsFlat}
-use Rattle.block_words.proofs.Starts.{offer-bad}
+use Rattle.builder_words.specs.Says.{Gain, gainIs}
+use Rattle.builder_words.specs.Promise.{offerIn}
+use Rattle.builder_words.specs.Exports.{gain, AddsAs, AddsFlat}
+use Rattle.builder_words.proofs.Starts.{offer-bad}
 
 abbrev pub gained : Fields → Builder → Res Gain
 gained f w = ok (gainIs w f)

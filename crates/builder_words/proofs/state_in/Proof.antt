@@ -3,11 +3,11 @@
 use mathlib.Core.Path.{sym}
 use Rattle.layout.specs.Res.{ok}
 use Rattle.row_words.specs.Words.{builderCount}
-use Rattle.block_words.specs.Says.{stateIn}
+use Rattle.builder_words.specs.Says.{stateIn}
 use Rattle.row_words.proofs.Laws.{counted-not, counted-so}
 use borrow.Author.Needs.{needs}
-use Rattle.block_words.proofs.state_in.Statement.{statement}
-use Rattle.block_words.proofs.state_in.Tie as tie
+use Rattle.builder_words.proofs.state_in.Statement.{statement}
+use Rattle.builder_words.proofs.state_in.Tie as tie
 
 returns : tie.Need-returns
 returns c =

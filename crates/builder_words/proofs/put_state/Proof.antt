@@ -6,8 +6,8 @@ use lib.ListN.{length-set}
 use Rattle.row_words.proofs.Laws.{stores-none, stores-all}
 use Rattle.row_words.proofs.Stores.{all-stored}
 use borrow.Author.Needs.{needs}
-use Rattle.block_words.proofs.put_state.Statement.{statement}
-use Rattle.block_words.proofs.put_state.Tie as tie
+use Rattle.builder_words.proofs.put_state.Statement.{statement}
+use Rattle.builder_words.proofs.put_state.Tie as tie
 
 returns : tie.Need-returns
 returns c = stores-none _ (c .if1 .taken)

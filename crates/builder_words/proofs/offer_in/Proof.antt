@@ -4,11 +4,11 @@ use lib.ListN.{length}
 use Rattle.basics.specs.Answers.{yes}
 use Rattle.row_words.specs.Says.{saysFields}
 use Rattle.row_words.specs.Words.{builderCount}
-use Rattle.block_words.proofs.Laws.{state-none, state-counts, state-is}
-use Rattle.block_words.proofs.Starts.{offer-short, offer-no-key, offer-no-row, offer-so}
+use Rattle.builder_words.proofs.Laws.{state-none, state-counts, state-is}
+use Rattle.builder_words.proofs.Starts.{offer-short, offer-no-key, offer-no-row, offer-so}
 use borrow.Author.Needs.{needs}
-use Rattle.block_words.proofs.offer_in.Statement.{statement}
-use Rattle.block_words.proofs.offer_in.Tie as tie
+use Rattle.builder_words.proofs.offer_in.Statement.{statement}
+use Rattle.builder_words.proofs.offer_in.Tie as tie
 
 abbrev entry : tie.After-state-in → tie.Start
 entry k = k .before .before .before .before

@@ -1,0 +1,5 @@
+pub mod Says
+pub mod Promise
+pub mod Exports
+pub mod Again
+pub mod OneOutcome

@@ -1,0 +1,37 @@
+-- What each public function promises: equations to the definitions, that settle each case and number answered and each word and byte lent.
+use Prim.Native.Nat.{ℕ}
+use mathlib.Core.Bool.{Bool}
+use mathlib.Core.Path.{_≡_}
+use mathlib.Core.List.{List, []}
+use lib.ListN.{replicate}
+use Rattle.layout.specs.Res.{Res, ok, bind}
+use Rattle.layout.specs.Limits.{maxKey}
+use Rattle.layout.specs.Place.{afterPut}
+use Rattle.block_v2.specs.Says.{builderFrom as builderOver}
+use Rattle.state_v2.specs.Says.{viewFrom}
+use Rattle.block_v2.specs.declared.BlockBuilderV2.{BlockBuilderV2}
+use Rattle.state_v2.specs.declared.State.{State}
+use Rattle.builder_words.specs.declared.StateRead.{StateRead}
+use Rattle.builder_words.specs.declared.OfferRead.{OfferRead}
+use Rattle.row_words.specs.Words.{counted, builderFrom, builderWords, fieldsIn, builderCount}
+use Rattle.builder_words.specs.Says.{saysState, stateIn, Gain, gainIs, saysOffer}
+use Rattle.row_words.specs.Promise.{Stores}
+
+abbrev pub LoadsState : List ℕ → StateRead → Type 0
+LoadsState ws r = saysState r ≡ counted ws builderCount (ok (stateIn ws))
+
+abbrev pub PutsState : State → List ℕ → Bool → List ℕ → Type 0
+PutsState s ws r ws′ = Stores builderCount (builderWords (viewFrom s [])) ws r ws′
+
+-- the lent bytes lie at the start of the last key's, which are zeros; more than these are not copied
+abbrev pub MakesOver : State → List ℕ → BlockBuilderV2 → Type 0
+MakesOver s last r = r ≡ builderOver s (afterPut (replicate maxKey 0) 0 last)
+
+-- ---- what a call starts from
+
+abbrev pub offerIn : List ℕ → List ℕ → List ℕ → List ℕ → Res Gain
+offerIn ws last fs value = counted ws builderCount (counted last maxKey (bind (fieldsIn fs value) λ f. ok (gainIs (builderFrom ws last) f)))
+
+-- whatever value is offered
+abbrev pub LoadsOffer : List ℕ → List ℕ → List ℕ → OfferRead → Type 0
+LoadsOffer ws last fs r = (value : List ℕ) → saysOffer last value r ≡ offerIn ws last fs value
