@@ -7,7 +7,7 @@ use Rattle.basics.specs.Says.{saysKind, saysHeld}
 use Rattle.basics.specs.declared.Kind.{Kind}
 use Rattle.basics.specs.declared.Refusal.{Refusal}
 use Rattle.basics.specs.declared.Refusal.the-variants.{BadState}
-use Rattle.row_flags.specs.Says.{flagsFrom}
+use Rattle.row_flags_decode.specs.Says.{flagsFrom}
 use Rattle.row_decode_v2.specs.declared.LengthsRead.{LengthsRead}
 use Rattle.row_decode_v2.specs.declared.LengthsRead.the-variants.{Read as ReadLengths, Refused as LengthsRefused}
 use Rattle.row_decode_v2.specs.declared.Head.{Head}

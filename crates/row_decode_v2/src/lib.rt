@@ -7,7 +7,7 @@ ghost use lib.ListN.{length};
 ghost use Rattle.layout.specs.Limits.{maxKey};
 ghost use Rattle.layout.specs.RowRead.{lengthsAt, mayShare, headAt, bodyAt, rowIs};
 ghost use Rattle.basics.specs.Says.{saysHeld};
-ghost use Rattle.row_flags.specs.Says.{timesFrom};
+ghost use Rattle.row_flags_decode.specs.Says.{timesFrom};
 ghost use Rattle.row_decode_v2.specs.Says.{rowFrom};
 ghost use Rattle.row_decode_v2.specs.Promise.{Decodes, DecodesAt, DecodesKey, RowRefusal, KeyRefusal};
 ghost use Rattle.row_decode_v2.specs.Reading.{saysLengths, lengthsFrom, saysHead, heldFrom, bodyFrom, saysBody, refusalOfLengths, refusalOfHead, refusalOfBody};
@@ -16,10 +16,10 @@ use basics::Refusal;
 use basics::Time;
 use basics::ValueDeletable;
 use buf::WordRead;
-use row_flags::FlagsRead;
-use row_flags::RowFlags;
-use row_flags::Times;
-use row_flags::TimesRead;
+use row_flags_decode::FlagsRead;
+use row_flags_decode::RowFlags;
+use row_flags_decode::Times;
+use row_flags_decode::TimesRead;
 use utils::VarintRead;
 
 // Where a row, its key's suffix and its value stand, and its other fields.
@@ -77,9 +77,9 @@ pub fn decode_at(
         return RowRead::Refused(body_refusal(rest));
     };
     let flags = body.flags;
-    let last = row_flags::times_at(s, body.next, flags);
+    let last = row_flags_decode::times_at(s, body.next, flags);
     let TimesRead::Read(times) = last else {
-        return RowRead::Refused(row_flags::times_refusal(last));
+        return RowRead::Refused(row_flags_decode::times_refusal(last));
     };
     if region_end < times.next {
         return RowRead::Refused(Refusal::RowPastRegion);
@@ -263,9 +263,9 @@ fn body_at(s: &[u8], head: Head) -> BodyRead
     else {
         return BodyRead::Refused(buf::word_refusal(word));
     };
-    let decoded = row_flags::decode_flags(s[flags_at]);
+    let decoded = row_flags_decode::decode_flags(s[flags_at]);
     let FlagsRead::Read(flags) = decoded else {
-        return BodyRead::Refused(row_flags::flags_refusal(decoded));
+        return BodyRead::Refused(row_flags_decode::flags_refusal(decoded));
     };
     let kind = flags.kind;
     let held = held_as(kind, value_at, value_len);

@@ -11,7 +11,7 @@ use Rattle.layout.specs.Laws.Place.{fixedAt-ends}
 use Rattle.layout.specs.Laws.RowExits.{body-long, body-short, body-word, body-flags, body-good}
 use Rattle.basics.specs.Answers.{yes, no}
 use Rattle.buf.specs.Says.{saysWord, refusalOfWord}
-use Rattle.row_flags.specs.Says.{flagsFrom, saysFlags, refusalOfFlags}
+use Rattle.row_flags_decode.specs.Says.{flagsFrom, saysFlags, refusalOfFlags}
 use Rattle.row_decode_v2.specs.Reading.{lengthsFrom}
 use borrow.Author.Needs.{needs}
 use Rattle.row_decode_v2.proofs.body_at.Statement.{statement}

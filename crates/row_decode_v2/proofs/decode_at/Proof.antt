@@ -7,7 +7,7 @@ use Rattle.layout.specs.RowRead.{RowRead, headAt, bodyAt}
 use Rattle.layout.specs.Laws.Tells.{headAt-tells}
 use Rattle.layout.specs.Laws.RowExits.{row-head, row-body, row-times, row-past, row-good}
 use Rattle.basics.specs.Answers.{yes, no}
-use Rattle.row_flags.specs.Says.{saysTimes, refusalOfTimes}
+use Rattle.row_flags_decode.specs.Says.{saysTimes, refusalOfTimes}
 use Rattle.row_decode_v2.specs.Reading.{lengthsFrom, saysHead, bodyFrom, saysBody, refusalOfHead, refusalOfBody}
 use borrow.Author.Needs.{needs}
 use Rattle.row_decode_v2.proofs.decode_at.Statement.{statement}

@@ -11,8 +11,8 @@ use Rattle.layout.specs.Laws.RowExits.{time-short, time-read, time-none}
 use Rattle.basics.specs.Answers.{yes, no}
 use Rattle.buf.specs.Says.{saysSigned, refusalOfSigned}
 use borrow.Author.Needs.{needs}
-use Rattle.row_flags.proofs.time_at.Statement.{statement}
-use Rattle.row_flags.proofs.time_at.Tie as tie
+use Rattle.row_flags_decode.proofs.time_at.Statement.{statement}
+use Rattle.row_flags_decode.proofs.time_at.Tie as tie
 
 returns : tie.Need-returns
 returns c =

@@ -1,10 +1,10 @@
 -- `times_refusal` takes the refusal out of an answer.
 -- In the arm that binds it the answer is known to be that refusal, and the definition computes at it.
 use mathlib.Core.Path.{sym, ap}
-use Rattle.row_flags.specs.Says.{refusalOfTimes}
+use Rattle.row_flags_decode.specs.Says.{refusalOfTimes}
 use borrow.Author.Needs.{needs}
-use Rattle.row_flags.proofs.times_refusal.Statement.{statement}
-use Rattle.row_flags.proofs.times_refusal.Tie as tie
+use Rattle.row_flags_decode.proofs.times_refusal.Statement.{statement}
+use Rattle.row_flags_decode.proofs.times_refusal.Tie as tie
 
 returns : tie.Need-returns
 returns c = sym (ap refusalOfTimes (c .before .a .given .1))

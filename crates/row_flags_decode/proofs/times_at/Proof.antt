@@ -6,10 +6,10 @@ use Rattle.layout.specs.RowRead.{timeIs, timeAt}
 use Rattle.layout.specs.Laws.RowExits.{times-one, times-two, times-good}
 use Rattle.basics.specs.Answers.{yes, no}
 use Rattle.basics.specs.Says.{saysTime}
-use Rattle.row_flags.specs.Parts.{saysTimeAt, refusalOfTime}
+use Rattle.row_flags_decode.specs.Parts.{saysTimeAt, refusalOfTime}
 use borrow.Author.Needs.{needs}
-use Rattle.row_flags.proofs.times_at.Statement.{statement}
-use Rattle.row_flags.proofs.times_at.Tie as tie
+use Rattle.row_flags_decode.proofs.times_at.Statement.{statement}
+use Rattle.row_flags_decode.proofs.times_at.Tie as tie
 
 module _ (k : tie.After-known-told) where
   expire-read : let a = k .before .before .before .before .before .args in let g = k .before .one .given .0 in

@@ -7,8 +7,8 @@ use Rattle.basics.specs.Says.{saysKind, saysTime}
 use Rattle.basics.specs.declared.Kind.{Kind}
 use Rattle.basics.specs.declared.Refusal.{Refusal}
 use Rattle.basics.specs.declared.Refusal.the-variants.{BadState}
-use Rattle.row_flags.specs.declared.TimeRead.{TimeRead}
-use Rattle.row_flags.specs.declared.TimeRead.the-variants.{Read as ReadTime, Refused as TimeRefused}
+use Rattle.row_flags_decode.specs.declared.TimeRead.{TimeRead}
+use Rattle.row_flags_decode.specs.declared.TimeRead.the-variants.{Read as ReadTime, Refused as TimeRefused}
 
 abbrev pub flagsGood : Kind → Bool → Bool → Res Flags
 flagsGood k e c = ok (flagsIs (saysKind k) e c)

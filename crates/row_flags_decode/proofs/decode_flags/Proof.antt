@@ -11,8 +11,8 @@ use Rattle.layout.specs.RowRead.{Flags, flagsIs, flagsAt}
 use Rattle.layout.specs.Laws.Row.{flagsAt-law}
 use Rattle.layout.specs.Laws.RowExits.{flagsAt-both, flagsAt-unknown}
 use borrow.Author.Needs.{needs}
-use Rattle.row_flags.proofs.decode_flags.Statement.{statement}
-use Rattle.row_flags.proofs.decode_flags.Tie as tie
+use Rattle.row_flags_decode.proofs.decode_flags.Statement.{statement}
+use Rattle.row_flags_decode.proofs.decode_flags.Tie as tie
 
 good : (k : Kind) (e c : Bool) {x : Res Flags} {f : ℕ} → x ≡ ok (flagsIs k e c) → f ≡ flagsOf k e c → x ≡ flagsAt f
 good k e c p q = p ∙ sym (ap flagsAt q ∙ flagsAt-law k e c)
