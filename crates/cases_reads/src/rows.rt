@@ -2,10 +2,10 @@
 use crate::say;
 use row_decode_v2::KeyRead;
 use row_decode_v2::RowRead;
-use utils::VarintRead;
+use utils_decode::VarintRead;
 
 fn number(s: &[u8]) {
-    match utils::decode_varint(s, 0) {
+    match utils_decode::decode_varint(s, 0) {
         VarintRead::Number { value, next: _ } => {
             say::number(value as u64);
             say::text(b"\n");

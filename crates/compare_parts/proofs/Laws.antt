@@ -16,10 +16,10 @@ use Rattle.buf_mut.specs.Promise.{Puts}
 use Rattle.buf_mut.specs.Says.{saysPut, refusalOfPut}
 use Rattle.buf_mut.specs.declared.Put.{Put}
 use Rattle.buf_mut.specs.declared.Put.the-variants.{At, Refused as PutRefused}
-use Rattle.utils.specs.Promise.{ReadsVarint}
-use Rattle.utils.specs.Says.{saysVarint, refusalOfVarint}
-use Rattle.utils.specs.declared.VarintRead.{VarintRead}
-use Rattle.utils.specs.declared.VarintRead.the-variants.{Number as VarintNumber, Refused as VarintRefused}
+use Rattle.utils_decode.specs.Promise.{ReadsVarint}
+use Rattle.utils_decode.specs.Says.{saysVarint, refusalOfVarint}
+use Rattle.utils_decode.specs.declared.VarintRead.{VarintRead}
+use Rattle.utils_decode.specs.declared.VarintRead.the-variants.{Number as VarintNumber, Refused as VarintRefused}
 use Rattle.row_decode_v2.specs.Promise.{DecodesKey}
 use Rattle.row_decode_v2.specs.Says.{keyFrom, saysKey, refusalOfKey}
 use Rattle.row_decode_v2.specs.declared.KeyPlace.{KeyPlace}

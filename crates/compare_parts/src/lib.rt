@@ -6,7 +6,7 @@ ghost use Rattle.compare_parts.specs.Promise.{WritesVarintFlat, ReadsVar
 use buf_mut::Put;
 use row_decode_v2::KeyRead;
 use row_words::TruthRead;
-use utils::VarintRead;
+use utils_decode::VarintRead;
 
 const VARINT_WORDS: usize = 2;
 
@@ -33,9 +33,9 @@ pub extern "C" fn slatedb_varint_get(input: &[u8], at: usize, words: &mut [u64])
     if words.len() != VARINT_WORDS {
         return block_words::BAD_WORDS;
     }
-    let read = utils::decode_varint(input, at);
+    let read = utils_decode::decode_varint(input, at);
     let VarintRead::Number { value, next } = read else {
-        return basics::number(utils::varint_refusal(read));
+        return basics::number(utils_decode::varint_refusal(read));
     };
     words[0] = value as u64;
     words[1] = next as u64;

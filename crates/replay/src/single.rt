@@ -9,7 +9,7 @@ use row_decode_v2::RowRead;
 use row_encode_v2::Encoded;
 use row_flags::RowFields;
 use row_size_v2::Sized;
-use utils::VarintRead;
+use utils_decode::VarintRead;
 
 // The numbers of the commands that read.
 pub const UNROW: usize = 4;
@@ -100,7 +100,7 @@ fn decoded_key(s: &[u8]) {
 
 // The number, and how many bytes were read.
 fn decoded_varint(s: &[u8]) {
-    match utils::decode_varint(s, 0) {
+    match utils_decode::decode_varint(s, 0) {
         VarintRead::Number { value, next } => {
             show::number(value as u64);
             show::mark(b' ');

@@ -20,7 +20,7 @@ use row_flags_decode::FlagsRead;
 use row_flags_decode::RowFlags;
 use row_flags_decode::Times;
 use row_flags_decode::TimesRead;
-use utils::VarintRead;
+use utils_decode::VarintRead;
 
 // Where a row, its key's suffix and its value stand, and its other fields.
 pub struct Row {
@@ -130,29 +130,29 @@ enum LengthsRead {
 fn lengths_at(s: &[u8], at: usize) -> LengthsRead
     ensures { λ r. ⌜ saysLengths r ≡ lengthsAt (now (s .entry)) at ⌝ }
 {
-    let one = utils::decode_varint(s, at);
+    let one = utils_decode::decode_varint(s, at);
     let VarintRead::Number {
         value: shared,
         next: unshared_at,
     } = one
     else {
-        return LengthsRead::Refused(utils::varint_refusal(one));
+        return LengthsRead::Refused(utils_decode::varint_refusal(one));
     };
-    let two = utils::decode_varint(s, unshared_at);
+    let two = utils_decode::decode_varint(s, unshared_at);
     let VarintRead::Number {
         value: unshared,
         next: value_len_at,
     } = two
     else {
-        return LengthsRead::Refused(utils::varint_refusal(two));
+        return LengthsRead::Refused(utils_decode::varint_refusal(two));
     };
-    let three = utils::decode_varint(s, value_len_at);
+    let three = utils_decode::decode_varint(s, value_len_at);
     let VarintRead::Number {
         value: value_len,
         next: suffix_at,
     } = three
     else {
-        return LengthsRead::Refused(utils::varint_refusal(three));
+        return LengthsRead::Refused(utils_decode::varint_refusal(three));
     };
     LengthsRead::Read {
         shared,

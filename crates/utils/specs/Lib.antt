@@ -1,4 +1,2 @@
-pub mod Says
-pub mod Parts
 pub mod Promise
 pub mod OneOutcome

@@ -5,7 +5,7 @@ use Rattle.layout.specs.Res.{ok}
 use Rattle.layout.specs.Place.{numAt, varintAt}
 use Rattle.layout.specs.Laws.RowExits.{lengths-one, lengths-two, lengths-three, lengths-good}
 use Rattle.basics.specs.Answers.{yes, no}
-use Rattle.utils.specs.Says.{saysVarint, refusalOfVarint}
+use Rattle.utils_decode.specs.Says.{saysVarint, refusalOfVarint}
 use borrow.Author.Needs.{needs}
 use Rattle.row_decode_v2.proofs.lengths_at.Statement.{statement}
 use Rattle.row_decode_v2.proofs.lengths_at.Tie as tie

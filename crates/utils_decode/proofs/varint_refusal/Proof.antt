@@ -2,9 +2,9 @@
 -- In the arm that binds it the answer is known to be that refusal, and the definition computes at it.
 use mathlib.Core.Path.{sym, ap}
 use borrow.Author.Needs.{needs}
-use Rattle.utils.specs.Says.{refusalOfVarint}
-use Rattle.utils.proofs.varint_refusal.Statement.{statement}
-use Rattle.utils.proofs.varint_refusal.Tie as tie
+use Rattle.utils_decode.specs.Says.{refusalOfVarint}
+use Rattle.utils_decode.proofs.varint_refusal.Statement.{statement}
+use Rattle.utils_decode.proofs.varint_refusal.Tie as tie
 
 returns : tie.Need-returns
 returns c = sym (ap refusalOfVarint (c .before .a .given .1))

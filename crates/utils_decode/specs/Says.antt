@@ -7,8 +7,8 @@ use Rattle.basics.specs.Answers.{apart, refused-one}
 use Rattle.basics.specs.Number.{number}
 use Rattle.basics.specs.declared.Refusal.{Refusal}
 use Rattle.basics.specs.declared.Refusal.the-variants.{BadState}
-use Rattle.utils.specs.declared.VarintRead.{VarintRead}
-use Rattle.utils.specs.declared.VarintRead.the-variants.{Number as VarintNumber, Refused as VarintRefused}
+use Rattle.utils_decode.specs.declared.VarintRead.{VarintRead}
+use Rattle.utils_decode.specs.declared.VarintRead.the-variants.{Number as VarintNumber, Refused as VarintRefused}
 
 abbrev pub saysVarint : VarintRead → Res NumAt
 saysVarint (VarintNumber v n) = ok (numAt v n)

@@ -2,8 +2,8 @@
 -- Its one test is the definition's.
 use borrow.Author.Needs.{needs}
 use borrow.Author.Tests.{eq-eqb, ne-eqb}
-use Rattle.utils.proofs.ended.Statement.{statement}
-use Rattle.utils.proofs.ended.Tie as tie
+use Rattle.utils_decode.proofs.ended.Statement.{statement}
+use Rattle.utils_decode.proofs.ended.Tie as tie
 
 returns : tie.Need-returns
 returns c = rw (eq-eqb (c .before .args .b) 0 (c .if1 .taken))

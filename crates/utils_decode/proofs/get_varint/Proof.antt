@@ -11,10 +11,10 @@ use Rattle.layout.specs.Place.{varintAt}
 use Rattle.layout.specs.Laws.Place.{varintAt-is, varintAt-no}
 use Rattle.layout.specs.Laws.Res.{eqb-cases}
 use Rattle.layout.specs.Laws.Varint.{IsLast, Reading, reading-start, reading-low, reading-fits32, reading-fits-last, reading-end, reading-good, reading-zero, reading-more, reading-fifth}
-use Rattle.utils.specs.Parts.{endedBy}
-use Rattle.utils.specs.Says.{saysVarint}
-use Rattle.utils.proofs.get_varint.Statement.{statement}
-use Rattle.utils.proofs.get_varint.Tie as tie
+use Rattle.utils_decode.specs.Parts.{endedBy}
+use Rattle.utils_decode.specs.Says.{saysVarint}
+use Rattle.utils_decode.proofs.get_varint.Statement.{statement}
+use Rattle.utils_decode.proofs.get_varint.Tie as tie
 
 abbrev Inv-loop : tie.InvT-loop
 Inv-loop s at first acc₀ w₀ i₀ acc w i = Reading s at acc w i × (1 ≤ i)

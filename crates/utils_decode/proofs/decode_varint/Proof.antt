@@ -12,8 +12,8 @@ use Rattle.layout.specs.Place.{numAt, varintAt}
 use Rattle.layout.specs.Varint.{num}
 use Rattle.layout.specs.Laws.Place.{varintAt-is, varintAt-none}
 use Rattle.layout.specs.Laws.Varint.{reading-start, reading-good}
-use Rattle.utils.proofs.decode_varint.Statement.{statement}
-use Rattle.utils.proofs.decode_varint.Tie as tie
+use Rattle.utils_decode.proofs.decode_varint.Statement.{statement}
+use Rattle.utils_decode.proofs.decode_varint.Tie as tie
 
 one-byte : (d : List ℕ) (at b : ℕ) → at < length d → b ≡ getD d at 0 → b < 128 → ok (numAt b (at + 1)) ≡ varintAt d at
 one-byte d at b h e l =
