@@ -14,10 +14,11 @@ use Rattle.layout.specs.Laws.Made.{add-tells}
 use Rattle.layout.specs.Laws.Splice.{key-over}
 use Rattle.basics.specs.declared.Refusal.{Refusal}
 use Rattle.basics.specs.declared.Verdict.the-variants.{Good, Refused}
-use Rattle.build_in_place_v2.specs.Promise.{entered, AddsInPlaceAs, Finishes}
+use Rattle.build_in_place_v2.specs.Promise.{entered, AddsInPlaceAs}
+use Rattle.finish_in_place_v2.specs.Promise.{Finishes}
 use Rattle.state_v2.specs.Says.{stateFrom}
 use Rattle.state_v2.specs.declared.State.{State}
-use Rattle.build_in_place_v2.specs.declared.BuildAnswer.{BuildAnswer}
+use Rattle.finish_in_place_v2.specs.declared.BuildAnswer.{BuildAnswer}
 use Rattle.build_in_place_v2.specs.declared.Grown.{Grown}
 use Rattle.build_in_place_v2.specs.declared.Grown.the-variants.{Row as GrownRow, Refused as GrownRefused}
 use Rattle.build_in_place_v2.proofs.Tests.{passed-not, passed}

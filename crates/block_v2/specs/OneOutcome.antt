@@ -12,9 +12,9 @@ use Rattle.row_flags.specs.Says.{fieldsFrom}
 use Rattle.row_flags.specs.declared.RowFields.{RowFields}
 use Rattle.basics.specs.Answers.{saysVerdict-one}
 use Rattle.basics.specs.declared.Verdict.{Verdict}
-use Rattle.build_in_place_v2.specs.Says.{saysBuild-one}
+use Rattle.finish_in_place_v2.specs.Says.{saysBuild-one}
 use Rattle.state_v2.specs.Says.{stateFrom}
-use Rattle.build_in_place_v2.specs.declared.BuildAnswer.{BuildAnswer}
+use Rattle.finish_in_place_v2.specs.declared.BuildAnswer.{BuildAnswer}
 use Rattle.block_v2.specs.declared.BlockBuilderV2.{BlockBuilderV2}
 use Rattle.block_v2.specs.declared.New.{New}
 use Rattle.block_v2.specs.declared.Added.{Added}

@@ -6,8 +6,8 @@ ghost use Rattle.layout.specs.Limits.{defaultInterval};
 ghost use Rattle.build_in_place_v2.specs.Promise.{AddsInPlace};
 ghost use Rattle.block_v2.specs.Promise.{Makes, Fits, Adds, Empties, Builds};
 use basics::Verdict;
-use build_in_place_v2::BuildAnswer;
 use build_in_place_v2::Grown;
+use finish_in_place_v2::BuildAnswer;
 use row_flags::RowFields;
 use state_v2::State;
 
@@ -134,7 +134,7 @@ impl BlockBuilderV2 {
         ensures { λ r. ⌜ Builds self (now («data» .entry)) (now (restarts .entry)) r (now («data» .exit)) ⌝ }
     {
         let s = self.state;
-        let answer = build_in_place_v2::build_in_place(s, data, restarts);
+        let answer = finish_in_place_v2::build_in_place(s, data, restarts);
         Built {
             builder: self,
             answer,

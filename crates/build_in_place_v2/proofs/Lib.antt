@@ -1,4 +1,3 @@
-pub mod Counts
 pub mod Tests
 pub mod Finds
 pub mod Plain

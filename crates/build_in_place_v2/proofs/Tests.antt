@@ -1,67 +1,32 @@
--- The tests of the builder's code, exit by exit, by what was met on the way: of its state, of a row's fit, of its adding.
+-- The tests of the builder's code, exit by exit, by what was met on the way: of a row's fit, of its adding.
 -- A row is known by what was found of it: its share is the definition's, so share and suffix make its key, its size is the count of the bytes that are laid, and the sum that is
 -- compared is the grown size. Adding goes on from there with the tests of 5 and 6 alone.
 use Prim.Native.Nat.{ℕ, _+_, _*_, _≤_, _<_}
 use mathlib.Core.Path.{_≡_, refl, ap, sym, _∙_}
-use mathlib.Core.Bool.{Bool, true, false, cond, _&&_, _||_}
+use mathlib.Core.Bool.{Bool, true, false, _&&_, _||_}
 use mathlib.Core.Logic.{⊎-elim}
 use native.Mathlib.Omega.{arith}
 use lib.Dec.{ltb, leb, eqb}
 use lib.ListN.{length, drop}
 use borrow.Author.Tests.{ltb-true, leb-true, leb-false}
-use Rattle.layout.specs.Res.{Res, ok, refuse, bind, guard}
+use Rattle.layout.specs.Res.{Res, ok, refuse, bind}
 use Rattle.layout.specs.Block.{shareOf}
-use Rattle.layout.specs.Builder.{Builder, restartsOf, stateTests, atRestart, nextRow, grownSize, fits, wouldFit, grown, add}
+use Rattle.layout.specs.Builder.{Builder, stateTests, atRestart, nextRow, grownSize, fits, wouldFit, grown, add}
 use Rattle.layout.specs.Key.{Key}
-use Rattle.layout.specs.Limits.{maxKey, maxBlock, maxInterval, maxOffset, maxRestarts, maxValue}
+use Rattle.layout.specs.Limits.{maxKey, maxOffset, maxValue}
 use Rattle.layout.specs.Row.{Fields, valueOf, ifSo, present, rowBytes, keptLength, lengthTests}
 use Rattle.layout.specs.Laws.Res.{handed, ok-inj, eqb-cases, bool-cases}
 use Rattle.layout.specs.Laws.Block.{shares-is}
-use Rattle.layout.specs.Laws.Builder.{state-good, state-tells, fits-empty, fits-room, fits-not, fit-state, fit-lengths, fit-no, fit-yes, add-no, add-far, add-short, add-places, add-restart, add-plain}
+use Rattle.layout.specs.Laws.Builder.{state-tells, fits-empty, fits-room, fits-not, fit-state, fit-lengths, fit-no, fit-yes, add-no, add-far, add-short, add-places, add-restart, add-plain}
 use Rattle.layout.specs.Laws.Building.{laidRow-bytes, rowBytes-most}
 use Rattle.layout.specs.Laws.Made.{add-tells}
 use Rattle.layout.specs.Laws.Row.{length-kept}
 use Rattle.layout.specs.Laws.RowWrite.{SizeTells, sizeOf, size-refused, size-tells, size-bytes}
 use Rattle.build_in_place_v2.specs.Plan.{Plan, planIs, planOf, fitted, accepted}
 
--- ---- the state
-
-module _ (counter used : ℕ) {n : ℕ} (e : n ≡ cond (eqb counter 0) used 0) where
-  pub stray-none : n ≤ 0 → counter ≡ 0 → used ≡ 0
-  stray-none h z = ⊎-elim (λ t. let q : n ≡ used = rw (t .0) at e in omega arith) (λ t. absurd (t .1 z)) (eqb-cases counter 0)
-
-  pub stray-some : 0 < n → (counter ≡ 0 → used ≡ 0) → ⊥
-  stray-some h k = ⊎-elim (λ t. let q : n ≡ used = rw (t .0) at e in let z = k (t .1) in absurd (omega arith)) (λ t. let q : n ≡ 0 = rw (t .0) at e in absurd (omega arith)) (eqb-cases counter 0)
-
--- a state that no test refuses
 -- no row has more bytes: three lengths of at most five, the key, number and flags, two times, the value
 abbrev pub mostRow : ℕ
 mostRow = 15 + maxKey + 9 + 16 + maxValue
-
-pub state-passed : (b : Builder) (dataLen placesLen : ℕ) → b .blockSize ≤ maxBlock → (b .restartInterval ≡ 0 → ⊥) → b .restartInterval ≤ maxInterval → b .used ≤ dataLen
-    → b .restarts ≤ placesLen → b .restarts ≤ maxRestarts → b .restarts ≡ restartsOf (b .counter) (b .restartInterval) → 12 * b .counter ≤ b .used → (b .counter ≡ 0 → b .used ≡ 0)
-    → b .lastKeyLen ≤ maxKey → stateTests b dataLen placesLen ≡ ok tt
-state-passed b dataLen placesLen block some few in-data in-places allowed counted rows no-rows last-fits =
-    state-good b dataLen placesLen
-    (record {
-      block = block;
-      some = omega arith;
-      few = few;
-      in-data = in-data;
-      in-places = in-places;
-      allowed = allowed;
-      counted = counted;
-      least = rows;
-      no-rows = no-rows;
-      last-fits = last-fits;
-    })
-
--- what the state's judge says, by its answer
-pub state-refused : {x : Res (Unit {0})} (t : Bool) → x ≡ guard t 18 (ok tt) → t ≡ true → x ≡ refuse 18
-state-refused t e q = rw q at e
-
-pub state-taken : {x : Res (Unit {0})} (t : Bool) → x ≡ guard t 18 (ok tt) → t ≡ false → x ≡ ok tt
-state-taken t e q = rw q at e
 
 -- ---- a row that is tested: the fit question
 

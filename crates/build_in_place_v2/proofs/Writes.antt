@@ -1,6 +1,6 @@
 -- What follows the tests: a row that passed them has room, so it is written; and the promises of the public functions, from what their parts did.
 -- What the definition's `add` tells of an accepted row is all that the writers ask: room in the data, a free place, an offset that is not too far, a key that fits. What is refused is
--- refused before the first write, or by the trailer's writer, which leaves the buffer as it was.
+-- refused before the first write.
 use Prim.Native.Nat.{ℕ, _+_, _-_, _*_, _≤_}
 use mathlib.Core.Path.{_≡_, refl, ap, sym, _∙_}
 use mathlib.Core.Bool.{Bool, true, false, cond, _&&_}
@@ -8,12 +8,11 @@ use mathlib.Core.List.{List}
 use native.Mathlib.Omega.{arith}
 use lib.Dec.{ltb, leb}
 use lib.ListN.{length, take, drop, set, length-take, length-drop}
-use lib.Seq.{take-all, length-take-le}
+use lib.Seq.{take-all}
 use borrow.Author.Tests.{eq-eqb, ne-eqb}
 use borrow.Rule.Slice.PartMut.{midOf, putMid, mid-len}
 use Rattle.layout.specs.Res.{Res, ok, refuse, bind}
-use Rattle.layout.specs.Block.{trailer}
-use Rattle.layout.specs.Builder.{Builder, stateTests, atRestart, nextRow, presentSize, wouldFit, grown, add, build}
+use Rattle.layout.specs.Builder.{Builder, atRestart, nextRow, wouldFit, grown, add}
 use Rattle.layout.specs.Key.{Key}
 use Rattle.layout.specs.Limits.{maxKey, maxOffset}
 use Rattle.layout.specs.Place.{splice}
@@ -21,32 +20,29 @@ use Rattle.layout.specs.Row.{Fields, ifSo, rowBytes, valueOf, lengthTests, enco
 use Rattle.layout.specs.RowRead.{mayShare}
 use Rattle.layout.specs.Laws.Res.{ok-inj}
 use Rattle.layout.specs.Laws.Block.{shares-is}
-use Rattle.layout.specs.Laws.Builder.{StateOk, state-tells, build-state, build-none, build-short, build-good}
+use Rattle.layout.specs.Laws.Builder.{StateOk}
 use Rattle.layout.specs.Laws.Building.{laidRow-bytes, fit-tells, add-fit}
 use Rattle.layout.specs.Laws.Made.{Accepted, add-tells}
 use Rattle.layout.specs.Laws.RowExits.{encode-is}
 use Rattle.layout.specs.Laws.Splice.{Wrote, wrote-rest}
-use Rattle.layout.specs.Laws.Trailer.{length-trailer}
 use Rattle.basics.specs.Answers.{apart}
 use Rattle.basics.specs.Number.{number}
 use Rattle.basics.specs.declared.Refusal.{Refusal}
-use Rattle.basics.specs.declared.Refusal.the-variants.{EmptyBlock, BadState}
+use Rattle.basics.specs.declared.Refusal.the-variants.{BadState}
 use Rattle.buf_mut.specs.Promise.{Puts}
 use Rattle.buf_mut.specs.declared.Put.{Put}
-use Rattle.buf_mut.specs.declared.Put.the-variants.{At, Refused as PutRefused}
-use Rattle.buf_mut.proofs.Laws.{puts-at, puts-refused, copied}
+use Rattle.buf_mut.proofs.Laws.{copied}
 use Rattle.row_encode_v2.specs.Promise.{Encodes}
 use Rattle.row_flags.specs.Says.{fieldsFrom}
 use Rattle.row_encode_v2.specs.declared.Encoded.{Encoded}
 use Rattle.row_encode_v2.specs.declared.Encoded.the-variants.{Bytes as EncodedBytes, Refused as EncodedRefused}
 use Rattle.row_flags.specs.declared.RowFields.{RowFields}
 use Rattle.state_v2.specs.declared.State.{State}
-use Rattle.build_in_place_v2.specs.declared.BuildAnswer.the-variants.{Block, Refused as BuildRefused}
 use Rattle.build_in_place_v2.specs.declared.Grown.{Grown}
 use Rattle.build_in_place_v2.specs.declared.Grown.the-variants.{Row as GrownRow, Refused as GrownRefused}
 use Rattle.state_v2.specs.Says.{viewFrom}
 use Rattle.build_in_place_v2.specs.Plan.{Plan, planIs, planOf, fitted, accepted, Tested, Fitting, Grew}
-use Rattle.build_in_place_v2.specs.Promise.{entered, AddsInPlaceAs, Ends}
+use Rattle.build_in_place_v2.specs.Promise.{entered, AddsInPlaceAs}
 use Rattle.build_in_place_v2.proofs.Plain.{over-last}
 use Rattle.build_in_place_v2.proofs.Tests.{passed-not, passed, accepted-tells}
 
@@ -195,36 +191,3 @@ module _ (s : State) (last bytes places : List ℕ) (key : Key) (f : Fields) whe
     grows t g =
         rw (taken ∙ t .passed)
         (record { answer = ap ok (g .state); last-after = g .last-after; bytes-after = g .bytes-after; places-after = g .places-after })
-
--- ---- building
-
-module _ (s : State) (bytes places last : List ℕ) where
-  ends-not : {x : Refusal} → build (viewFrom s last) (length bytes) (length places) ≡ refuse (number x) → Ends (viewFrom s last) bytes places (BuildRefused x) bytes
-  ends-not e = record { answer = sym e; bytes-after = rw e refl }
-
-  pub ends-bad : stateTests (viewFrom s last) (length bytes) (length places) ≡ refuse 18 → Ends (viewFrom s last) bytes places (BuildRefused BadState) bytes
-  ends-bad e = ends-not (build-state (viewFrom s last) (length bytes) (length places) e)
-
-  module _ (state : stateTests (viewFrom s last) (length bytes) (length places) ≡ ok tt) where
-    pub ends-none : s .counter ≡ 0 → Ends (viewFrom s last) bytes places (BuildRefused EmptyBlock) bytes
-    ends-none z = ends-not (build-none (viewFrom s last) (length bytes) (length places) state z)
-
-    -- the trailer is as long as the room that is tested
-    long : s .used + length (trailer (take (s .restarts) places)) ≡ presentSize (viewFrom s last)
-    long =
-        let o = state-tells (viewFrom s last) (length bytes) (length places) tt state in
-        let l : length (take (s .restarts) places) ≡ s .restarts = length-take-le (s .restarts) places (o .in-places) in
-        omega (arith, length-trailer (take (s .restarts) places), l)
-
-    module _ (some : s .counter ≡ 0 → ⊥) {p : Put} {bytes′ : List ℕ} (q : Puts (trailer (take (s .restarts) places)) bytes (s .used) p bytes′) where
-      pub ends-block : {n : ℕ} → p ≡ At n → Ends (viewFrom s last) bytes places (Block n) bytes′
-      ends-block t =
-          let w = puts-at (rw t at q) in
-          let e = build-good (viewFrom s last) (length bytes) (length places) state some (omega (arith, long, w .next, w .room)) in
-          record { answer = ap ok (w .next ∙ long) ∙ sym e; bytes-after = rw e (w .is) }
-
-      pub ends-short : {x : Refusal} → p ≡ PutRefused x → Ends (viewFrom s last) bytes places (BuildRefused x) bytes′
-      ends-short t =
-          let no = puts-refused (rw t at q) in
-          let e = build-short (viewFrom s last) (length bytes) (length places) state some (omega (arith, long, no .2)) in
-          rw (no .0, no .1) (ends-not e)

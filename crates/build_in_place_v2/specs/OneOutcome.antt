@@ -1,16 +1,15 @@
 -- Each promise admits one outcome: two results, with the buffers that they leave, that both keep it are equal.
 use Prim.Native.Nat.{ℕ}
 use mathlib.Core.Path.{_≡_, sym, _∙_}
-use mathlib.Core.List.{List, []}
+use mathlib.Core.List.{List}
 use Rattle.layout.specs.Key.{Key}
 use Rattle.basics.specs.Answers.{saysVerdict-one}
 use Rattle.basics.specs.declared.Verdict.{Verdict}
 use Rattle.row_flags.specs.declared.RowFields.{RowFields}
 use Rattle.state_v2.specs.declared.State.{State}
 use Rattle.build_in_place_v2.specs.declared.Grown.{Grown}
-use Rattle.build_in_place_v2.specs.declared.BuildAnswer.{BuildAnswer}
-use Rattle.build_in_place_v2.specs.Promise.{FitsInPlace, AddsInPlace, Finishes}
-use Rattle.build_in_place_v2.specs.Says.{saysGrown-one, saysBuild-one}
+use Rattle.build_in_place_v2.specs.Promise.{FitsInPlace, AddsInPlace}
+use Rattle.build_in_place_v2.specs.Says.{saysGrown-one}
 
 pub would-fit-in-place-settled : (s : State) (last : List ℕ) (dataLen placesLen : ℕ) (key : Key) (value : List ℕ) (row : RowFields) (r q : Verdict)
     → FitsInPlace s last dataLen placesLen key value row r → FitsInPlace s last dataLen placesLen key value row q → r ≡ q
@@ -24,11 +23,4 @@ add-in-place-settled s last bytes places key value row r q ls ks ys zs os ps a b
   a .last-after ∙ sym (b .last-after),
   a .bytes-after ∙ sym (b .bytes-after),
   a .places-after ∙ sym (b .places-after),
-)
-
-pub build-in-place-settled : (s : State) (bytes places : List ℕ) (r q : BuildAnswer) (ys zs : List ℕ) → Finishes s bytes places r ys → Finishes s bytes places q zs
-    → (r ≡ q) × (ys ≡ zs)
-build-in-place-settled s bytes places r q ys zs a b = (
-  saysBuild-one r q (a [] .answer ∙ sym (b [] .answer)),
-  a [] .bytes-after ∙ sym (b [] .bytes-after),
 )

@@ -4,9 +4,9 @@ use mathlib.Core.Path.{_≡_}
 use mathlib.Core.Bool.{Bool, cond}
 use mathlib.Core.List.{List, [], _∷_, _++_}
 use lib.ListN.{length, drop, set}
-use Rattle.layout.specs.Res.{Res, ok, refuse, bind, guard}
+use Rattle.layout.specs.Res.{Res, ok, refuse, bind}
 use Rattle.layout.specs.Block.{shareOf}
-use Rattle.layout.specs.Builder.{Builder, stateTests, atRestart, nextRow, grownSize, wouldFit, grown, add}
+use Rattle.layout.specs.Builder.{Builder, atRestart, nextRow, grownSize, wouldFit, grown, add}
 use Rattle.layout.specs.Fixed.{big}
 use Rattle.layout.specs.Key.{Key}
 use Rattle.layout.specs.Place.{splice}
@@ -26,10 +26,6 @@ use Rattle.build_in_place_v2.specs.declared.Planned.the-variants.{Row as
 use Rattle.state_v2.specs.Says.{viewFrom, stateFrom}
 
 -- ---- tested
-
--- whether these numbers are refused as a state, whatever the last key's bytes are: 18
-abbrev pub Judges : State → ℕ → ℕ → Bool → Type 0
-Judges s dataLen placesLen r = (last : List ℕ) → stateTests (viewFrom s last) dataLen placesLen ≡ guard r 18 (ok tt)
 
 -- the size of a row, by its share and the lengths of its key and its value
 abbrev pub SizesRow : ℕ → ℕ → ℕ → RowFields → Sized → Type 0

@@ -6,7 +6,7 @@ use mathlib.Core.List.{List}
 use lib.Dec.{eqb}
 use lib.ListN.{length}
 use Rattle.layout.specs.Res.{Res, ok, refuse, bind, guard}
-use Rattle.layout.specs.Builder.{Builder, wouldFit, add, dataAfter, placesAfter, build, blockAfter}
+use Rattle.layout.specs.Builder.{Builder, wouldFit, add, dataAfter, placesAfter}
 use Rattle.layout.specs.Key.{Key}
 use Rattle.layout.specs.Limits.{maxKey}
 use Rattle.layout.specs.Place.{splice}
@@ -17,8 +17,7 @@ use Rattle.row_flags.specs.Says.{fieldsFrom}
 use Rattle.row_flags.specs.declared.RowFields.{RowFields}
 use Rattle.state_v2.specs.declared.State.{State}
 use Rattle.build_in_place_v2.specs.declared.Grown.{Grown}
-use Rattle.build_in_place_v2.specs.declared.BuildAnswer.{BuildAnswer}
-use Rattle.build_in_place_v2.specs.Says.{saysGrown, saysBuild}
+use Rattle.build_in_place_v2.specs.Says.{saysGrown}
 use Rattle.state_v2.specs.Says.{viewFrom, stateFrom}
 
 -- the builder of these numbers and of the lent bytes of its last key, which must be as many as the longest key has: 18
@@ -42,11 +41,3 @@ pub record AddsInPlaceAs (want : Res Builder) (s : State) (last bytes places : L
 abbrev pub AddsInPlace : State → List ℕ → List ℕ → List ℕ → Key → List ℕ → RowFields → Grown → List ℕ → List ℕ → List ℕ → Type 0
 AddsInPlace s last bytes places key value row r last′ bytes′ places′ =
     AddsInPlaceAs (bind (entered s last) λ v. add v (length bytes) (length places) key (fieldsFrom row value)) s last bytes places key (fieldsFrom row value) r last′ bytes′ places′
-
-pub record Ends (b : Builder) (bytes places : List ℕ) (r : BuildAnswer) (bytes′ : List ℕ) : Type 0 where
-  pub answer : saysBuild r ≡ build b (length bytes) (length places)
-  pub bytes-after : bytes′ ≡ blockAfter (build b (length bytes) (length places)) b bytes places
-
--- whatever the last key's bytes are
-abbrev pub Finishes : State → List ℕ → List ℕ → BuildAnswer → List ℕ → Type 0
-Finishes s bytes places r bytes′ = (last : List ℕ) → Ends (viewFrom s last) bytes places r bytes′

@@ -1,5 +1,4 @@
 -- What each case of an answer says: the values, or the number of the refusal. No two cases say the same.
-use Prim.Native.Nat.{ℕ}
 use mathlib.Core.Path.{_≡_, ap, sym}
 use Rattle.layout.specs.Res.{Res, ok, refuse}
 use Rattle.layout.specs.Laws.Res.{ok-inj}
@@ -8,18 +7,12 @@ use Rattle.basics.specs.Number.{number}
 use Rattle.state_v2.specs.declared.State.{State}
 use Rattle.build_in_place_v2.specs.declared.Grown.{Grown}
 use Rattle.build_in_place_v2.specs.declared.Grown.the-variants.{Row as GrownRow, Refused as GrownRefused}
-use Rattle.build_in_place_v2.specs.declared.BuildAnswer.{BuildAnswer}
-use Rattle.build_in_place_v2.specs.declared.BuildAnswer.the-variants.{Block, Refused as BuildRefused}
 
 -- ---- answers
 
 abbrev pub saysGrown : Grown → Res State
 saysGrown (GrownRow s) = ok s
 saysGrown (GrownRefused r) = refuse (number r)
-
-abbrev pub saysBuild : BuildAnswer → Res ℕ
-saysBuild (Block n) = ok n
-saysBuild (BuildRefused r) = refuse (number r)
 
 -- ---- one to one
 
@@ -28,9 +21,3 @@ saysGrown-one (GrownRow s) (GrownRow t) e = ap GrownRow (ok-inj e)
 saysGrown-one (GrownRow s) (GrownRefused r) e = absurd (apart e)
 saysGrown-one (GrownRefused r) (GrownRow s) e = absurd (apart (sym e))
 saysGrown-one (GrownRefused r) (GrownRefused q) e = ap GrownRefused (refused-one e)
-
-pub saysBuild-one : (a b : BuildAnswer) → saysBuild a ≡ saysBuild b → a ≡ b
-saysBuild-one (Block n) (Block m) e = ap Block (ok-inj e)
-saysBuild-one (Block n) (BuildRefused r) e = absurd (apart e)
-saysBuild-one (BuildRefused r) (Block n) e = absurd (apart (sym e))
-saysBuild-one (BuildRefused r) (BuildRefused q) e = ap BuildRefused (refused-one e)

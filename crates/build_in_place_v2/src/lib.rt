@@ -1,10 +1,10 @@
-// A V2 block's builder as its numbers, beside the lent bytes of its last key: whether a row would fit, a row added, the block built.
+// A V2 block's builder as its numbers, beside the lent bytes of its last key: whether a row would fit, and a row added.
 // The rows' bytes and the restarts' offsets are in buffers that are lent too.
 // Follows slatedb 0.16.0, src/format/block_v2.rs (Apache License 2.0), and is changed: the numbers come in and go out by value, rows go into the free rest of the lent
 // data buffer, the last key's bytes are worked on where they lie, and what the row, the room or the numbers themselves can break is a refusal. A refused call
 // changes nothing.
 ghost use mathlib.Core.Path.{_≡_};
-ghost use mathlib.Core.Bool.{true, false, cond, not, _&&_, _||_};
+ghost use mathlib.Core.Bool.{false, cond, _&&_, _||_};
 ghost use Prim.Native.Nat.{_≤_, _<_, _+_, _*_, _^_};
 ghost use lib.Dec.{ltb, leb, eqb};
 ghost use lib.ListN.{length, take, drop, set};
@@ -17,11 +17,10 @@ ghost use Rattle.layout.specs.Varint.{varint};
 ghost use Rattle.layout.specs.Laws.Splice.{Wrote};
 ghost use Rattle.row_flags.specs.Says.{fieldsFrom};
 ghost use Rattle.state_v2.specs.Says.{viewFrom};
-ghost use Rattle.build_in_place_v2.specs.Plan.{Judges, SizesRow, fitted, accepted, Plans, plannedRefusal, foundIs, Finds, Tested, Fitting, plainBytes, PlainFits, Grew};
-ghost use Rattle.build_in_place_v2.specs.Promise.{FitsInPlace, AddsInPlace, Finishes};
+ghost use Rattle.build_in_place_v2.specs.Plan.{SizesRow, fitted, accepted, Plans, plannedRefusal, foundIs, Finds, Tested, Fitting, plainBytes, PlainFits, Grew};
+ghost use Rattle.build_in_place_v2.specs.Promise.{FitsInPlace, AddsInPlace};
 use basics::Refusal;
 use basics::Verdict;
-use buf_mut::Put;
 use row_encode_v2::Encoded;
 use row_flags::RowFields;
 use row_size_v2::Sized;
@@ -39,12 +38,6 @@ fn compute_prefix(last: &[u8], last_len: usize, key: &[u8]) -> usize
 
 pub enum Grown {
     Row(State),
-    Refused(Refusal),
-}
-
-// The block's length: it stands at the start of the data buffer.
-pub enum BuildAnswer {
-    Block(usize),
     Refused(Refusal),
 }
 
@@ -66,62 +59,6 @@ struct Found {
 }
 
 // ---- the state
-
-// Whether the restarts are not as many as rows divided by interval, rounded up: by a product, which takes less time than a division.
-fn is_miscounted(restarts: usize, rows: usize, interval: usize) -> bool
-    requires { ⌜ (1 ≤ interval) × (interval ≤ maxInterval) × (restarts ≤ maxRestarts) ⌝ }
-    ensures { λ r. ⌜ r ≡ not (eqb restarts (restartsOf rows interval)) ⌝ }
-{
-    let full = restarts * interval;
-    if full < rows {
-        return true;
-    }
-    interval <= full - rows
-}
-
-// Bytes that belong to no row: all of them where there is none.
-fn stray_bytes(counter: usize, used: usize) -> usize
-    ensures { λ r. ⌜ r ≡ cond (eqb counter 0) used 0 ⌝ }
-{
-    if counter == 0 { used } else { 0 }
-}
-
-// Whether the state can't belong to buffers of these lengths. Its numbers may be any: none goes into a sum or a product before a test bounds it.
-fn is_bad_state(s: State, data_len: usize, places_len: usize) -> bool
-    ensures { λ r. ⌜ Judges s «data_len» «places_len» r ⌝ }
-{
-    if basics::MAX_BLOCK < s.block_size {
-        return true;
-    }
-    if s.restart_interval == 0 {
-        return true;
-    }
-    if basics::MAX_INTERVAL < s.restart_interval {
-        return true;
-    }
-    if data_len < s.used {
-        return true;
-    }
-    if places_len < s.restarts {
-        return true;
-    }
-    if basics::MAX_RESTARTS < s.restarts {
-        return true;
-    }
-    if is_miscounted(s.restarts, s.counter, s.restart_interval) {
-        return true;
-    }
-    if s.used < basics::LEAST_ROW * s.counter {
-        return true;
-    }
-    if 0 < stray_bytes(s.counter, s.used) {
-        return true;
-    }
-    if basics::MAX_KEY < s.last_key_len {
-        return true;
-    }
-    false
-}
 
 fn current_size(used: usize, restarts: usize) -> usize
     requires { ⌜ (used ≤ maxBlock) × (restarts ≤ maxRestarts) ⌝ }
@@ -193,7 +130,7 @@ fn plan_row(
     requires { ⌜ length (now «last_key») ≡ maxKey ⌝ }
     ensures { λ r. ⌜ Plans (fitted (viewFrom s (now («last_key» .entry))) «data_len» «places_len» (now (key .entry))) row «value_len» r ⌝ }
 {
-    if is_bad_state(s, data_len, places_len) {
+    if finish_in_place_v2::is_bad_state(s, data_len, places_len) {
         return Planned::Refused(Refusal::BadState);
     }
     let restart = is_restart_point(s.restarts, s.counter, s.restart_interval);
@@ -316,7 +253,7 @@ fn find_row(
     requires { ⌜ length (now «last_key») ≡ maxKey ⌝ }
     ensures { λ r. ⌜ Finds (accepted (viewFrom s (now («last_key» .entry))) «data_len» «places_len» (now (key .entry))) row «value_len» r ⌝ }
 {
-    if is_bad_state(s, data_len, places_len) {
+    if finish_in_place_v2::is_bad_state(s, data_len, places_len) {
         return found_row(0, 0, false);
     }
     let mark = is_restart_point(s.restarts, s.counter, s.restart_interval);
@@ -494,23 +431,4 @@ pub fn add_in_place(
         value,
         row,
     ))
-}
-
-// ---- a block, built
-
-// Puts the trailer after the rows, and answers the block's length: 18, 7, 6. The trailer tests its own room, which is that of 6.
-pub fn build_in_place(s: State, data: &mut [u8], restarts: &[u16]) -> BuildAnswer
-    ensures { λ r. ⌜ Finishes s (now («data» .entry)) (now (restarts .entry)) r (now («data» .exit)) ⌝ }
-{
-    if is_bad_state(s, data.len(), restarts.len()) {
-        return BuildAnswer::Refused(Refusal::BadState);
-    }
-    if s.counter == 0 {
-        return BuildAnswer::Refused(Refusal::EmptyBlock);
-    }
-    let put = trailer_encode::put_trailer(data, s.used, restarts, s.restarts);
-    match put {
-        Put::At(n) => BuildAnswer::Block(n),
-        Put::Refused(refusal) => BuildAnswer::Refused(refusal),
-    }
 }

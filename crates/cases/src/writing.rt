@@ -6,7 +6,7 @@ use basics::Time;
 use basics::Verdict;
 use block_v2::BlockBuilderV2;
 use buf_mut::Put;
-use build_in_place_v2::BuildAnswer;
+use finish_in_place_v2::BuildAnswer;
 use row_encode_v2::Encoded;
 use row_flags::RowFields;
 

@@ -3,7 +3,7 @@ use crate::rows;
 use crate::say;
 use basics::Verdict;
 use block_v2::BlockBuilderV2;
-use build_in_place_v2::BuildAnswer;
+use finish_in_place_v2::BuildAnswer;
 
 fn verdict(answer: Verdict) {
     match answer {

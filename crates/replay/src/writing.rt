@@ -1,7 +1,7 @@
 // The commands on a builder.
 use basics::Verdict;
 use block_v2::BlockBuilderV2;
-use build_in_place_v2::BuildAnswer;
+use finish_in_place_v2::BuildAnswer;
 use replay_text::offered;
 use replay_text::parse;
 use replay_text::show;

@@ -18,13 +18,13 @@ use Rattle.basics.specs.declared.Refusal.{Refusal}
 use Rattle.basics.specs.declared.Verdict.the-variants.{Good, Refused}
 use Rattle.basics.specs.Says.{saysOrder}
 use Rattle.basics.specs.declared.IterationOrder.{IterationOrder}
-use Rattle.build_in_place_v2.specs.Promise.{Finishes}
+use Rattle.finish_in_place_v2.specs.Promise.{Finishes}
 use Rattle.state_v2.specs.Promise.{MakesState}
-use Rattle.build_in_place_v2.specs.Says.{saysBuild}
+use Rattle.finish_in_place_v2.specs.Says.{saysBuild}
 use Rattle.state_v2.specs.Says.{viewFrom}
 use Rattle.state_v2.specs.declared.NewState.{NewState}
-use Rattle.build_in_place_v2.specs.declared.BuildAnswer.{BuildAnswer}
-use Rattle.build_in_place_v2.specs.declared.BuildAnswer.the-variants.{Block, Refused as BuildRefused}
+use Rattle.finish_in_place_v2.specs.declared.BuildAnswer.{BuildAnswer}
+use Rattle.finish_in_place_v2.specs.declared.BuildAnswer.the-variants.{Block, Refused as BuildRefused}
 use Rattle.place_v2.proofs.Opens.{opened-so, opened-not}
 use Rattle.place_v2.specs.Promise.{OpensPlace, TellsPlaceEmpty}
 use Rattle.place_v2.specs.Says.{viewIn, saysEmpty}

@@ -13,10 +13,10 @@ use basics::Verdict;
 use block_check_v2::Checked;
 use block_words::CursorRead;
 use block_words::OrderRead;
-use build_in_place_v2::BuildAnswer;
 use build_in_place_v2::Grown;
 use builder_words::OfferRead;
 use builder_words::StateRead;
+use finish_in_place_v2::BuildAnswer;
 use place_v2::EmptyRead;
 use row_decode_v2::RowRead;
 use row_encode_v2::Encoded;
@@ -188,7 +188,7 @@ pub extern "C" fn slatedb_builder_build(
     let StateRead::Is(s) = words else {
         return block_words::BAD_WORDS;
     };
-    let built = build_in_place_v2::build_in_place(s, data, restarts);
+    let built = finish_in_place_v2::build_in_place(s, data, restarts);
     match built {
         BuildAnswer::Block(len) => {
             *count = len as u64;

@@ -12,7 +12,8 @@ use Rattle.row_flags.specs.Says.{fieldsFrom}
 use Rattle.row_size_v2.specs.Says.{saysSized}
 use Rattle.state_v2.specs.Says.{viewFrom}
 use Rattle.build_in_place_v2.proofs.Finds.{found-none, found-some}
-use Rattle.build_in_place_v2.proofs.Tests.{state-refused, state-taken, Measured, share-fits, plan-state, plan-unsized, plan-past, plan-fits, plan-over, size-small, accept-no, accept-far, accept-short, accept-places, accept-good, mostRow}
+use Rattle.finish_in_place_v2.proofs.Ends.{state-refused, state-taken}
+use Rattle.build_in_place_v2.proofs.Tests.{Measured, share-fits, plan-state, plan-unsized, plan-past, plan-fits, plan-over, size-small, accept-no, accept-far, accept-short, accept-places, accept-good, mostRow}
 use Rattle.build_in_place_v2.proofs.find_row.Statement.{statement}
 use Rattle.build_in_place_v2.proofs.find_row.Tie as tie
 

@@ -1,6 +1,6 @@
 -- `is_restart_point` answers whether the row's number is a multiple of the interval: where the restarts are counted right, it is where their intervals are full.
 use native.Mathlib.Omega.{arith}
-use Rattle.build_in_place_v2.proofs.Counts.{product-small, at-restart}
+use Rattle.finish_in_place_v2.proofs.Counts.{product-small, at-restart}
 use Rattle.build_in_place_v2.proofs.is_restart_point.Statement.{statement}
 use Rattle.build_in_place_v2.proofs.is_restart_point.Tie as tie
 

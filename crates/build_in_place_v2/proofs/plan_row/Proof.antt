@@ -13,7 +13,8 @@ use Rattle.basics.specs.Answers.{no}
 use Rattle.row_flags.specs.Says.{fieldsFrom}
 use Rattle.row_size_v2.specs.Says.{saysSized, sizedRefusal}
 use Rattle.state_v2.specs.Says.{viewFrom}
-use Rattle.build_in_place_v2.proofs.Tests.{state-refused, state-taken, Measured, share-fits, plan-state, plan-unsized, plan-past, plan-fits, plan-over, size-small, mostRow}
+use Rattle.finish_in_place_v2.proofs.Ends.{state-refused, state-taken}
+use Rattle.build_in_place_v2.proofs.Tests.{Measured, share-fits, plan-state, plan-unsized, plan-past, plan-fits, plan-over, size-small, mostRow}
 use Rattle.build_in_place_v2.proofs.plan_row.Statement.{statement}
 use Rattle.build_in_place_v2.proofs.plan_row.Tie as tie
 

@@ -1,8 +1,8 @@
 -- `is_miscounted` keeps its promise: restarts are counted right where their intervals hold all rows and the last holds some; each exit is one law of `Counts`.
 use native.Mathlib.Omega.{arith}
-use Rattle.build_in_place_v2.proofs.Counts.{product-small, miscounts, counts}
-use Rattle.build_in_place_v2.proofs.is_miscounted.Statement.{statement}
-use Rattle.build_in_place_v2.proofs.is_miscounted.Tie as tie
+use Rattle.finish_in_place_v2.proofs.Counts.{product-small, miscounts, counts}
+use Rattle.finish_in_place_v2.proofs.is_miscounted.Statement.{statement}
+use Rattle.finish_in_place_v2.proofs.is_miscounted.Tie as tie
 
 mul-full : tie.Need-mul-full
 mul-full c = omega (arith, product-small (c .pre .2) (c .pre .1))

@@ -4,10 +4,10 @@ use native.Mathlib.Omega.{arith}
 use borrow.Author.Needs.{needs}
 use Rattle.layout.specs.Builder.{restartsOf}
 use Rattle.layout.specs.Laws.Builder.{state-bad}
-use Rattle.build_in_place_v2.proofs.Counts.{product-small, rows-held, miscounted-not, counted-is}
-use Rattle.build_in_place_v2.proofs.Tests.{stray-none, stray-some, state-passed}
-use Rattle.build_in_place_v2.proofs.is_bad_state.Statement.{statement}
-use Rattle.build_in_place_v2.proofs.is_bad_state.Tie as tie
+use Rattle.finish_in_place_v2.proofs.Counts.{product-small, rows-held, miscounted-not, counted-is}
+use Rattle.finish_in_place_v2.proofs.Ends.{stray-none, stray-some, state-passed}
+use Rattle.finish_in_place_v2.proofs.is_bad_state.Statement.{statement}
+use Rattle.finish_in_place_v2.proofs.is_bad_state.Tie as tie
 
 returns : tie.Need-returns
 returns c = λ last. state-bad _ _ _ (λ o. absurd (omega (arith, o .block)))

@@ -1,10 +1,10 @@
 -- `build_in_place` keeps its promise, whatever the last key's bytes are: 18, 7, 6, or the block's length with the trailer after the rows.
 -- The state is judged for any such bytes. `put_trailer` refuses where there is too little room, and that is the room of 6: what is used and the trailer make the present size.
 use borrow.Author.Needs.{needs}
-use Rattle.build_in_place_v2.proofs.Tests.{state-refused, state-taken}
-use Rattle.build_in_place_v2.proofs.Writes.{ends-bad, ends-none, ends-block, ends-short}
-use Rattle.build_in_place_v2.proofs.build_in_place.Statement.{statement}
-use Rattle.build_in_place_v2.proofs.build_in_place.Tie as tie
+use Rattle.finish_in_place_v2.proofs.Ends.{state-refused, state-taken}
+use Rattle.finish_in_place_v2.proofs.Ends.{ends-bad, ends-none, ends-block, ends-short}
+use Rattle.finish_in_place_v2.proofs.build_in_place.Statement.{statement}
+use Rattle.finish_in_place_v2.proofs.build_in_place.Tie as tie
 
 returns : tie.Need-returns
 returns c = λ last. ends-bad _ _ _ last (state-refused _ (c .before .is-bad-state .ensures last) (c .if1 .taken))
