@@ -3,7 +3,6 @@ use Prim.Native.Nat.{ℕ}
 use mathlib.Core.Bool.{Bool}
 use mathlib.Core.Path.{_≡_, sym, _∙_}
 use mathlib.Core.List.{List, []}
-use lib.ListN.{length}
 use Rattle.layout.specs.Key.{Key}
 use Rattle.block_v2.specs.declared.BlockBuilderV2.{BlockBuilderV2}
 use Rattle.state_v2.specs.declared.State.{State}

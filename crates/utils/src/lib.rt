@@ -2,8 +2,6 @@
 // Follows slatedb 0.16.0, src/utils.rs (Apache License 2.0), and is changed: a buffer is a lent slice with a place in it, the writer answers the place after
 // what it wrote, and too little room is a refusal.
 ghost use mathlib.Core.List.{[], _∷_};
-ghost use Prim.Native.Nat.{_<_, _+_};
-ghost use lib.ListN.{length};
 ghost use Rattle.layout.specs.Varint.{varint};
 ghost use Rattle.buf_mut.specs.Promise.{Puts};
 ghost use Rattle.utils.specs.Promise.{VarintLength};
