@@ -2,6 +2,7 @@
 use crate::rows;
 use crate::say;
 use basics::IterationOrder;
+use basics::Verdict;
 use block_check_v2::Checked;
 use block_iterator_v2::BlockIteratorV2;
 use block_iterator_v2::NextAnswer;
@@ -45,9 +46,19 @@ fn seek(cursor: BlockIteratorV2, block: &[u8], target: &[u8]) {
 }
 
 fn along(block: &[u8], order: IterationOrder, key: &[u8]) {
-    let cursor = BlockIteratorV2::new(block, order).iterator;
-    say::text(b"stepped: ");
-    step(cursor, block);
+    let opened = BlockIteratorV2::new(block, order);
+    let cursor = opened.iterator;
+    let answer = opened.answer;
+    match answer {
+        Verdict::Good => {
+            say::text(b"stepped: ");
+            step(cursor, block);
+        }
+        Verdict::Refused(r) => {
+            say::text(b"opened: ");
+            say::refusal(r);
+        }
+    }
     say::text(b"sought: ");
     seek(cursor, block, key);
 }
