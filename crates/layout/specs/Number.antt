@@ -5,7 +5,7 @@ use lib.Dec.{ltb, eqb}
 use Rattle.layout.specs.Bytes.{Bytes}
 use Rattle.layout.specs.Res.{Res, ok, refuse}
 use Rattle.layout.specs.Limits.{leastRow}
-use Rattle.layout.specs.RowRead.{RowRead, keyLength}
+use Rattle.layout.specs.RowRead.{keyLength}
 use Rattle.layout.specs.Trailer.{Trailer, dataOf, Region, regionOf, rowIn}
 
 -- what is counted by an answer: by a refusal nothing

@@ -15,7 +15,7 @@ use Rattle.layout.specs.Key.{Key}
 use Rattle.layout.specs.RowRead.{RowRead, keyOf}
 use Rattle.layout.specs.Trailer.{Trailer, dataOf, offsetAt, Region, regionOf}
 use Rattle.layout.specs.Number.{endedBy, numberAt}
-use Rattle.layout.specs.Cursor.{Direction, ascending, Cursor, cursorIs, marked, found, done, Step, stepIs, stepUp, Keyed, backPast, stepBackIn, stepDown, next}
+use Rattle.layout.specs.Cursor.{Direction, ascending, cursorIs, marked, found, done, Step, stepIs, stepUp, Keyed, backPast, stepBackIn, stepDown, next}
 use Rattle.layout.specs.Laws.Carry.{Carries, read-carried, keyOf-length, suffixOf, key-new, carries-on}
 use Rattle.layout.specs.Laws.Number.{number-in}
 use Rattle.layout.specs.Laws.Trailer.{trailerOf-tells, regionOf-tells}

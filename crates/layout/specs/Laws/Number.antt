@@ -1,7 +1,7 @@
 -- Rows counted as they are read: who has read n rows of a region, and stands at `at` after a key of `len` bytes, knows that n rows end at or before it, that each
 -- took 12 bytes or more, and what every later position's number is. One record for all reads of a region.
-use Prim.Native.Nat.{ℕ, zero, suc, _+_, _-_, _*_, _<_, _≤_}
-use mathlib.Core.Path.{_≡_, refl, ap, sym, _∙_}
+use Prim.Native.Nat.{ℕ, zero, suc, _+_, _-_, _*_, _≤_}
+use mathlib.Core.Path.{_≡_, refl, sym, _∙_}
 use mathlib.Core.Bool.{Bool, true, false, _&&_, _||_}
 use mathlib.Core.List.{List}
 use mathlib.Core.Logic.{⊎-elim}
