@@ -1,5 +1,5 @@
 -- The tests of what is handed in, by what was met: one law for each exit of the code; and a promise from it. For callers: what a promise tells, and that a
--- region that was read from the block passes the tests, so the definitions of `layout` are left (`step-back-used`, `walk-used`, `last-used`, `rows-used`).
+-- region that was read from the block passes the tests, so the definitions of `layout` are left (`step-back-used`, `walk-used`).
 use Prim.Native.Nat.{ℕ, zero, suc, _+_, _-_, _≤_, _<_, min}
 use mathlib.Core.Path.{_≡_, refl, ap, ap₂, sym, _∙_}
 use mathlib.Core.Bool.{Bool, true, false, cond, not}
@@ -20,12 +20,11 @@ use Rattle.layout.specs.RowRead.{RowRead, keyLength, keyOf}
 use Rattle.layout.specs.Trailer.{Trailer, trailerOf, dataOf, Region, regionOf, rowIn}
 use Rattle.layout.specs.Number.{endedBy, numberAt}
 use Rattle.layout.specs.Cursor.{Cursor, Keyed, keyed, rowEndingAt, found, Step, stepIs, backPast, stepBackIn}
-use Rattle.layout.specs.Seek.{Stop, stopIs, walkRegion, lastAtOrBelow}
+use Rattle.layout.specs.Seek.{Stop, stopIs, walkRegion}
 use Rattle.layout.specs.Laws.Res.{bind-then, ok-inj, cond-ok, ltb-cases, eqb-cases, clash}
 use Rattle.layout.specs.Laws.Carry.{keyOf-length}
 use Rattle.layout.specs.Laws.Cursor.{ended, back-no, back-wrong, back-short, back-found}
-use Rattle.layout.specs.Laws.Match.{matchAfter, aboveAfter}
-use Rattle.layout.specs.Laws.MatchWalk.{Halt, haltIs, MatchingDown, down-more}
+use Rattle.layout.specs.Laws.MatchWalk.{Halt, haltIs}
 use Rattle.layout.specs.Laws.Number.{Counting, counting-here, number-in}
 use Rattle.layout.specs.Laws.Plain.{span-no}
 use Rattle.layout.specs.Laws.Splice.{then-write}
@@ -44,8 +43,6 @@ use Rattle.block_regions_v2.specs.declared.Passed.{Passed}
 use Rattle.block_regions_v2.specs.declared.Ended.{Ended as EndedC}
 use Rattle.block_regions_v2.specs.declared.Ended.the-variants.{Row as EndedRow, Refused as EndedRefused}
 use Rattle.block_regions_v2.specs.declared.Halted.{Halted}
-use Rattle.block_regions_v2.specs.declared.LastRead.{LastRead}
-use Rattle.block_regions_v2.specs.declared.LastRead.the-variants.{Ends}
 use Rattle.block_regions_v2.specs.declared.PlaceRead.{PlaceRead}
 use Rattle.block_regions_v2.specs.declared.PlaceRead.the-variants.{At, Refused as PlaceRefused}
 use Rattle.block_regions_v2.specs.declared.Reached.{Reached}
@@ -53,10 +50,10 @@ use Rattle.block_regions_v2.specs.Climb.{Climbing, climbing-no, was, was
 use Rattle.block_regions_v2.specs.Known.{part-length, known-parts}
 use Rattle.block_regions_v2.specs.Parts.{haltedIs, Halts, Stands, Reaches, reaching-refused, reaching-straddles, reaching-found, reaching-long, reaching-shares}
 use Rattle.block_regions_v2.specs.Count.{counting-ended}
-use Rattle.block_regions_v2.specs.Promise.{Gives, EndsAt, WalksInto, EndsLast}
-use Rattle.block_regions_v2.specs.Regions.{Counted, counted, rowNumbered, haltNumbered, endNumbered, endingAt, outAfter, given, walkTo, held, walkInto, keyLeft, lastTo, rowsIn}
-use Rattle.block_regions_v2.specs.Rows.{Filling, partOf, part-suffix}
-use Rattle.block_regions_v2.specs.Says.{passedBy, otherThan, saysPlace, saysLast}
+use Rattle.block_regions_v2.specs.Promise.{Gives, EndsAt, WalksInto}
+use Rattle.block_regions_v2.specs.Regions.{Counted, counted, rowNumbered, haltNumbered, endingAt, outAfter, given, walkTo, held, walkInto, keyLeft}
+use Rattle.block_regions_v2.specs.Rows.{Filling}
+use Rattle.block_regions_v2.specs.Says.{passedBy, otherThan, saysPlace}
 
 -- ---- the row that ends at a position
 
@@ -122,23 +119,10 @@ module _ (d : List ℕ) (g : Region) (target : Key) where
     unfolding walkTo
     walk-strange = rw (lt-ltb (length d) (g .end) h)
 
-    pub last-strange : refuse 18 ≡ lastTo d g target
-    unfolding lastTo
-    last-strange = rw (lt-ltb (length d) (g .end) h)
-
   module _ (h : g .end ≤ length d) where
     pub walk-there : walkRegion (length d) d g target (g .start) [] ≡ walkTo d g target
     unfolding walkTo
     walk-there = rw (le-ltb (length d) (g .end) h)
-
-    pub last-there : lastAtOrBelow (length d) d g target (g .start) [] (g .start) ≡ lastTo d g target
-    unfolding lastTo
-    last-there = rw (le-ltb (length d) (g .end) h)
-
--- ---- the promise of the read down
-
-pub last-is : (d : List ℕ) (g : RegionC) (target : Key) {at n : ℕ} → ok at ≡ lastTo d (regionFrom g) target → endedBy d (regionFrom g) at ≡ n → EndsLast d g target (Ends at n)
-last-is d g target {at} e is = rw (sym e) (ap (λ (i : ℕ). ok (counted at i)) (sym is))
 
 -- ---- what the walk met
 
@@ -224,15 +208,6 @@ module _ (d : List ℕ) (g : RegionC) (target key : List ℕ) where
 
           pub into-done : {part : List ℕ} → part ≡ take (length (take (h .len) key)) (w .climbs .before) → WalksInto d g target key (At (h .at) (h .len) (h .number)) (part ++ drop (h .len) key)
           into-done q = stopped-there (h .at) (h .len) (h .number) (w .climbs .before) said (w .climbs .long) ended-is u v q
-
--- ---- a turn of the read down
-
-pub turn-down : (d : List ℕ) (g : Region) (target : Key) (fuel at m len best : ℕ) (above : Bool) → MatchingDown d g target fuel at m len best above → at < g .end
-    → (p : RowSpan) → p ≡ spanOf (rowIn d g at len) → (p .next ≡ 0 → ⊥) → {m′ best′ : ℕ} {above′ : Bool}
-    → m′ ≡ matchAfter target m (p .shared) (partOf d p) → above′ ≡ aboveAfter target m above (p .shared) (partOf d p) → best′ ≡ cond above′ best (p .next)
-    → MatchingDown d g target fuel (p .next) m′ (p .shared + p .suffixLen) best′ above′
-turn-down d g target fuel at m len best above s h p e z w a b =
-    down-more d g target fuel at m len best above s h p e z (rw (part-suffix d p) at w) (rw (part-suffix d p) at a) b
 
 -- ---- the bytes that a row shares
 
@@ -419,10 +394,6 @@ module _ (b : List ℕ) (t : Trailer) (i : ℕ) (g : Region) (target : Key) (rea
   walk-used =
       sym (walk-there (dataOf b t) g target inside) ∙ ap (λ (n : ℕ). walkRegion n (dataOf b t) g target (g .start) []) size-is
 
-  pub last-used : lastTo (dataOf b t) g target ≡ lastAtOrBelow (t .size) (dataOf b t) g target (g .start) [] (g .start)
-  last-used =
-      sym (last-there (dataOf b t) g target inside) ∙ ap (λ (n : ℕ). lastAtOrBelow n (dataOf b t) g target (g .start) [] (g .start)) size-is
-
 -- the walk of a region of the block, where the slice has room for any key
 module _ (b : List ℕ) (t : Trailer) (i : ℕ) (g : RegionC) (target : Key) (read : trailerOf b ≡ ok t) (is : regionOf b t i ≡ ok (regionFrom g)) (key : List ℕ) (whole : length key ≡ maxKey) where
   abbrev walked : Res Stop
@@ -458,33 +429,3 @@ module _ (b : List ℕ) (t : Trailer) (i : ℕ) (g : RegionC) (target : Key) (re
         go : (y : Res Stop) → refuse n ≡ bind y numbered → key′ ≡ keyLeft (regionFrom g) y key → (y ≡ refuse n) × (key′ ≡ key)
         go (ok s) f q = absurd (apart (sym f))
         go (refuse m) f q = (cc, q)
-
--- the read of a region of the block for its last row at or below a target
-module _ (b : List ℕ) (t : Trailer) (i : ℕ) (g : RegionC) (target : Key) (read : trailerOf b ≡ ok t) (is : regionOf b t i ≡ ok (regionFrom g)) where
-  abbrev lowered : Res ℕ
-  lowered = lastAtOrBelow (t .size) (dataOf b t) (regionFrom g) target (g .start) [] (g .start)
-
-  module _ (r : LastRead) (w : EndsLast (dataOf b t) g target r) where
-    said-last : saysLast r ≡ bind lowered (endNumbered (dataOf b t) (regionFrom g))
-    said-last = w ∙ ap (λ (x : Res ℕ). bind x (endNumbered (dataOf b t) (regionFrom g))) (last-used b t i (regionFrom g) target read is)
-
-    pub last-ended : {at n : ℕ} → r ≡ Ends at n → (lowered ≡ ok at) × (endedBy (dataOf b t) (regionFrom g) at ≡ n)
-    last-ended {at} {n} e =
-        bind-then lowered _ (counted at n) (sym (sym (ap saysLast e) ∙ said-last)) λ best q f.
-        let same : best ≡ at = ap (λ (x : Counted ℕ). x .what) (ok-inj f) in
-        (q ∙ ap ok same, ap (endedBy (dataOf b t) (regionFrom g)) (sym same) ∙ ap (λ (x : Counted ℕ). x .number) (ok-inj f))
-
-    pub last-refused : {n : ℕ} → saysLast r ≡ refuse n → lowered ≡ refuse n
-    last-refused {n} e = go lowered (sym e ∙ said-last)
-      where
-        go : (y : Res ℕ) → refuse n ≡ bind y (endNumbered (dataOf b t) (regionFrom g)) → y ≡ refuse n
-        go (ok at) f = absurd (apart (sym f))
-        go (refuse m) f = cc
-
--- the rows of the block's last region are those that end at or before the data's end
-pub rows-used : (b : List ℕ) (t : Trailer) (g : Region) → regionOf b t (t .count - 1) ≡ ok g
-    → rowsIn (dataOf b t) g ≡ bind (rowEndingAt (t .size) (dataOf b t) g (t .size) (g .start) []) λ _. ok (numberAt b t (t .count - 1) (t .size))
-unfolding rowsIn
-rows-used b t g is =
-    let w = regionOf-tells b t (t .count - 1) g is in
-    rw (lt-leb (g .end) (g .start) (w .rises), number-in b t (t .count - 1) (t .size) g is, w .last (omega arith) .0)

@@ -12,10 +12,8 @@ use Rattle.trailer.specs.declared.Region.{Region}
 use Rattle.block_regions_v2.specs.declared.Passed.{Passed}
 use Rattle.block_regions_v2.specs.declared.Ended.{Ended}
 use Rattle.block_regions_v2.specs.declared.PlaceRead.{PlaceRead}
-use Rattle.block_regions_v2.specs.declared.LastRead.{LastRead}
-use Rattle.block_regions_v2.specs.declared.CountRead.{CountRead}
-use Rattle.block_regions_v2.specs.Regions.{rowNumbered, haltNumbered, endNumbered, endingAt, outAfter, walkInto, keyLeft, lastTo, rowsIn}
-use Rattle.block_regions_v2.specs.Says.{passedBy, saysEnded, saysPlace, saysLast, saysCount}
+use Rattle.block_regions_v2.specs.Regions.{rowNumbered, haltNumbered, endingAt, outAfter, walkInto, keyLeft}
+use Rattle.block_regions_v2.specs.Says.{passedBy, saysEnded, saysPlace}
 
 -- a row of a region that is wanted with its key at the start of a lent buffer: its answer r with the row's number, and the buffer that it leaves
 pub record Gives (d : List ℕ) (g : RegionL) (want : Res Keyed) (out : List ℕ) (r : Ended) (out′ : List ℕ) : Type 0 where
@@ -29,9 +27,3 @@ EndsAt d g stop p out r out′ = Gives d (regionFrom g) (endingAt d (regionFrom 
 pub record WalksInto (d : List ℕ) (g : Region) (target key : List ℕ) (r : PlaceRead) (key′ : List ℕ) : Type 0 where
   pub answer : saysPlace r ≡ bind (walkInto d (regionFrom g) target (length key)) (haltNumbered d (regionFrom g))
   pub bytes : key′ ≡ keyLeft (regionFrom g) (walkInto d (regionFrom g) target (length key)) key
-
-abbrev pub EndsLast : List ℕ → Region → List ℕ → LastRead → Type 0
-EndsLast d g target r = saysLast r ≡ bind (lastTo d (regionFrom g) target) (endNumbered d (regionFrom g))
-
-abbrev pub CountsRows : List ℕ → Region → CountRead → Type 0
-CountsRows d g r = saysCount r ≡ rowsIn d (regionFrom g)

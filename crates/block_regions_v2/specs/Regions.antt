@@ -1,5 +1,4 @@
--- The reads of a whole restart region by a caller who may hand in any region and any position: 18 where these can't belong together, then the rules' own
--- reads.
+-- The reads of a restart region by a caller who may hand in any region and any position: 18 where these can't belong together, then the rules' own reads.
 use Prim.Native.Nat.{ℕ}
 use mathlib.Core.Bool.{Bool, cond, not}
 use mathlib.Core.List.{List, []}
@@ -12,7 +11,7 @@ use Rattle.layout.specs.RowRead.{RowRead, keyLength}
 use Rattle.layout.specs.Trailer.{Region}
 use Rattle.layout.specs.Number.{endedBy}
 use Rattle.layout.specs.Cursor.{Keyed, keyed, rowEndingAt}
-use Rattle.layout.specs.Seek.{Stop, walkRegion, lastAtOrBelow}
+use Rattle.layout.specs.Seek.{Stop, walkRegion}
 use Rattle.layout.specs.Laws.MatchWalk.{Halt, haltOf}
 
 -- ---- what was found, and how many rows of its region end at or before it
@@ -31,10 +30,6 @@ rowNumbered d g k = ok (counted (k .row) (endedBy d g (k .row .start)))
 -- where a walk stopped, with how long the key of the row before is
 abbrev pub haltNumbered : List ℕ → Region → Stop → Res (Counted Halt)
 haltNumbered d g s = bind (haltOf s) λ h. ok (counted h (endedBy d g (h .at)))
-
--- where a row ends
-abbrev pub endNumbered : List ℕ → Region → ℕ → Res (Counted ℕ)
-endNumbered d g at = ok (counted at (endedBy d g at))
 
 -- ---- the reads
 
@@ -78,16 +73,3 @@ walkInto d g target room = bind (walkTo d g target) (held g room)
 abbrev pub keyLeft : Region → Res Stop → List ℕ → List ℕ
 keyLeft g (ok s) key = cond (ltb (s .at) (g .end)) (splice key 0 (s .before)) key
 keyLeft g (refuse n) key = key
-
--- where the last row at or below a target ends, or the region's start: 18 for a region that ends after the data
-unfoldable pub lastTo : List ℕ → Region → Key → Res ℕ
-lastTo d g target =
-    18 when ltb (length d) (g .end) else
-    lastAtOrBelow (length d) d g target (g .start) [] (g .start)
-
--- how many rows a region has: 18 for one that can't have any, then the rows' own refusals
-unfoldable pub rowsIn : List ℕ → Region → Res ℕ
-rowsIn d g =
-    18 when leb (g .end) (g .start) else
-    bind (rowEndingAt (g .end) d g (g .end) (g .start) []) λ _.
-    ok (endedBy d g (g .end))

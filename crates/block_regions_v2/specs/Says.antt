@@ -17,10 +17,6 @@ use Rattle.block_regions_v2.specs.declared.Ended.{Ended}
 use Rattle.block_regions_v2.specs.declared.Ended.the-variants.{Row as EndedRow, Refused as EndedRefused}
 use Rattle.block_regions_v2.specs.declared.PlaceRead.{PlaceRead}
 use Rattle.block_regions_v2.specs.declared.PlaceRead.the-variants.{At, Refused as PlaceRefused}
-use Rattle.block_regions_v2.specs.declared.LastRead.{LastRead}
-use Rattle.block_regions_v2.specs.declared.LastRead.the-variants.{Ends, Refused as LastRefused}
-use Rattle.block_regions_v2.specs.declared.CountRead.{CountRead}
-use Rattle.block_regions_v2.specs.declared.CountRead.the-variants.{Rows as CountRows, Refused as CountRefused}
 
 -- how many rows are said to end where m do
 abbrev pub passedBy : Passed → ℕ → ℕ
@@ -38,14 +34,6 @@ abbrev pub saysPlace : PlaceRead → Res (Counted Halt)
 saysPlace (At at len n) = ok (counted (haltIs at len) n)
 saysPlace (PlaceRefused r) = refuse (number r)
 
-abbrev pub saysLast : LastRead → Res (Counted ℕ)
-saysLast (Ends at n) = ok (counted at n)
-saysLast (LastRefused r) = refuse (number r)
-
-abbrev pub saysCount : CountRead → Res ℕ
-saysCount (CountRows n) = ok n
-saysCount (CountRefused r) = refuse (number r)
-
 -- ---- one to one
 
 pub saysEnded-one : (a b : Ended) → saysEnded a ≡ saysEnded b → a ≡ b
@@ -61,15 +49,3 @@ saysPlace-one (At at k n) (At to l m) e = ap (λ (h : Counted Halt). At (h .what
 saysPlace-one (At at k n) (PlaceRefused q) e = absurd (apart e)
 saysPlace-one (PlaceRefused r) (At to l m) e = absurd (apart (sym e))
 saysPlace-one (PlaceRefused r) (PlaceRefused q) e = ap PlaceRefused (refused-one e)
-
-pub saysLast-one : (a b : LastRead) → saysLast a ≡ saysLast b → a ≡ b
-saysLast-one (Ends at n) (Ends to m) e = ap (λ (x : Counted ℕ). Ends (x .what) (x .number)) (ok-inj e)
-saysLast-one (Ends at n) (LastRefused r) e = absurd (apart e)
-saysLast-one (LastRefused r) (Ends to m) e = absurd (apart (sym e))
-saysLast-one (LastRefused r) (LastRefused q) e = ap LastRefused (refused-one e)
-
-pub saysCount-one : (a b : CountRead) → saysCount a ≡ saysCount b → a ≡ b
-saysCount-one (CountRows n) (CountRows m) e = ap CountRows (ok-inj e)
-saysCount-one (CountRows n) (CountRefused r) e = absurd (apart e)
-saysCount-one (CountRefused r) (CountRows n) e = absurd (apart (sym e))
-saysCount-one (CountRefused r) (CountRefused q) e = ap CountRefused (refused-one e)

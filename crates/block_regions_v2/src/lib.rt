@@ -1,7 +1,6 @@
-// The reads of a whole restart region that the block iterator makes: back to the row that ends at a position, up to a target, for the last row at or below
-// one, and to count its rows. Each counts the rows that it reads, so that it can say which row of the region it found. None carries a key: a walk to a target
-// carries how many bytes the key before begins with in common with it, the read back where in the data the first bytes of the key before stand. A key that is
-// wanted is put together at the end, once all tests are made.
+// The reads of a restart region that give a key: back to the row that ends at a position, and up to a target. Each counts the rows that it reads, so that it
+// can say which row of the region it found. Neither carries a key: the walk to a target carries how many bytes the key before begins with in common with it,
+// the read back where in the data the first bytes of the key before stand. The key that is wanted is put together at the end, once all tests are made.
 // Follows slatedb 0.16.0, src/block_iterator_v2.rs (Apache License 2.0), and is changed: no rows are cached, no key is carried, and what the bytes or the
 // numbers handed in can break is a refusal that writes nothing.
 ghost use mathlib.Core.Path.{_≡_};
@@ -17,7 +16,7 @@ ghost use Rattle.block_regions_v2.specs.Climb.{Based};
 ghost use Rattle.block_regions_v2.specs.Known.{knownAfter};
 ghost use Rattle.block_regions_v2.specs.Parts.{haltedIs, Halts, Stands, Reaches};
 ghost use Rattle.block_regions_v2.specs.Says.{otherThan};
-ghost use Rattle.block_regions_v2.specs.Promise.{EndsAt, WalksInto, EndsLast, CountsRows};
+ghost use Rattle.block_regions_v2.specs.Promise.{EndsAt, WalksInto};
 use basics::Refusal;
 use row_decode_v2::Row;
 use row_decode_v2::RowRead;
@@ -42,16 +41,6 @@ pub enum PlaceRead {
         key_len: usize,
         number: usize,
     },
-    Refused(Refusal),
-}
-
-pub enum LastRead {
-    Ends { at: usize, number: usize },
-    Refused(Refusal),
-}
-
-pub enum CountRead {
-    Rows(usize),
     Refused(Refusal),
 }
 
@@ -227,53 +216,6 @@ pub fn walk_into(data: &[u8], region: Region, target: &[u8], key: &mut [u8]) -> 
     }
 }
 
-// ---- down to a target
-
-// Where the last row at or below the target ends so far, and how many rows end there.
-fn later(above: bool, best: usize, next: usize) -> usize
-    ensures { λ r. ⌜ r ≡ cond above best next ⌝ }
-{
-    if above { best } else { next }
-}
-
-// Reads a whole region: where its last row at or below the target ends, or the region's start if there is none, and how many rows end there. (`load_restart_region` and the search for the
-// first greater row in the Rust's `seek` descending.)
-pub fn last_at_or_below(data: &[u8], region: Region, target: &[u8]) -> LastRead
-    ensures { λ r. ⌜ EndsLast (now («data» .entry)) region (now (target .entry)) r ⌝ }
-{
-    if data.len() < region.end {
-        return LastRead::Refused(Refusal::BadState);
-    }
-    let mut at = region.start;
-    let mut len: usize = 0;
-    let mut matched: usize = 0;
-    let mut above = false;
-    let mut number: usize = 0;
-    let mut best = region.start;
-    let mut best_number: usize = 0;
-    while at < region.end {
-        let row = row_span_v2::span_in(data, at, region.start, region.end, len);
-        if row.next == 0 {
-            let refusal = row_span_v2::refusal_in(data, at, region.start, region.end, len);
-            return LastRead::Refused(refusal);
-        }
-        let from = row.suffix_at;
-        let to = from + row.suffix_len;
-        let now = match_keys::match_down(target, matched, above, row.shared, &data[from..to]);
-        matched = now.len;
-        above = now.below;
-        len = row.shared + row.suffix_len;
-        at = row.next;
-        number += 1;
-        best = later(above, best, at);
-        best_number = later(above, best_number, number);
-    }
-    LastRead::Ends {
-        at: best,
-        number: best_number,
-    }
-}
-
 // ---- back to a position
 
 // What is known of a row's key, by what is known of the key before: its suffix stands at `place`, and it is `len` bytes long.
@@ -412,31 +354,4 @@ pub fn row_ending_at(
     let end = start + row.suffix_len;
     buf_mut::copy_in(out, shared, &data[start..end]);
     Ended::Row { row, number }
-}
-
-// ---- how many rows
-
-// Reads a whole region: how many rows it has. (`load_restart_region` in the Rust, of which the descending iterator takes the last place.)
-pub fn count_rows(data: &[u8], region: Region) -> CountRead
-    ensures { λ r. ⌜ CountsRows (now («data» .entry)) region r ⌝ }
-{
-    if region.end <= region.start {
-        return CountRead::Refused(Refusal::BadState);
-    }
-    let mut at = region.start;
-    let mut len: usize = 0;
-    let mut rows: usize = 0;
-    loop {
-        let row = row_span_v2::span_in(data, at, region.start, region.end, len);
-        if row.next == 0 {
-            let refusal = row_span_v2::refusal_in(data, at, region.start, region.end, len);
-            return CountRead::Refused(refusal);
-        }
-        rows += 1;
-        if region.end <= row.next {
-            return CountRead::Rows(rows);
-        }
-        len = row.shared + row.suffix_len;
-        at = row.next;
-    }
 }

@@ -19,8 +19,8 @@ use Rattle.basics.specs.declared.IterationOrder.the-variants.{Ascending, Descen
 use Rattle.basics.specs.declared.Refusal.{Refusal}
 use Rattle.basics.specs.declared.Verdict.{Verdict}
 use Rattle.basics.specs.declared.Verdict.the-variants.{Good, Refused}
-use Rattle.block_regions_v2.specs.Regions.{rowsIn}
-use Rattle.block_regions_v2.specs.Laws.{rows-used}
+use Rattle.whole_regions_v2.specs.Regions.{rowsIn}
+use Rattle.whole_regions_v2.specs.Laws.{rows-used}
 use Rattle.place_v2.specs.declared.Place.{Place}
 use Rattle.place_v2.specs.declared.OpenedPlace.{OpenedPlace}
 use Rattle.place_v2.specs.Parts.{fresh, lastRows, OpensDown}

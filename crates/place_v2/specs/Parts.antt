@@ -6,7 +6,7 @@ use Rattle.layout.specs.Res.{Res, bind}
 use Rattle.layout.specs.Trailer.{Trailer, dataOf, regionOf}
 use Rattle.layout.specs.Cursor.{descending, openAlong}
 use Rattle.basics.specs.declared.IterationOrder.{IterationOrder}
-use Rattle.block_regions_v2.specs.Regions.{rowsIn}
+use Rattle.whole_regions_v2.specs.Regions.{rowsIn}
 use Rattle.place_v2.specs.declared.Place.{Place}
 use Rattle.place_v2.specs.declared.OpenedPlace.{OpenedPlace}
 use Rattle.place_v2.specs.Promise.{Opens}

@@ -5,15 +5,15 @@ ghost use mathlib.Core.Path.{_≡_};
 ghost use Rattle.layout.specs.Res.{ok};
 ghost use Rattle.layout.specs.Trailer.{trailerOf};
 ghost use Rattle.trailer.specs.Says.{trailerFrom};
-ghost use Rattle.block_regions_v2.specs.Says.{saysCount};
+ghost use Rattle.whole_regions_v2.specs.Says.{saysCount};
 ghost use Rattle.place_v2.specs.Parts.{fresh, lastRows, OpensDown};
 ghost use Rattle.place_v2.specs.Promise.{OpensPlace, TellsPlaceEmpty};
 use basics::IterationOrder;
 use basics::Refusal;
 use basics::Verdict;
-use block_regions_v2::CountRead;
 use trailer::Trailer;
 use trailer::TrailerRead;
+use whole_regions_v2::CountRead;
 
 // A cursor without the bytes of its key: those stay where they are. `number` is how many rows of its region end at or before its position. The numbers that
 // change from step to step do not stand side by side, so that none is loaded in one with another that was stored apart; the region's changes with the region
@@ -64,7 +64,7 @@ fn last_rows(block: &[u8], t: Trailer) -> CountRead
         return CountRead::Refused(Refusal::BadOffset);
     }
     let size = t.size;
-    block_regions_v2::count_rows(&block[..size], region)
+    whole_regions_v2::count_rows(&block[..size], region)
 }
 
 // Descending: at the data's end, with the last region's rows passed. What they refuse, opening refuses.

@@ -12,8 +12,8 @@ use Rattle.basics.specs.declared.Refusal.{Refusal}
 use Rattle.basics.specs.declared.Refusal.the-variants.{BadState}
 use Rattle.block_regions_v2.specs.declared.PlaceRead.{PlaceRead}
 use Rattle.block_regions_v2.specs.declared.PlaceRead.the-variants.{At as PlaceAt, Refused as PlaceRefused}
-use Rattle.block_regions_v2.specs.declared.LastRead.{LastRead}
-use Rattle.block_regions_v2.specs.declared.LastRead.the-variants.{Ends, Refused as LastRefused}
+use Rattle.whole_regions_v2.specs.declared.LastRead.{LastRead}
+use Rattle.whole_regions_v2.specs.declared.LastRead.the-variants.{Ends, Refused as LastRefused}
 use Rattle.block_restarts_v2.specs.declared.StartRead.{StartRead}
 use Rattle.block_restarts_v2.specs.declared.StartRead.the-variants.{At as StartAt, Refused as StartRefused}
 use Rattle.seek_in_place_v2.specs.declared.Found.{Found}

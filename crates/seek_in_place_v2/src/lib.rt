@@ -17,12 +17,12 @@ ghost use Rattle.seek_in_place_v2.specs.Parts.{refusalOfPlace, refusalOf
 ghost use Rattle.seek_in_place_v2.specs.Promise.{Finds, SeeksInPlace};
 use basics::IterationOrder;
 use basics::Refusal;
-use block_regions_v2::LastRead;
 use block_regions_v2::PlaceRead;
 use block_restarts_v2::Start;
 use block_restarts_v2::StartRead;
 use place_v2::Place;
 use trailer::Trailer;
+use whole_regions_v2::LastRead;
 
 // What a seek answers, with the place where it left the cursor, and how many restart keys the search read. A refusal moves nothing.
 pub enum Found {
@@ -164,7 +164,7 @@ fn walk_down(block: &[u8], t: Trailer, target: &[u8], start: Start) -> Found
         if region.end == 0 {
             return Found::Refused(Refusal::BadOffset);
         }
-        let last = block_regions_v2::last_at_or_below(&block[..size], region, target);
+        let last = whole_regions_v2::last_at_or_below(&block[..size], region, target);
         let LastRead::Ends { at, number } = last else {
             return Found::Refused(last_refusal(last));
         };

@@ -2,7 +2,7 @@
 use native.Mathlib.Omega.{arith}
 use Rattle.layout.specs.Laws.Trailer.{trailerOf-tells}
 use Rattle.basics.specs.Answers.{yes}
-use Rattle.block_regions_v2.specs.Says.{saysCount}
+use Rattle.whole_regions_v2.specs.Says.{saysCount}
 use Rattle.place_v2.proofs.Opens.{down-good, down-not}
 use borrow.Author.Needs.{needs}
 use Rattle.place_v2.proofs.open_down.Statement.{statement}

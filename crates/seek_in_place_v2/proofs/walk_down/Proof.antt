@@ -18,8 +18,8 @@ use Rattle.basics.specs.Answers.{no}
 use Rattle.basics.specs.declared.IterationOrder.the-variants.{Descending}
 use Rattle.trailer.specs.Plain.{known-not, known-is}
 use Rattle.trailer.specs.Says.{trailerFrom, regionFrom}
-use Rattle.block_regions_v2.specs.Laws.{last-ended, last-refused}
-use Rattle.block_regions_v2.specs.Says.{saysLast}
+use Rattle.whole_regions_v2.specs.Laws.{last-ended, last-refused}
+use Rattle.whole_regions_v2.specs.Says.{saysLast}
 use Rattle.seek_in_place_v2.specs.Parts.{refusalOfLast}
 use Rattle.seek_in_place_v2.proofs.Walks.{walked-not, walked-to, walked-off}
 use Rattle.seek_in_place_v2.proofs.walk_down.Statement.{statement}

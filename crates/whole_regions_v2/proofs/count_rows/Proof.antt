@@ -7,12 +7,13 @@ use Rattle.layout.specs.Laws.Number.{Counting, counting-start}
 use Rattle.trailer.specs.Says.{regionFrom}
 use Rattle.row_span_v2.specs.Promise.{spanFrom}
 use Rattle.row_span_v2.specs.Laws.{span-refusal}
 use Rattle.block_regions_v2.specs.Known.{knownIs}
 use Rattle.block_regions_v2.specs.Parts.{Reaching, reaching-start}
-use Rattle.block_regions_v2.specs.Count.{counting-span, count-none, count-no, count-all, count-more}
+use Rattle.block_regions_v2.specs.Count.{counting-span}
+use Rattle.whole_regions_v2.specs.Count.{count-none, count-no, count-all, count-more}
 use borrow.Author.Needs.{needs}
-use Rattle.block_regions_v2.proofs.count_rows.Statement.{statement}
-use Rattle.block_regions_v2.proofs.count_rows.Tie as tie
+use Rattle.whole_regions_v2.proofs.count_rows.Statement.{statement}
+use Rattle.whole_regions_v2.proofs.count_rows.Tie as tie
 
 abbrev Inv-loop : tie.InvT-loop
 Inv-loop «data» region at₀ len₀ rows₀ at len rows =
@@ -38,7 +39,7 @@ returns-2 : tie.Need-returns-2 Inv-loop μ-loop
 returns-2 c =
     let s = c .before .before .before in
     let l = s .before in
-    count-no _ _ (l .before .if1 .left) _ _ _ (l .loop .inv .0) (span-refusal _ _ _ _ _ (spanFrom (s .span-in .result)) (s .span-in .ensures) (c .before .if2 .taken) (c .refusal-in .ensures))
+    count-no _ _ (l .before .if1 .left) _ _ (l .loop .inv .0) (span-refusal _ _ _ _ _ (spanFrom (s .span-in .result)) (s .span-in .ensures) (c .before .if2 .taken) (c .refusal-in .ensures))
 
 add-rows : tie.Need-add-rows Inv-loop μ-loop
 add-rows c = omega (arith, tells c .least, tells c .inside, c .before .before .before .loop .inv .1 .far)
@@ -47,7 +48,7 @@ returns-3 : tie.Need-returns-3 Inv-loop μ-loop
 returns-3 c =
     let k = c .before .before .before in
     let l = k .before .before .before in
-    count-all _ _ (l .before .if1 .left) _ _ _ (l .loop .inv .0) (spanFrom (k .before .before .span-in .result)) (k .before .before .span-in .ensures) (k .if2 .left) _ (l .loop .inv .1) (c .if3 .taken)
+    count-all _ _ (l .before .if1 .left) _ _ (l .loop .inv .0) (spanFrom (k .before .before .span-in .result)) (k .before .before .span-in .ensures) (k .if2 .left) _ (l .loop .inv .1) (c .if3 .taken)
 
 add-len : tie.Need-add-len Inv-loop μ-loop
 add-len c = omega (arith, tells (c .before .before .before .before) .few)
@@ -60,7 +61,7 @@ loop-again c =
     let k = c .before .before .before .before in
     let l = k .before .before .before in
     let p = spanFrom (k .before .before .span-in .result) in
-    (count-more _ _ (l .before .if1 .left) _ _ _ (l .loop .inv .0) p (k .before .before .span-in .ensures) (k .if2 .left) (c .before .if3 .left), counting-span _ _ _ _ _ (l .loop .inv .1) p (k .before .before .span-in .ensures) (k .if2 .left))
+    (count-more _ _ (l .before .if1 .left) _ _ (l .loop .inv .0) p (k .before .before .span-in .ensures) (k .if2 .left) (c .before .if3 .left), counting-span _ _ _ _ _ (l .loop .inv .1) p (k .before .before .span-in .ensures) (k .if2 .left))
 
 pub count-rows-spec : {M : Type 1} → statement M
 count-rows-spec =

@@ -11,12 +11,13 @@ use Rattle.layout.specs.Laws.Number.{Counting, counting-start, counting-here}
 use Rattle.layout.specs.Laws.MatchWalk.{MatchingDown, down-start, down-over, down-no, SpanTells, span-tells}
 use Rattle.trailer.specs.Says.{regionFrom}
 use Rattle.row_span_v2.specs.Promise.{spanFrom}
-use Rattle.block_regions_v2.specs.Count.{counting-span, counting-best}
-use Rattle.block_regions_v2.specs.Laws.{last-strange, last-there, last-is, turn-down}
+use Rattle.block_regions_v2.specs.Count.{counting-span}
+use Rattle.whole_regions_v2.specs.Count.{counting-best}
+use Rattle.whole_regions_v2.specs.Laws.{last-strange, last-there, last-is, turn-down}
 use Rattle.row_span_v2.specs.Laws.{span-refusal}
 use borrow.Author.Needs.{needs}
-use Rattle.block_regions_v2.proofs.last_at_or_below.Statement.{statement}
-use Rattle.block_regions_v2.proofs.last_at_or_below.Tie as tie
+use Rattle.whole_regions_v2.proofs.last_at_or_below.Statement.{statement}
+use Rattle.whole_regions_v2.proofs.last_at_or_below.Tie as tie
 
 abbrev Inv-loop : tie.InvT-loop
 Inv-loop «data» region target at₀ len₀ matched₀ above₀ number₀ best₀ best-number₀ at len matched above number best best-number =
