@@ -1,16 +1,12 @@
--- Each promise admits one outcome: two codes, with the words, numbers and bytes that they leave, that both keep it are equal; but for the key bytes past the length of
--- the key that a sought cursor carries. The laws of `slatedb_builder_add` and `slatedb_next` are those of the functions by value too: `OneOutcome` of `block_words`.
+-- Each promise admits one outcome: two codes, with the words, numbers and bytes that they leave, that both keep it are equal. The laws of `slatedb_builder_add`
+-- and `slatedb_next` are those of the functions by value too, `OneOutcome` of `builder_words` and of `block_words`; that of `slatedb_seek` is in `seek_words`.
 use Prim.Native.Nat.{ℕ}
 use mathlib.Core.Path.{_≡_, sym, _∙_}
 use mathlib.Core.List.{List}
-use Rattle.layout.specs.Res.{Res, bind}
+use Rattle.layout.specs.Res.{Res}
 use Rattle.layout.specs.Key.{Key}
-use Rattle.layout.specs.Limits.{maxKey}
-use Rattle.layout.specs.Seek.{seek}
-use Rattle.row_words.specs.Words.{counted, cursorIn}
 use Rattle.row_words.specs.Flat.{sets-settled}
-use Rattle.block_words.specs.OneOutcome.{SameKey, same-key}
-use Rattle.slatedb_block.specs.Promise.{Tells, EncodesFlat, DecodesFlat, MakesFlat, FitsFlat, EmptiesFlat, BuildsFlat, ChecksFlat, OpensFlat, TellsFlat, SeeksFlat}
+use Rattle.slatedb_block.specs.Promise.{Tells, EncodesFlat, DecodesFlat, MakesFlat, FitsFlat, EmptiesFlat, BuildsFlat, ChecksFlat, OpensFlat, TellsFlat}
 
 tells-settled : {want : Res ℕ} {n c d x y : ℕ} → Tells want n c x → Tells want n d y → (c ≡ d) × (x ≡ y)
 tells-settled a b = (a .answer ∙ sym (b .answer), a .number ∙ sym (b .number))
@@ -54,13 +50,3 @@ open-settled b order ws c d ys zs m l = sets-settled m l
 
 pub is-empty-settled : (b ws : List ℕ) (n c d x y : ℕ) → TellsFlat b ws n c x → TellsFlat b ws n d y → (c ≡ d) × (x ≡ y)
 is-empty-settled b ws n c d x y m l = tells-settled m l
-
-pub seek-settled : (b target ws key : List ℕ) (n c d : ℕ) (vs us ks ls : List ℕ) (x y : ℕ)
-    → SeeksFlat b target ws key n c vs ks x → SeeksFlat b target ws key n d us ls y
-    → (c ≡ d) × (vs ≡ us) × SameKey (counted key maxKey (bind (cursorIn ws key) λ k. seek (k .order) b target)) (λ s. s .cursor) ks ls × (x ≡ y)
-seek-settled b target ws key n c d vs us ks ls x y m l = (
-  m .answer ∙ sym (l .answer),
-  m .state ∙ sym (l .state),
-  same-key (counted key maxKey (bind (cursorIn ws key) λ k. seek (k .order) b target)) (λ s. s .cursor) key ks ls (m .key-bytes) (l .key-bytes),
-  m .number ∙ sym (l .number),
-)

@@ -1,7 +1,6 @@
 -- What each function promises: the code that it answers, and what each lent word and byte is after it, as equations to the definitions of `layout`.
--- `AddsFlat` and `StepsFlat`, which the functions by value keep too, are in `Exports` of `block_words`.
+-- `AddsFlat` and `StepsFlat`, which the functions by value keep too, are in `Exports` of `builder_words` and of `block_words`, `SeeksFlat` in `seek_words`.
 use Prim.Native.Nat.{ℕ}
-use mathlib.Core.Bool.{cond}
 use mathlib.Core.Path.{_≡_}
 use mathlib.Core.List.{List, []}
 use lib.ListN.{length}
@@ -13,10 +12,8 @@ use Rattle.layout.specs.RowRead.{decodeRow}
 use Rattle.layout.specs.Builder.{Builder, newBuilder, hasNoRows, wouldFit, build, blockAfter}
 use Rattle.layout.specs.Check.{check}
 use Rattle.layout.specs.Cursor.{openBlock, isEmpty}
-use Rattle.layout.specs.Seek.{Sought, seek}
-use Rattle.row_words.specs.Words.{doneCode, codeOf, setBy, counted, truthWord, orderIn, cursorIn, cursorWords, builderFrom, builderIn, builderWords, fieldsIn, singleWords, builderCount, cursorCount, singleCount}
+use Rattle.row_words.specs.Words.{codeOf, setBy, counted, truthWord, orderIn, cursorIn, cursorWords, builderFrom, builderIn, builderWords, fieldsIn, singleWords, builderCount, cursorCount, singleCount}
 use Rattle.row_words.specs.Flat.{Sets}
-use Rattle.block_words.specs.Exports.{KeyLeft}
 
 -- a number that is wanted in a lent word
 pub record Tells (want : Res ℕ) (n code n′ : ℕ) : Type 0 where
@@ -66,16 +63,3 @@ OpensFlat b order ws code ws′ = Sets (counted ws cursorCount (bind (orderIn or
 
 abbrev pub TellsFlat : List ℕ → List ℕ → ℕ → ℕ → ℕ → Type 0
 TellsFlat b ws n code n′ = Tells (bind (cursorIn ws []) λ c. bind (isEmpty c b) λ e. ok (truthWord e)) n code n′
-
-abbrev pub seekCode : Res Sought → ℕ
-seekCode (ok s) = cond (s .cursor .done) doneCode 0
-seekCode (refuse n) = n
-
-pub record SeeksAs (want : Res Sought) (ws key : List ℕ) (n code : ℕ) (ws′ key′ : List ℕ) (n′ : ℕ) : Type 0 where
-  pub answer : code ≡ seekCode want
-  pub state : ws′ ≡ setBy want (λ s. cursorWords (s .cursor)) ws
-  pub key-bytes : KeyLeft want (λ s. s .cursor) key key′
-  pub number : n′ ≡ setBy want (λ s. s .reads) n
-
-abbrev pub SeeksFlat : List ℕ → List ℕ → List ℕ → List ℕ → ℕ → ℕ → List ℕ → List ℕ → ℕ → Type 0
-SeeksFlat b target ws key n code ws′ key′ n′ = SeeksAs (counted key maxKey (bind (cursorIn ws key) λ c. seek (c .order) b target)) ws key n code ws′ key′ n′

@@ -1,19 +1,15 @@
 // The C interface: flat functions over numbers and lent slices, for C and Rust to link. State is lent as words and key bytes, so that a step copies no key.
 // Follows the methods of slatedb 0.16.0's SstRowCodecV2, BlockBuilderV2 and BlockIteratorV2 (Apache License 2.0), and is changed: each answers a code, 0 for good,
 // the number of a refusal, 254 for words that mean nothing, which is tested first, and 255 for "done"; what else it answers goes to lent words.
-ghost use mathlib.Core.Path.{_≡_};
-ghost use lib.ListN.{length};
 ghost use Rattle.block_rows_v2.specs.Promise.{RowsFlat};
 ghost use Rattle.builder_words.specs.Exports.{AddsFlat};
 ghost use Rattle.block_words.specs.Exports.{StepsFlat};
-ghost use Rattle.row_words.specs.Words.{builderCount, cursorCount, rowCount};
-ghost use Rattle.slatedb_block.specs.Says.{PutsGrown, PutsMoved, PutsFound};
-ghost use Rattle.slatedb_block.specs.Promise.{EncodesFlat, DecodesFlat, MakesFlat, FitsFlat, EmptiesFlat, BuildsFlat, ChecksFlat, OpensFlat, TellsFlat, SeeksFlat};
+ghost use Rattle.seek_words.specs.Promise.{SeeksFlat};
+ghost use Rattle.slatedb_block.specs.Promise.{EncodesFlat, DecodesFlat, MakesFlat, FitsFlat, EmptiesFlat, BuildsFlat, ChecksFlat, OpensFlat, TellsFlat};
 use basics::Verdict;
 use block_check_v2::Checked;
 use block_words::CursorRead;
 use block_words::OrderRead;
-use build_in_place_v2::Grown;
 use builder_words::OfferRead;
 use builder_words::StateRead;
 use finish_in_place_v2::BuildAnswer;
@@ -21,8 +17,6 @@ use place_v2::EmptyRead;
 use row_decode_v2::RowRead;
 use row_encode_v2::Encoded;
 use row_words::FieldsRead;
-use seek_in_place_v2::Found;
-use step_in_place_v2::Moved;
 
 // ---- one row
 
@@ -126,20 +120,6 @@ pub extern "C" fn slatedb_builder_would_fit(
     }
 }
 
-// Puts the builder with the row back.
-fn put_grown(builder: &mut [u64], grown: Grown) -> u8
-    requires { ⌜ length (now builder) ≡ builderCount ⌝ }
-    ensures { λ r. ⌜ PutsGrown grown (now (builder .entry)) r (now (builder .exit)) ⌝ }
-{
-    match grown {
-        Grown::Row(t) => {
-            builder_words::put_state(builder, t);
-            block_words::GOOD
-        }
-        Grown::Refused(refusal) => basics::number(refusal),
-    }
-}
-
 // Adds a row, in place: 254, 18, 1, 2, 3, 4, 5, 6.
 #[no_mangle]
 pub extern "C" fn slatedb_builder_add(
@@ -153,12 +133,7 @@ pub extern "C" fn slatedb_builder_add(
 ) -> u8
     ensures { λ r. ⌜ AddsFlat (now (builder .entry)) (now («last_key» .entry)) (now («data» .entry)) (now (restarts .entry)) (now (key .entry)) (now (value .entry)) (now (fields .entry)) r (now (builder .exit)) (now («last_key» .exit)) (now («data» .exit)) (now (restarts .exit)) ⌝ }
 {
-    let loaded = builder_words::offer_in(builder, last_key, fields);
-    let OfferRead::Is { state: s, row } = loaded else {
-        return block_words::BAD_WORDS;
-    };
-    let grown = build_in_place_v2::add_in_place(last_key, s, data, restarts, key, value, row);
-    put_grown(builder, grown)
+    add_words::add(builder, last_key, data, restarts, key, value, fields)
 }
 
 // Whether there is no row: 254.
@@ -257,48 +232,6 @@ pub extern "C" fn slatedb_is_empty(block: &[u8], cursor: &[u64], empty: &mut u64
     }
 }
 
-// Puts the cursor that moved back, and the row that was found.
-fn put_moved(cursor: &mut [u64], row: &mut [u64], moved: Moved) -> u8
-    requires { ⌜ (length (now cursor) ≡ cursorCount) × (length (now row) ≡ rowCount) ⌝ }
-    ensures { λ r. ⌜ PutsMoved moved (now (cursor .entry)) (now (row .entry)) r (now (cursor .exit)) (now (row .exit)) ⌝ }
-{
-    match moved {
-        Moved::Found {
-            place,
-            region,
-            number,
-            row: found,
-        } => {
-            block_words::put_cursor(cursor, place);
-            row_words::put_row(row, region, number, found);
-            block_words::GOOD
-        }
-        Moved::Done(place) => {
-            block_words::put_cursor(cursor, place);
-            block_words::DONE
-        }
-        Moved::Refused(refusal) => basics::number(refusal),
-    }
-}
-
-// One step in place, of any row: what is left where it is not plain.
-fn next_words(
-    block: &[u8],
-    cursor: &mut [u64],
-    key: &mut [u8],
-    out: &mut [u8],
-    row: &mut [u64],
-) -> u8
-    ensures { λ r. ⌜ StepsFlat (now (block .entry)) (now (cursor .entry)) (now (key .entry)) (now (out .entry)) (now (row .entry)) r (now (cursor .exit)) (now (key .exit)) (now (out .exit)) (now (row .exit)) ⌝ }
-{
-    let loaded = block_words::step_in(cursor, key, row);
-    let CursorRead::Is(p) = loaded else {
-        return block_words::BAD_WORDS;
-    };
-    let moved = step_in_place_v2::next_in_place(key, p, block, out);
-    put_moved(cursor, row, moved)
-}
-
 // One step, in place: 254, 14, 18, then done, 15, 18, the row's, 18 for a descending cursor's number, 19. Good gives the row with its region and its number there,
 // and its key to the start of `out`.
 #[no_mangle]
@@ -311,20 +244,7 @@ pub extern "C" fn slatedb_next(
 ) -> u8
     ensures { λ r. ⌜ StepsFlat (now (block .entry)) (now (cursor .entry)) (now (key .entry)) (now (out .entry)) (now (row .entry)) r (now (cursor .exit)) (now (key .exit)) (now (out .exit)) (now (row .exit)) ⌝ }
 {
-    // 254 before all else; so the lengths are known to the compiler where the plain step and the rest of the step are.
-    if row.len() != row_words::ROW_WORDS {
-        return block_words::BAD_WORDS;
-    }
-    if key.len() != basics::MAX_KEY {
-        return block_words::BAD_WORDS;
-    }
-    if cursor.len() != block_words::CURSOR_WORDS {
-        return block_words::BAD_WORDS;
-    }
-    if words_plain::plain_next(block, cursor, key, out, row) {
-        return block_words::GOOD;
-    }
-    next_words(block, cursor, key, out, row)
+    step_words::next(block, cursor, key, out, row)
 }
 
 // Many steps, in place, as many as `rows` has whole rows' words for: 254, then what the first step answers, unless it finds a row. Good gives `count` rows, their
@@ -343,26 +263,6 @@ pub extern "C" fn slatedb_next_rows(
     block_rows_v2::next_rows(block, cursor, key, keys, rows, count)
 }
 
-// Puts the cursor that was sought back, and how many restart keys the search read.
-fn put_found(cursor: &mut [u64], reads: &mut u64, found: Found) -> u8
-    requires { ⌜ length (now cursor) ≡ cursorCount ⌝ }
-    ensures { λ r. ⌜ PutsFound found (now (cursor .entry)) (now (reads .entry)) r (now (cursor .exit)) (now (reads .exit)) ⌝ }
-{
-    match found {
-        Found::Landed { place, reads: n } => {
-            block_words::put_cursor(cursor, place);
-            *reads = n as u64;
-            block_words::GOOD
-        }
-        Found::Done { place, reads: n } => {
-            block_words::put_cursor(cursor, place);
-            *reads = n as u64;
-            block_words::DONE
-        }
-        Found::Refused(refusal) => basics::number(refusal),
-    }
-}
-
 // Moves the cursor to the target, in its own order: 254, 14, and what the search and the walk meet. `reads`: how many restart keys the search read, set for done too.
 #[no_mangle]
 pub extern "C" fn slatedb_seek(
@@ -374,13 +274,5 @@ pub extern "C" fn slatedb_seek(
 ) -> u8
     ensures { λ r. ⌜ SeeksFlat (now (block .entry)) (now (target .entry)) (now (cursor .entry)) (now (key .entry)) (now (reads .entry)) r (now (cursor .exit)) (now (key .exit)) (now (reads .exit)) ⌝ }
 {
-    if key.len() != basics::MAX_KEY {
-        return block_words::BAD_WORDS;
-    }
-    let loaded = block_words::cursor_in(cursor);
-    let CursorRead::Is(p) = loaded else {
-        return block_words::BAD_WORDS;
-    };
-    let found = seek_in_place_v2::seek_in_place(key, p, block, target);
-    put_found(cursor, reads, found)
+    seek_words::seek(block, target, cursor, key, reads)
 }

@@ -3,10 +3,10 @@
 use mathlib.Core.Path.{ap, sym, _∙_}
 use Rattle.step_in_place_v2.specs.declared.Moved.{Moved}
 use Rattle.row_words.proofs.Laws.{stored}
-use Rattle.slatedb_block.specs.Says.{movedCode, movedWords, movedRow}
+use Rattle.step_words.specs.Says.{movedCode, movedWords, movedRow}
 use borrow.Author.Needs.{needs}
-use Rattle.slatedb_block.proofs.put_moved.Statement.{statement}
-use Rattle.slatedb_block.proofs.put_moved.Tie as tie
+use Rattle.step_words.proofs.put_moved.Statement.{statement}
+use Rattle.step_words.proofs.put_moved.Tie as tie
 
 returns : tie.Need-returns
 returns c =

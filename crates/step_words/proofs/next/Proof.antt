@@ -5,8 +5,8 @@ use Rattle.block_words.proofs.Laws.{cursor-short}
 use Rattle.block_words.proofs.Steps.{steps-no-row, steps-no-key, steps-no-cursor}
 use Rattle.words_plain.proofs.Laws.{steps-made, steps-unmade, steps-after}
 use borrow.Author.Needs.{needs}
-use Rattle.slatedb_block.proofs.slatedb_next.Statement.{statement}
-use Rattle.slatedb_block.proofs.slatedb_next.Tie as tie
+use Rattle.step_words.proofs.next.Statement.{statement}
+use Rattle.step_words.proofs.next.Tie as tie
 
 returns : tie.Need-returns
 returns c = let start = c .before .before .before .before .before .before in
@@ -28,8 +28,8 @@ returns-5 : tie.Need-returns-5
 returns-5 c = let start = c .before .before .before .before .before .before .before .before .before .before .before .before .before .before .before .before .before .before .before .before .before .before .before .before .before .before .before .before .before .before .before .before .before .before .before in
     steps-after (start .args .block .now) (steps-unmade (start .args .block .now) (start .args .cursor .now) (start .args .key .now) (start .args .out .now) (start .args .row .now) (c .before .before .before .before .before .before .before .before .before .before .before .before .before .before .before .before .before .before .before .before .before .before .plain-next .ensures) (c .before .before .before .before .before .before .before .before .before .before .before .before .before .if4 .left)) (c .before .before .before .before .before .before .before .before .next-words .ensures)
 
-pub slatedb-next-spec : {M : Type 1} → statement M
-slatedb-next-spec =
+pub next-spec : {M : Type 1} → statement M
+next-spec =
     tie.close
     (tie.spec
     returns returns-2 returns-3 (λ c κs. search needs) (λ c. search needs) (λ c. search needs)

@@ -4,10 +4,10 @@ use Rattle.basics.specs.Answers.{yes}
 use Rattle.builder_words.specs.Says.{saysOffer}
 use Rattle.builder_words.proofs.Starts.{Offers, offer-tells}
 use Rattle.builder_words.proofs.Adds.{adds-bad}
-use Rattle.slatedb_block.proofs.Rows.{adds-put}
+use Rattle.add_words.proofs.Rows.{adds-put}
 use borrow.Author.Needs.{needs}
-use Rattle.slatedb_block.proofs.slatedb_builder_add.Statement.{statement}
-use Rattle.slatedb_block.proofs.slatedb_builder_add.Tie as tie
+use Rattle.add_words.proofs.add.Statement.{statement}
+use Rattle.add_words.proofs.add.Tie as tie
 
 abbrev entry : tie.After-offer-in → tie.Start
 entry k = k .before .before .before .before .before .before .before .before .before .before
@@ -35,8 +35,8 @@ returns-2 c =
     let o = offered known in
     adds-put (s .builder .now) (s .last-key .now) _ _ (s .key .now) (s .value .now) (s .fields .now) (known .loaded .given .0 .1 .0) (o .six) (o .long) (o .fields) _ _ _ _ (rw (o .state) at (after-add-in-place .add-in-place .ensures)) (after-put-grown .put-grown .ensures)
 
-pub slatedb-builder-add-spec : {M : Type 1} → statement M
-slatedb-builder-add-spec =
+pub add-spec : {M : Type 1} → statement M
+add-spec =
     tie.close
     (tie.spec
     (λ c κs. search needs) (λ c. search needs) (λ c. search needs) (λ c. search needs) (λ c. search needs)

@@ -3,10 +3,10 @@
 use mathlib.Core.Path.{ap, sym, _∙_}
 use Rattle.build_in_place_v2.specs.declared.Grown.{Grown}
 use Rattle.row_words.proofs.Laws.{stored}
-use Rattle.slatedb_block.specs.Says.{grownCode, grownWords}
+use Rattle.add_words.specs.Says.{grownCode, grownWords}
 use borrow.Author.Needs.{needs}
-use Rattle.slatedb_block.proofs.put_grown.Statement.{statement}
-use Rattle.slatedb_block.proofs.put_grown.Tie as tie
+use Rattle.add_words.proofs.put_grown.Statement.{statement}
+use Rattle.add_words.proofs.put_grown.Tie as tie
 
 returns : tie.Need-returns
 returns c =

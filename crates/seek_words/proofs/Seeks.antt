@@ -23,8 +23,8 @@ use Rattle.seek_in_place_v2.specs.Says.{Report, reportIs, reported}
 use Rattle.seek_in_place_v2.specs.declared.Found.{Found}
 use Rattle.seek_in_place_v2.specs.declared.Found.the-variants.{Landed, Done, Refused}
 use Rattle.row_words.specs.Words.{badWords, doneCode, codeOf, cursorIn, cursorWords}
-use Rattle.slatedb_block.specs.Says.{PutsFound}
-use Rattle.slatedb_block.specs.Promise.{SeeksAs, SeeksFlat}
+use Rattle.seek_words.specs.Says.{PutsFound}
+use Rattle.seek_words.specs.Promise.{SeeksAs, SeeksFlat}
 
 -- the cursor c that was left, by its words and its key's bytes
 left : (want : Res Sought) (old c : Cursor) (o : Bool) (ws key ws′ key′ : List ℕ) (n k : ℕ) → bind want reported ≡ ok (reportIs o k) → c ≡ soughtAfter want old

@@ -21,7 +21,7 @@ use Rattle.step_in_place_v2.specs.declared.Moved.the-variants.{Found, Done, Ref
 use Rattle.place_v2.specs.declared.Place.{Place}
 use Rattle.row_words.specs.Words.{doneCode, cursorIn, cursorWords, rowWords, rowCount}
 use Rattle.block_words.specs.Exports.{StepsFlat}
-use Rattle.slatedb_block.specs.Says.{PutsMoved}
+use Rattle.step_words.specs.Says.{PutsMoved}
 use Rattle.block_words.proofs.Steps.{stepped, ended, refused, told-refused, steps-asked}
 
 module _ (b ws key out row : List ℕ) (p : Place) (h : length row ≡ rowCount) (k : length key ≡ maxKey) (is : cursorIn ws key ≡ ok (viewIn p key)) where

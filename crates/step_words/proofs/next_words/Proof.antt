@@ -11,10 +11,10 @@ use Rattle.block_words.specs.Says.{saysCursor}
 use Rattle.block_words.proofs.Laws.{cursor-counts}
 use Rattle.block_words.proofs.Starts.{step-tells}
 use Rattle.block_words.proofs.Steps.{steps-bad}
-use Rattle.slatedb_block.proofs.Steps.{moved-put}
+use Rattle.step_words.proofs.Steps.{moved-put}
 use borrow.Author.Needs.{needs}
-use Rattle.slatedb_block.proofs.next_words.Statement.{statement}
-use Rattle.slatedb_block.proofs.next_words.Tie as tie
+use Rattle.step_words.proofs.next_words.Statement.{statement}
+use Rattle.step_words.proofs.next_words.Tie as tie
 
 abbrev entry : tie.After-step-in → tie.Start
 entry k = k .before .before .before .before .before .before .before .before .before

@@ -3,10 +3,10 @@
 use mathlib.Core.Path.{ap, sym, _∙_}
 use Rattle.seek_in_place_v2.specs.declared.Found.{Found}
 use Rattle.row_words.proofs.Laws.{stored}
-use Rattle.slatedb_block.specs.Says.{foundCode, foundWords, foundReads}
+use Rattle.seek_words.specs.Says.{foundCode, foundWords, foundReads}
 use borrow.Author.Needs.{needs}
-use Rattle.slatedb_block.proofs.put_found.Statement.{statement}
-use Rattle.slatedb_block.proofs.put_found.Tie as tie
+use Rattle.seek_words.proofs.put_found.Statement.{statement}
+use Rattle.seek_words.proofs.put_found.Tie as tie
 
 returns : tie.Need-returns
 returns c =

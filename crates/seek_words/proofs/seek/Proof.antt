@@ -8,10 +8,10 @@ use Rattle.place_v2.specs.Says.{viewIn}
 use Rattle.row_words.specs.Words.{cursorIn, cursorCount}
 use Rattle.block_words.specs.Says.{saysCursor}
 use Rattle.block_words.proofs.Laws.{cursor-counts}
-use Rattle.slatedb_block.proofs.Seeks.{seeks-short, seeks-no-cursor, found-put}
+use Rattle.seek_words.proofs.Seeks.{seeks-short, seeks-no-cursor, found-put}
 use borrow.Author.Needs.{needs}
-use Rattle.slatedb_block.proofs.slatedb_seek.Statement.{statement}
-use Rattle.slatedb_block.proofs.slatedb_seek.Tie as tie
+use Rattle.seek_words.proofs.seek.Statement.{statement}
+use Rattle.seek_words.proofs.seek.Tie as tie
 
 abbrev entry : tie.After-loaded → tie.Start
 entry k = k .before .before .before .before .before .before .before .before .before
@@ -38,8 +38,8 @@ returns-3 c =
     let known = c .before .before .before .before .before .before .before .before .before .before in
     found-put _ _ _ _ _ (known .loaded .given .0 .0) (known .before .before .before .before .if1 .left) (cursor-read known) _ _ (c .before .before .before .before .before .before .before .seek-in-place .ensures) (c .before .before .put-found .ensures)
 
-pub slatedb-seek-spec : {M : Type 1} → statement M
-slatedb-seek-spec =
+pub seek-spec : {M : Type 1} → statement M
+seek-spec =
     tie.close
     (tie.spec
     returns (λ c κs. search needs) (λ c. search needs) (λ c. search needs) (λ c. search needs) returns-2
