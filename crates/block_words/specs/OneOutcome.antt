@@ -9,12 +9,11 @@ use Rattle.layout.specs.Res.{Res, ok, refuse, bind}
 use Rattle.layout.specs.Cursor.{Cursor, next}
 use Rattle.layout.specs.Limits.{maxKey}
 use Rattle.place_v2.specs.declared.Place.{Place}
-use Rattle.block_iterator_v2.specs.declared.BlockIteratorV2.{BlockIteratorV2}
 use Rattle.block_words.specs.declared.OrderRead.{OrderRead}
 use Rattle.block_words.specs.declared.CursorRead.{CursorRead}
 use Rattle.row_words.specs.Words.{counted, cursorIn, rowCount}
 use Rattle.block_words.specs.Says.{saysOrdered-one, saysCursor-one}
-use Rattle.block_words.specs.Promise.{LoadsOrder, LoadsCursor, PutsCursor, PutsIterator, LoadsStep}
+use Rattle.block_words.specs.Promise.{LoadsOrder, LoadsCursor, PutsCursor, LoadsStep}
 use Rattle.block_words.specs.Exports.{KeyLeft, StepsFlat}
 use Rattle.row_words.specs.OneOutcome.{stores-settled}
 
@@ -28,10 +27,6 @@ cursor-in-settled ws r q m n = saysCursor-one [] r q (m [] ∙ sym (n []))
 
 pub put-cursor-settled : (p : Place) (ws : List ℕ) (r q : Bool) (ys zs : List ℕ) → PutsCursor p ws r ys → PutsCursor p ws q zs → (r ≡ q) × (ys ≡ zs)
 put-cursor-settled p ws r q ys zs m n = stores-settled m n
-
-pub put-iterator-settled : (c : BlockIteratorV2) (ws key : List ℕ) (r q : Bool) (ys zs ks ls : List ℕ) → PutsIterator c ws key r ys ks → PutsIterator c ws key q zs ls
-    → (r ≡ q) × (ys ≡ zs) × (ks ≡ ls)
-put-iterator-settled c ws key r q ys zs ks ls m n = (m .answer ∙ sym (n .answer), m .words ∙ sym (n .words), m .bytes ∙ sym (n .bytes))
 
 -- ---- what a call starts from
 

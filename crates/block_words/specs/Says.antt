@@ -5,10 +5,8 @@ use mathlib.Core.Path.{_≡_, refl, ap, sym}
 use Rattle.layout.specs.Res.{Res, ok, refuse}
 use Rattle.layout.specs.Cursor.{Direction, Cursor}
 use Rattle.layout.specs.Laws.Res.{ok-inj}
-use Rattle.block_iterator_v2.specs.declared.BlockIteratorV2.{BlockIteratorV2}
 use Rattle.basics.specs.Answers.{apart}
 use Rattle.basics.specs.Says.{saysOrder, saysOrder-one}
-use Rattle.place_v2.specs.declared.Place.{Place}
 use Rattle.place_v2.specs.Says.{viewIn, viewIn-one}
 use Rattle.block_words.specs.declared.OrderRead.{OrderRead}
 use Rattle.block_words.specs.declared.OrderRead.the-variants.{Is as IsOrder, Bad as BadOrder}
@@ -23,9 +21,6 @@ saysOrdered BadOrder = refuse badWords
 abbrev pub saysCursor : List ℕ → CursorRead → Res Cursor
 saysCursor key (IsCursor p) = ok (viewIn p key)
 saysCursor key BadCursor = refuse badWords
-
-abbrev pub iteratorOver : Place → List ℕ → BlockIteratorV2
-iteratorOver p key = record { place = p; key = key }
 
 -- ---- one to one
 

@@ -3,9 +3,8 @@
 ghost use mathlib.Core.Path.{_≡_};
 ghost use Rattle.basics.specs.Says.{saysOrder};
 ghost use Rattle.row_words.specs.Words.{orderWord};
-ghost use Rattle.block_words.specs.Promise.{LoadsOrder, LoadsCursor, PutsCursor, PutsIterator, LoadsStep};
+ghost use Rattle.block_words.specs.Promise.{LoadsOrder, LoadsCursor, PutsCursor, LoadsStep};
 use basics::IterationOrder;
-use block_iterator_v2::BlockIteratorV2;
 use place_v2::Place;
 use row_words::TruthRead;
 
@@ -100,22 +99,6 @@ pub fn put_cursor(words: &mut [u64], p: Place) -> bool
     words[3] = p.key_len as u64;
     words[4] = row_words::truth_word(p.done);
     words[5] = p.number as u64;
-    true
-}
-
-// Stores a cursor that came by value: its words, and its key's bytes. Answers whether both were as many as they must be.
-pub fn put_iterator(cursor: &mut [u64], key: &mut [u8], c: BlockIteratorV2) -> bool
-    ensures { λ r. ⌜ PutsIterator c (now (cursor .entry)) (now (key .entry)) r (now (cursor .exit)) (now (key .exit)) ⌝ }
-{
-    if cursor.len() != CURSOR_WORDS {
-        return false;
-    }
-    if key.len() != basics::MAX_KEY {
-        return false;
-    }
-    let place = c.place;
-    put_cursor(cursor, place);
-    buf_mut::copy_in(key, 0, &c.key);
     true
 }
 

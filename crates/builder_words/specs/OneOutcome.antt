@@ -4,12 +4,11 @@ use mathlib.Core.Bool.{Bool}
 use mathlib.Core.Path.{_≡_, sym, _∙_}
 use mathlib.Core.List.{List, []}
 use Rattle.layout.specs.Key.{Key}
-use Rattle.block_v2.specs.declared.BlockBuilderV2.{BlockBuilderV2}
 use Rattle.state_v2.specs.declared.State.{State}
 use Rattle.builder_words.specs.declared.StateRead.{StateRead}
 use Rattle.builder_words.specs.declared.OfferRead.{OfferRead}
 use Rattle.builder_words.specs.Says.{saysState-one, saysOffer-one}
-use Rattle.builder_words.specs.Promise.{LoadsState, PutsState, MakesOver, LoadsOffer}
+use Rattle.builder_words.specs.Promise.{LoadsState, PutsState, LoadsOffer}
 use Rattle.builder_words.specs.Exports.{AddsFlat}
 use Rattle.row_words.specs.OneOutcome.{stores-settled}
 
@@ -18,9 +17,6 @@ state-in-settled ws r q m n = saysState-one r q (m ∙ sym n)
 
 pub put-state-settled : (s : State) (ws : List ℕ) (r q : Bool) (ys zs : List ℕ) → PutsState s ws r ys → PutsState s ws q zs → (r ≡ q) × (ys ≡ zs)
 put-state-settled s ws r q ys zs m n = stores-settled m n
-
-pub builder-over-settled : (s : State) (last : List ℕ) (r q : BlockBuilderV2) → MakesOver s last r → MakesOver s last q → r ≡ q
-builder-over-settled s last r q m n = m ∙ sym n
 
 -- ---- what a call starts from
 

@@ -3,13 +3,9 @@ use Prim.Native.Nat.{ℕ}
 use mathlib.Core.Bool.{Bool}
 use mathlib.Core.Path.{_≡_}
 use mathlib.Core.List.{List, []}
-use lib.ListN.{replicate}
 use Rattle.layout.specs.Res.{Res, ok, bind}
 use Rattle.layout.specs.Limits.{maxKey}
-use Rattle.layout.specs.Place.{afterPut}
-use Rattle.block_v2.specs.Says.{builderFrom as builderOver}
 use Rattle.state_v2.specs.Says.{viewFrom}
-use Rattle.block_v2.specs.declared.BlockBuilderV2.{BlockBuilderV2}
 use Rattle.state_v2.specs.declared.State.{State}
 use Rattle.builder_words.specs.declared.StateRead.{StateRead}
 use Rattle.builder_words.specs.declared.OfferRead.{OfferRead}
@@ -22,10 +18,6 @@ LoadsState ws r = saysState r ≡ counted ws builderCount (ok (stateIn ws))
 
 abbrev pub PutsState : State → List ℕ → Bool → List ℕ → Type 0
 PutsState s ws r ws′ = Stores builderCount (builderWords (viewFrom s [])) ws r ws′
-
--- the lent bytes lie at the start of the last key's, which are zeros; more than these are not copied
-abbrev pub MakesOver : State → List ℕ → BlockBuilderV2 → Type 0
-MakesOver s last r = r ≡ builderOver s (afterPut (replicate maxKey 0) 0 last)
 
 -- ---- what a call starts from
 

@@ -1,8 +1,7 @@
 // A builder as lent words, loaded from them and stored to them, and what a call that offers it a row starts from.
 // Words that are not as many as they must be are neither loaded nor stored to.
 ghost use mathlib.Core.Path.{_≡_};
-ghost use Rattle.builder_words.specs.Promise.{LoadsState, PutsState, MakesOver, LoadsOffer};
-use block_v2::BlockBuilderV2;
+ghost use Rattle.builder_words.specs.Promise.{LoadsState, PutsState, LoadsOffer};
 use row_flags::RowFields;
 use row_words::FieldsRead;
 use state_v2::State;
@@ -55,18 +54,6 @@ pub fn put_state(words: &mut [u64], s: State) -> bool
     words[4] = s.counter as u64;
     words[5] = s.last_key_len as u64;
     true
-}
-
-// A builder by value, with a copy of its last key: of none, where it is too long to be one.
-pub fn builder_over(s: State, last_key: &[u8]) -> BlockBuilderV2
-    ensures { λ r. ⌜ MakesOver s (now («last_key» .entry)) r ⌝ }
-{
-    let mut key = [0; basics::MAX_KEY];
-    buf_mut::copy_in(&mut key, 0, last_key);
-    BlockBuilderV2 {
-        state: s,
-        last_key: key,
-    }
 }
 
 // The builder that a row is offered to, by its words and as many bytes as the longest key has, and the row's fields.

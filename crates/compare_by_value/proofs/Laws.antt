@@ -30,7 +30,7 @@ use Rattle.block_iterator_v2.specs.declared.Next.{Next}
 use Rattle.block_iterator_v2.specs.declared.NextAnswer.the-variants.{Found as NextFound, Done as NextDone, Refused as NextRefused}
 use Rattle.row_words.specs.Words.{doneCode, builderFrom, builderWords, cursorIn, cursorWords, fieldsIn, rowWords, builderCount, rowCount}
 use Rattle.builder_words.specs.Says.{stateIn}
-use Rattle.block_words.specs.Says.{iteratorOver}
+use Rattle.by_value_words.specs.Promise.{iteratorOver}
 use Rattle.builder_words.specs.Exports.{AddsFlat}
 use Rattle.block_words.specs.Exports.{StepsFlat}
 use Rattle.builder_words.proofs.Adds.{added, unadded, addWanted, adds-asked}

@@ -5,7 +5,7 @@ ghost use lib.ListN.{length};
 ghost use Rattle.layout.specs.Limits.{maxKey};
 ghost use Rattle.builder_words.specs.Exports.{AddsFlat};
 ghost use Rattle.block_words.specs.Exports.{StepsFlat};
-ghost use Rattle.block_words.specs.Says.{iteratorOver};
+ghost use Rattle.by_value_words.specs.Promise.{iteratorOver};
 ghost use Rattle.row_words.specs.Words.{builderCount};
 ghost use Rattle.compare_by_value.specs.Says.{PutsBuilder};
 use basics::Verdict;
@@ -44,7 +44,7 @@ pub extern "C" fn slatedb_builder_add_by_value(
     let OfferRead::Is { state: s, row } = loaded else {
         return block_words::BAD_WORDS;
     };
-    let added = builder_words::builder_over(s, last_key).add(data, restarts, key, value, row);
+    let added = by_value_words::builder_over(s, last_key).add(data, restarts, key, value, row);
     let answer = added.answer;
     match answer {
         Verdict::Good => {
@@ -94,12 +94,12 @@ pub extern "C" fn slatedb_next_by_value(
             number,
             row: r,
         } => {
-            block_words::put_iterator(cursor, key, next.iterator);
+            by_value_words::put_iterator(cursor, key, next.iterator);
             row_words::put_row(row, region, number, r);
             block_words::GOOD
         }
         NextAnswer::Done => {
-            block_words::put_iterator(cursor, key, next.iterator);
+            by_value_words::put_iterator(cursor, key, next.iterator);
             block_words::DONE
         }
         NextAnswer::Refused(refusal) => basics::number(refusal),

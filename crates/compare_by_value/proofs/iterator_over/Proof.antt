@@ -1,8 +1,8 @@
 -- A place and lent key bytes become a cursor by value.
 -- The copy goes over all bytes of the new key, so that they are the lent ones.
 use mathlib.Core.Path.{refl, ap}
-use Rattle.block_words.specs.Says.{iteratorOver}
-use Rattle.block_words.proofs.Laws.{copied-whole}
+use Rattle.by_value_words.specs.Promise.{iteratorOver}
+use Rattle.by_value_words.proofs.Laws.{copied-whole}
 use borrow.Author.Needs.{needs}
 use Rattle.compare_by_value.proofs.iterator_over.Statement.{statement}
 use Rattle.compare_by_value.proofs.iterator_over.Tie as tie

@@ -3,7 +3,7 @@
 use mathlib.Core.Path.{_≡_}
 use lib.ListN.{length}
 use Rattle.layout.specs.Limits.{maxKey}
-use Rattle.block_words.proofs.Laws.{copied-whole}
+use Rattle.by_value_words.proofs.Laws.{copied-whole}
 use Rattle.row_words.proofs.Laws.{stored}
 use borrow.Author.Needs.{needs}
 use Rattle.compare_by_value.proofs.put_added.Statement.{statement}

@@ -2,7 +2,7 @@
 -- Each exit is one law of `Adds` or `Laws`.
 use Rattle.basics.specs.Answers.{yes}
 use Rattle.builder_words.specs.Says.{saysOffer}
-use Rattle.builder_words.proofs.Laws.{over-whole}
+use Rattle.by_value_words.proofs.Laws.{over-whole}
 use Rattle.builder_words.proofs.Starts.{Offers, offer-tells}
 use Rattle.builder_words.proofs.Adds.{adds-bad}
 use Rattle.compare_by_value.proofs.Laws.{adds-good, adds-turned-down}

@@ -13,8 +13,9 @@ use Rattle.block_iterator_v2.specs.Says.{viewOf}
 use Rattle.block_iterator_v2.specs.declared.BlockIteratorV2.{BlockIteratorV2}
 use Rattle.row_words.specs.Words.{cursorIn, cursorWords, rowCount}
 use Rattle.block_words.specs.Says.{saysCursor}
-use Rattle.block_words.specs.Promise.{PutsIterator}
-use Rattle.block_words.proofs.Laws.{cursor-counts, put-words, put-bytes}
+use Rattle.by_value_words.specs.Promise.{PutsIterator}
+use Rattle.block_words.proofs.Laws.{cursor-counts}
+use Rattle.by_value_words.proofs.Laws.{put-words, put-bytes}
 use Rattle.row_words.proofs.Laws.{stored}
 use Rattle.block_words.proofs.Starts.{step-tells}
 use Rattle.block_words.proofs.Steps.{steps-bad}

@@ -3,11 +3,11 @@
 use mathlib.Core.Path.{_≡_}
 use lib.ListN.{length}
 use Rattle.layout.specs.Limits.{maxKey}
-use Rattle.block_words.proofs.Laws.{copied-whole, iterator-no-words, iterator-no-key, iterator-put}
+use Rattle.by_value_words.proofs.Laws.{copied-whole, iterator-no-words, iterator-no-key, iterator-put}
 use Rattle.row_words.proofs.Laws.{stored}
 use borrow.Author.Needs.{needs}
-use Rattle.block_words.proofs.put_iterator.Statement.{statement}
-use Rattle.block_words.proofs.put_iterator.Tie as tie
+use Rattle.by_value_words.proofs.put_iterator.Statement.{statement}
+use Rattle.by_value_words.proofs.put_iterator.Tie as tie
 
 returns : tie.Need-returns
 returns c = iterator-no-words _ _ _ (c .if1 .taken)

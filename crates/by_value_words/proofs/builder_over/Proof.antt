@@ -3,8 +3,8 @@
 use mathlib.Core.Path.{ap}
 use Rattle.block_v2.specs.Says.{builderFrom}
 use borrow.Author.Needs.{needs}
-use Rattle.builder_words.proofs.builder_over.Statement.{statement}
-use Rattle.builder_words.proofs.builder_over.Tie as tie
+use Rattle.by_value_words.proofs.builder_over.Statement.{statement}
+use Rattle.by_value_words.proofs.builder_over.Tie as tie
 
 returns : tie.Need-returns
 returns c =
