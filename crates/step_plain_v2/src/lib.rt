@@ -159,13 +159,44 @@ fn copy_fours(buf: &mut [u8], at: usize, src: &[u8], from: usize, n: usize)
     copy_4(buf, at + last, src, from + last);
 }
 
-fn copy_eights(buf: &mut [u8], at: usize, src: &[u8], from: usize, n: usize)
-    requires { ⌜ (8 ≤ n) × (n ≤ 16) × (at + n ≤ length (now buf)) × (from + n ≤ length (now src)) ⌝ }
-    ensures { λ _. ⌜ now (buf .exit) ≡ splice (now (buf .entry)) at (take n (drop from (now (src .entry)))) ⌝ }
+// Eight bytes into two buffers, at one place: all are read before the first store, and once for both.
+fn both_8(key: &mut [u8], out: &mut [u8], at: usize, src: &[u8], from: usize)
+    requires { ⌜ (at + 8 ≤ length (now key)) × (at + 8 ≤ length (now out)) × (from + 8 ≤ length (now src)) ⌝ }
+    ensures { λ _. ⌜ (now (key .exit) ≡ splice (now (key .entry)) at (take 8 (drop from (now (src .entry))))) × (now (out .exit) ≡ splice (now (out .entry)) at (take 8 (drop from (now (src .entry))))) ⌝ }
+{
+    let a = src[from];
+    let b = src[from + 1];
+    let c = src[from + 2];
+    let d = src[from + 3];
+    let e = src[from + 4];
+    let f = src[from + 5];
+    let g = src[from + 6];
+    let h = src[from + 7];
+    out[at] = a;
+    out[at + 1] = b;
+    out[at + 2] = c;
+    out[at + 3] = d;
+    out[at + 4] = e;
+    out[at + 5] = f;
+    out[at + 6] = g;
+    out[at + 7] = h;
+    key[at] = a;
+    key[at + 1] = b;
+    key[at + 2] = c;
+    key[at + 3] = d;
+    key[at + 4] = e;
+    key[at + 5] = f;
+    key[at + 6] = g;
+    key[at + 7] = h;
+}
+
+fn both_eights(key: &mut [u8], out: &mut [u8], at: usize, src: &[u8], from: usize, n: usize)
+    requires { ⌜ (8 ≤ n) × (n ≤ 16) × (at + n ≤ length (now key)) × (at + n ≤ length (now out)) × (from + n ≤ length (now src)) ⌝ }
+    ensures { λ _. ⌜ (now (key .exit) ≡ splice (now (key .entry)) at (take n (drop from (now (src .entry))))) × (now (out .exit) ≡ splice (now (out .entry)) at (take n (drop from (now (src .entry))))) ⌝ }
 {
     let last = n - 8;
-    copy_8(buf, at, src, from);
-    copy_8(buf, at + last, src, from + last);
+    both_8(key, out, at, src, from);
+    both_8(key, out, at + last, src, from + last);
 }
 
 // Up to 16 bytes into two buffers, at one place: the branches are shared.
@@ -174,8 +205,7 @@ fn put_both(key: &mut [u8], out: &mut [u8], at: usize, src: &[u8], from: usize, 
     ensures { λ _. ⌜ (now (key .exit) ≡ splice (now (key .entry)) at (take n (drop from (now (src .entry))))) × (now (out .exit) ≡ splice (now (out .entry)) at (take n (drop from (now (src .entry))))) ⌝ }
 {
     if 8 <= n {
-        copy_eights(out, at, src, from, n);
-        copy_eights(key, at, src, from, n);
+        both_eights(key, out, at, src, from, n);
         return;
     }
     if 4 <= n {

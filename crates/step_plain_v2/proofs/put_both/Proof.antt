@@ -1,5 +1,5 @@
--- `put_both` keeps its promise: in each branch one copy to each buffer, of all bytes; of none nothing is
--- written.
+-- `put_both` keeps its promise: in each branch all bytes go to each buffer, of sixteen or fewer down to eight
+-- to both at once; of none nothing is written.
 use Rattle.step_plain_v2.proofs.Copies.{put-none}
 use borrow.Author.Needs.{needs}
 use Rattle.step_plain_v2.proofs.put_both.Statement.{statement}
@@ -13,6 +13,6 @@ pub put-both-spec : {M : Type 1} → statement M
 put-both-spec =
     tie.close
     (tie.spec
-    (search needs) (search needs) (search needs) (search needs) (λ c. search needs) (search needs)
+    (search needs) (search needs) (search needs) (λ c. search needs) (search needs)
     (search needs) (search needs) (search needs) (λ c. search needs) returns-3 (search needs) (search needs)
     (search needs) (search needs) (λ c. search needs))
