@@ -6,6 +6,7 @@ ghost use mathlib.Core.Bool.{cond};
 ghost use mathlib.Core.Path.{_≡_};
 ghost use Prim.Native.Nat.{_≤_, _+_};
 ghost use lib.ListN.{length, take, drop};
+ghost use Rattle.layout.specs.Number.{wrongAfter};
 ghost use Rattle.layout.specs.Place.{splice};
 ghost use Rattle.step_plain_v2.specs.Ahead.{noAhead, aheadAt, noStep, Moved};
 ghost use Rattle.step_plain_v2.specs.Promise.{StepsPlain};
@@ -67,6 +68,19 @@ fn pick(first: bool, a: usize, b: usize) -> usize
     if first { a } else { b }
 }
 
+// `wrong_after`, by a shift where that is enough: rows are seldom below sixteen bytes.
+fn wrong_here(passed: usize, number: usize) -> bool
+    ensures { λ r. ⌜ r ≡ wrongAfter passed number ⌝ }
+{
+    if number == 0 {
+        return basics::wrong_after(passed, number);
+    }
+    if number <= passed / 16 {
+        return false;
+    }
+    basics::wrong_after(passed, number)
+}
+
 // All that the step tests, with nothing written. A region that is refused ends at 0; that is tested by
 // itself, so that the compiler knows its numbers after it.
 fn look_plain(
@@ -91,7 +105,7 @@ fn look_plain(
     if at < g.start {
         return no_ahead();
     }
-    if basics::wrong_after(at - g.start, number) {
+    if wrong_here(at - g.start, number) {
         return no_ahead();
     }
     let most = pick(at == g.start, 0, key_len);

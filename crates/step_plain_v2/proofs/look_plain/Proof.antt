@@ -10,13 +10,13 @@ use Rattle.step_plain_v2.proofs.look_plain.Statement.{statement}
 use Rattle.step_plain_v2.proofs.look_plain.Tie as tie
 
 -- the places that were passed where the number is tested
-abbrev in-region : tie.After-wrong-after → tie.Else3
+abbrev in-region : tie.After-wrong-here → tie.Else3
 in-region k = k .before .before
 
-abbrev met-region : tie.After-wrong-after → tie.Else2
+abbrev met-region : tie.After-wrong-here → tie.Else2
 met-region k = in-region k .before .before
 
-abbrev numbers : tie.After-wrong-after → tie.Else1
+abbrev numbers : tie.After-wrong-here → tie.Else1
 numbers k = met-region k .before .before
 
 returns : tie.Need-returns
@@ -31,7 +31,7 @@ returns-3 c = c .no-ahead3 .ensures ∙ ahead-before _ _ _ _ _ _ _ (c .before .b
 returns-4 : tie.Need-returns-4
 returns-4 c =
     let k = c .before .before in
-    c .no-ahead4 .ensures ∙ ahead-wrong _ _ _ _ _ _ _ (numbers k .if1 .left) _ (met-region k .before .plain-region-at .ensures) (met-region k .if2 .left) (in-region k .if3 .left) (sym (k .wrong-after .ensures) ∙ c .before .if4 .taken)
+    c .no-ahead4 .ensures ∙ ahead-wrong _ _ _ _ _ _ _ (numbers k .if1 .left) _ (met-region k .before .plain-region-at .ensures) (met-region k .if2 .left) (in-region k .if3 .left) (sym (k .wrong-here .ensures) ∙ c .before .if4 .taken)
 
 slice-aggregate-plain-at : tie.Need-slice-aggregate-plain-at
 slice-aggregate-plain-at c =
@@ -42,27 +42,27 @@ returns-5 : tie.Need-returns-5
 returns-5 c =
     let row = c .before .before .before in
     let k = row .before .before .before .before .before in
-    c .no-ahead5 .ensures ∙ ahead-not _ _ _ _ _ _ _ (numbers k .if1 .left) _ (met-region k .before .plain-region-at .ensures) (met-region k .if2 .left) (in-region k .if3 .left) (sym (k .wrong-after .ensures) ∙ row .before .before .before .before .if4 .left) (row .before .before .pick .ensures) _ (row .plain-at .ensures) (c .before .if5 .taken)
+    c .no-ahead5 .ensures ∙ ahead-not _ _ _ _ _ _ _ (numbers k .if1 .left) _ (met-region k .before .plain-region-at .ensures) (met-region k .if2 .left) (in-region k .if3 .left) (sym (k .wrong-here .ensures) ∙ row .before .before .before .before .if4 .left) (row .before .before .pick .ensures) _ (row .plain-at .ensures) (c .before .if5 .taken)
 
 add-if6 : tie.Need-add-if6
 add-if6 c =
     let row = c .before .before .before in
     let k = row .before .before .before .before .before in
     let a = numbers k .before .before .args in
-    let w = ahead-tells (a .block .now) (a .region) (a .at) (a .number) (a .key-len) (a .held) (a .room) (numbers k .if1 .left) _ (met-region k .before .plain-region-at .ensures) (met-region k .if2 .left) (in-region k .if3 .left) (sym (k .wrong-after .ensures) ∙ row .before .before .before .before .if4 .left) (row .before .before .pick .ensures) _ (row .plain-at .ensures) (c .before .if5 .left) in
+    let w = ahead-tells (a .block .now) (a .region) (a .at) (a .number) (a .key-len) (a .held) (a .room) (numbers k .if1 .left) _ (met-region k .before .plain-region-at .ensures) (met-region k .if2 .left) (in-region k .if3 .left) (sym (k .wrong-here .ensures) ∙ row .before .before .before .before .if4 .left) (row .before .before .pick .ensures) _ (row .plain-at .ensures) (c .before .if5 .left) in
     omega (arith, w .shared-small, w .unshared-small)
 
 returns-6 : tie.Need-returns-6
 returns-6 c =
     let row = c .before .before .before .before .before in
     let k = row .before .before .before .before .before in
-    c .no-ahead6 .ensures ∙ ahead-narrow _ _ _ _ _ _ _ (numbers k .if1 .left) _ (met-region k .before .plain-region-at .ensures) (met-region k .if2 .left) (in-region k .if3 .left) (sym (k .wrong-after .ensures) ∙ row .before .before .before .before .if4 .left) (row .before .before .pick .ensures) _ (row .plain-at .ensures) (c .before .before .before .if5 .left) (c .before .if6 .taken)
+    c .no-ahead6 .ensures ∙ ahead-narrow _ _ _ _ _ _ _ (numbers k .if1 .left) _ (met-region k .before .plain-region-at .ensures) (met-region k .if2 .left) (in-region k .if3 .left) (sym (k .wrong-here .ensures) ∙ row .before .before .before .before .if4 .left) (row .before .before .pick .ensures) _ (row .plain-at .ensures) (c .before .before .before .if5 .left) (c .before .if6 .taken)
 
 returns-7 : tie.Need-returns-7
 returns-7 c =
     let row = c .before .before .before .before in
     let k = row .before .before .before .before .before in
-    ahead-good _ _ _ _ _ _ _ (numbers k .if1 .left) _ (met-region k .before .plain-region-at .ensures) (met-region k .if2 .left) (in-region k .if3 .left) (sym (k .wrong-after .ensures) ∙ row .before .before .before .before .if4 .left) (row .before .before .pick .ensures) _ (row .plain-at .ensures) (c .before .before .if5 .left) (c .if6 .left)
+    ahead-good _ _ _ _ _ _ _ (numbers k .if1 .left) _ (met-region k .before .plain-region-at .ensures) (met-region k .if2 .left) (in-region k .if3 .left) (sym (k .wrong-here .ensures) ∙ row .before .before .before .before .if4 .left) (row .before .before .pick .ensures) _ (row .plain-at .ensures) (c .before .before .if5 .left) (c .if6 .left)
 
 pub look-plain-spec : {M : Type 1} → statement M
 look-plain-spec =
