@@ -4,7 +4,7 @@ use mathlib.Core.Bool.{cond}
 use mathlib.Core.Path.{_≡_, refl, sym, ap, _∙_}
 use lib.Dec.{eqb}
 use Rattle.basics.specs.declared.Refusal.{Refusal}
-use Rattle.basics.specs.declared.Refusal.the-variants.{EmptyKey, KeyTooLong, ValueTooLong, RowDoesNotFit, RestartTooFar, BufferTooSmall, EmptyBlock, BadSettings, InputEnds, VarintTooLarge, UnknownFlags, TombstoneWithMerge, BadShare, BadTrailer, BadOffset, RowPastRegion, KeyFalls, BadState, KeyBufferTooShort}
+use Rattle.basics.specs.declared.Refusal.the-variants.{EmptyKey, KeyTooLong, ValueTooLong, RowDoesNotFit, RestartTooFar, BufferTooSmall, EmptyBlock, BadSettings, InputEnds, VarintTooLarge, UnknownFlags, TombstoneWithMerge, BadShare, BadTrailer, BadOffset, RowPastRegion, KeyFalls, BadState, KeyBufferTooShort, RowEndsEarly}
 
 abbrev pub number : Refusal → ℕ
 number EmptyKey = 1
@@ -26,8 +26,9 @@ number RowPastRegion = 16
 number KeyFalls = 17
 number BadState = 18
 number KeyBufferTooShort = 19
+number RowEndsEarly = 20
 
--- the refusal of a number from 1 to 19
+-- the refusal of a number from 1 to 20
 abbrev named : ℕ → Refusal
 named n =
     cond (eqb n 1) EmptyKey
@@ -47,7 +48,8 @@ named n =
     (cond (eqb n 15) BadOffset
     (cond (eqb n 16) RowPastRegion
     (cond (eqb n 17) KeyFalls
-    (cond (eqb n 18) BadState KeyBufferTooShort)))))))))))))))))
+    (cond (eqb n 18) BadState
+    (cond (eqb n 19) KeyBufferTooShort RowEndsEarly))))))))))))))))))
 
 named-number : (r : Refusal) → named (number r) ≡ r
 named-number EmptyKey = refl
@@ -69,6 +71,7 @@ named-number RowPastRegion = refl
 named-number KeyFalls = refl
 named-number BadState = refl
 named-number KeyBufferTooShort = refl
+named-number RowEndsEarly = refl
 
 pub number-one : (a b : Refusal) → number a ≡ number b → a ≡ b
 number-one a b e = sym (named-number a) ∙ ap named e ∙ named-number b

@@ -42,6 +42,8 @@ pub enum Refusal {
     BadState,
     // 19: the lent key buffer is shorter than the key
     KeyBufferTooShort,
+    // 20: a row of the earlier format ends before the next one starts, or before the data's end
+    RowEndsEarly,
 }
 
 pub fn number(r: Refusal) -> u8
@@ -67,6 +69,7 @@ pub fn number(r: Refusal) -> u8
         Refusal::KeyFalls => 17,
         Refusal::BadState => 18,
         Refusal::KeyBufferTooShort => 19,
+        Refusal::RowEndsEarly => 20,
     }
 }
 

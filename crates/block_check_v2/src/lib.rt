@@ -7,12 +7,10 @@ ghost use Prim.Native.Nat.{_<_};
 ghost use lib.ListN.{length};
 ghost use Rattle.layout.specs.Res.{ok};
 ghost use Rattle.layout.specs.Trailer.{trailerOf, allOffsets};
-ghost use Rattle.layout.specs.Laws.Order.{mayBy};
-ghost use Rattle.keys.specs.Says.{saysOrdering};
 ghost use Rattle.trailer.specs.Says.{trailerFrom};
 ghost use Rattle.block_check_v2.specs.Says.{saysChecked};
 ghost use Rattle.block_check_v2.specs.Walk.{rowsOf, Stands, Leaves, Tries};
-ghost use Rattle.block_check_v2.specs.Promise.{Checks};
+ghost use Rattle.block_check_v2.specs.Promise.{Checks, MayFollow};
 use basics::Refusal;
 use basics::Verdict;
 use keys::Ordering;
@@ -51,8 +49,8 @@ enum Tried {
 
 // Whether a row may stand after one whose sequence number is `before`, by how its key stands to that one's: of equal keys the
 // newest stands first.
-fn may_follow(order: Ordering, before: u64, seq: u64) -> bool
-    ensures { λ r. ⌜ r ≡ mayBy (saysOrdering order) before seq ⌝ }
+pub fn may_follow(order: Ordering, before: u64, seq: u64) -> bool
+    ensures { λ r. ⌜ MayFollow order before seq r ⌝ }
 {
     match order {
         Ordering::Less => false,

@@ -13,12 +13,13 @@ use Rattle.layout.specs.Key.{Key, same, compare, Ordering}
 use Rattle.layout.specs.RowRead.{KeyRead, readKey}
 use Rattle.layout.specs.Trailer.{Trailer, trailerOf, dataOf, Region, regionOf}
 use Rattle.layout.specs.Cursor.{Direction, ascending, descending, Cursor}
-use Rattle.layout.specs.Seek.{Found, middle, restartKey, restartBelow, searchRestarts, lastEqual, startDown, walkUp, walkDown, soughtIs, seekAlong, seek}
+use Rattle.layout.specs.Seek.{Found, restartKey, restartBelow, searchRestarts, lastEqual, startDown, walkUp, walkDown, soughtIs, seekAlong, seek}
 use Rattle.layout.specs.Laws.Res.{bind-then, ok-inj}
 use Rattle.layout.specs.Laws.Trailer.{trailerOf-tells}
-use Rattle.layout.specs.Laws.Seek.{restart-region, restart-no, restart-is, below-no, below-is, searchFrom, search-whole, from-no, from-up, from-down, Running, running-over, running-no, running-ends, running-more, start-past, start-no, start-earlier, start-run, up-from, down-no as fall-no, down-from, seek-search, seek-no, seek-is}
+use Rattle.layout.specs.Laws.Seek.{restart-region, restart-no, restart-is, below-no, below-is, searchFrom, search-whole, Running, running-over, running-no, running-ends, running-more, start-past, start-no, start-earlier, start-run, up-from, down-no as fall-no, down-from, seek-search, seek-no, seek-is}
 use Rattle.layout.specs.Laws.Compare.{isLess, isEqual, compare-less-below, compare-equal-same}
-use Rattle.layout.specs.Laws.Restart.{readKey-ends, middle-is, search-inside, start-inside}
+use Rattle.layout.specs.Laws.Restart.{readKey-ends, search-inside, start-inside}
+use Rattle.layout.specs.Laws.Search.{on-no, on-up, on-down}
 use Rattle.basics.specs.Answers.{apart}
 use Rattle.trailer.specs.Laws.{handed-known, handed-tells}
 use Rattle.block_restarts_v2.specs.declared.Start.{Start}
@@ -73,17 +74,17 @@ module _ (b : List ℕ) (t : Trailer) (i : ℕ) (target : Key) where
 
 module _ (b : List ℕ) (t : Trailer) (target : Key) (low high reads : ℕ) (h : low < high) where
   pub halved-no : {n : ℕ} → restartCompared b t target (low + (high - low) / 2) ≡ refuse n → refuse n ≡ searchFrom b t target low high reads
-  halved-no e = from-no b t target low high reads h (rw (middle-is low high) (below-no b t _ target (key-refused b t _ target e)))
+  halved-no e = on-no (restartBelow b t target) low high reads h (below-no b t _ target (key-refused b t _ target e))
 
   module _ {o : Ordering} (e : restartCompared b t target (low + (high - low) / 2) ≡ ok o) where
-    middle-below : {y : Bool} → isLess o ≡ y → restartBelow b t target (middle low high) ≡ ok y
-    middle-below w = rw (middle-is low high) (key-below b t _ target e ∙ ap ok w)
+    middle-below : {y : Bool} → isLess o ≡ y → restartBelow b t target (low + (high - low) / 2) ≡ ok y
+    middle-below w = key-below b t _ target e ∙ ap ok w
 
     pub halved-up : {x : Res Found} → isLess o ≡ true → x ≡ searchFrom b t target (low + (high - low) / 2 + 1) high (reads + 1) → x ≡ searchFrom b t target low high reads
-    halved-up w q = q ∙ (rw (middle-is low high) at (from-up b t target low high reads h (middle-below w)))
+    halved-up w q = on-up (restartBelow b t target) low high reads h (middle-below w) q
 
     pub halved-down : {x : Res Found} → isLess o ≡ false → x ≡ searchFrom b t target low (low + (high - low) / 2) (reads + 1) → x ≡ searchFrom b t target low high reads
-    halved-down w q = q ∙ (rw (middle-is low high) at (from-down b t target low high reads h (middle-below w)))
+    halved-down w q = on-down (restartBelow b t target) low high reads h (middle-below w) q
 
 -- ---- the run of restarts equal to the target, with the count that it carries
 

@@ -1,5 +1,5 @@
 -- What each public function promises: equations to the definitions of `layout`, that settle each number answered.
-use Prim.Native.Nat.{ℕ}
+use Prim.Native.Nat.{ℕ, _^_, _<_}
 use mathlib.Core.Path.{_≡_}
 use mathlib.Core.List.{List}
 use Rattle.layout.specs.Res.{Res, ok, refuse}
@@ -28,3 +28,11 @@ orZero (refuse n) = 0
 
 abbrev pub ReadsEight : List ℕ → ℕ → ℕ → Type 0
 ReadsEight s at r = r ≡ orZero (fixedAt 8 s at)
+
+-- ---- numbers of fewer bytes: n of them spell a number below 256 ^ n
+
+abbrev pub ReadsNarrow : ℕ → List ℕ → ℕ → WordRead → Type 0
+ReadsNarrow n s at r = (saysWord r ≡ fixedAt n s at) × (orZero (saysWord r) < 256 ^ n)
+
+abbrev pub ReadsBytes : ℕ → List ℕ → ℕ → ℕ → Type 0
+ReadsBytes n s at r = (r ≡ orZero (fixedAt n s at)) × (r < 256 ^ n)

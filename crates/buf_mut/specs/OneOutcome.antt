@@ -18,6 +18,9 @@ module _ (buf : List ℕ) (at : ℕ) (r q : Put) (ys zs : List ℕ) where
   pub put-u16-settled : (v : ℕ) → Puts (big 2 v) buf at r ys → Puts (big 2 v) buf at q zs → (r ≡ q) × (ys ≡ zs)
   put-u16-settled v = puts-settled (big 2 v) buf at r q ys zs
 
+  pub put-u32-settled : (v : ℕ) → Puts (big 4 v) buf at r ys → Puts (big 4 v) buf at q zs → (r ≡ q) × (ys ≡ zs)
+  put-u32-settled v = puts-settled (big 4 v) buf at r q ys zs
+
   pub put-u64-settled : (v : ℕ) → Puts (big 8 v) buf at r ys → Puts (big 8 v) buf at q zs → (r ≡ q) × (ys ≡ zs)
   put-u64-settled v = puts-settled (big 8 v) buf at r q ys zs
 

@@ -57,6 +57,13 @@ pub fn put_u16(buf: &mut [u8], at: usize, v: u16) -> Put
     put_be(buf, at, v as u64, 2)
 }
 
+// Writes `v` at `at` in four bytes, high byte first.
+pub fn put_u32(buf: &mut [u8], at: usize, v: u32) -> Put
+    ensures { λ r. ⌜ Puts (big 4 v) (now (buf .entry)) at r (now (buf .exit)) ⌝ }
+{
+    put_be(buf, at, v as u64, 4)
+}
+
 // Writes `v` at `at` in eight bytes, high byte first.
 pub fn put_u64(buf: &mut [u8], at: usize, v: u64) -> Put
     ensures { λ r. ⌜ Puts (big 8 v) (now (buf .entry)) at r (now (buf .exit)) ⌝ }

@@ -24,11 +24,10 @@ use Rattle.layout.specs.Laws.Splice.{Wrote, wrote-then, wrote-length, wrote-set
 use Rattle.basics.specs.Says.{saysKind, saysTime}
 use Rattle.buf_mut.specs.declared.Put.{Put}
 use Rattle.buf_mut.specs.Promise.{Puts}
-use Rattle.buf_mut.proofs.Laws.{copied}
+use Rattle.buf_mut.proofs.Laws.{copied, room-first, room-next}
 use Rattle.row_flags.specs.Promise.{Flagged}
 use Rattle.row_flags.specs.Says.{fieldsFrom}
 use Rattle.row_flags.specs.declared.RowFields.{RowFields}
-use Rattle.row_size_v2.proofs.Writes.{room-first, room-next}
 use Rattle.build_in_place_v2.specs.Plan.{Fitting, plainBody, plainBytes, PlainFits}
 
 -- ---- flags of 0

@@ -18,20 +18,19 @@ use Rattle.layout.specs.Limits.{maxKey, maxOffset}
 use Rattle.layout.specs.Place.{splice}
 use Rattle.layout.specs.Row.{Fields, ifSo, rowBytes, valueOf, lengthTests, encodeRow}
 use Rattle.layout.specs.RowRead.{mayShare}
-use Rattle.layout.specs.Laws.Res.{ok-inj}
 use Rattle.layout.specs.Laws.Block.{shares-is}
 use Rattle.layout.specs.Laws.Builder.{StateOk}
 use Rattle.layout.specs.Laws.Building.{laidRow-bytes, fit-tells, add-fit}
 use Rattle.layout.specs.Laws.Made.{Accepted, add-tells}
 use Rattle.layout.specs.Laws.RowExits.{encode-is}
-use Rattle.layout.specs.Laws.Splice.{Wrote, wrote-rest}
-use Rattle.basics.specs.Answers.{apart}
+use Rattle.layout.specs.Laws.Splice.{Wrote}
 use Rattle.basics.specs.Number.{number}
 use Rattle.basics.specs.declared.Refusal.{Refusal}
 use Rattle.basics.specs.declared.Refusal.the-variants.{BadState}
 use Rattle.buf_mut.specs.Promise.{Puts}
 use Rattle.buf_mut.specs.declared.Put.{Put}
 use Rattle.buf_mut.proofs.Laws.{copied}
+use Rattle.row_encode_v2.proofs.Rest.{laid-rest, laid-not}
 use Rattle.row_encode_v2.specs.Promise.{Encodes}
 use Rattle.row_flags.specs.Says.{fieldsFrom}
 use Rattle.row_encode_v2.specs.declared.Encoded.{Encoded}
@@ -130,12 +129,10 @@ module _ (bytes : List ℕ) (used lastLen shared : ℕ) (key value : List ℕ) (
 
   module _ {e : Encoded} {part : List ℕ} (q : Encodes lastLen shared suffix value row rest e part) where
     pub row-wrote : {n : ℕ} → e ≡ EncodedBytes n → Wrote bytes used (rowBytes shared (drop shared key) (fieldsFrom row value)) (putMid used (length bytes - used) bytes part) (used + n)
-    row-wrote {n} t =
-        let m : n ≡ length (rowBytes shared (drop shared key) (fieldsFrom row value)) = ok-inj (rw (encodes, t) at (q .answer)) in
-        wrote-rest bytes used (used + n) (rowBytes shared (drop shared key) (fieldsFrom row value)) part (w .room) (omega arith) (rw encodes at (q .bytes))
+    row-wrote t = laid-rest bytes used encodes (w .room) q t
 
     pub row-refused : {x : Refusal} → e ≡ EncodedRefused x → ⊥
-    row-refused t = apart (sym (rw (encodes, t) at (q .answer)))
+    row-refused t = laid-not bytes used encodes (w .room) q t
 
 -- ---- the lent bytes of the last key
 

@@ -5,20 +5,20 @@
 -- their places. A key buffer is asked that is no shorter than any key (`RoomFor`): one as long as the key limit is (`room-enough`). The proofs are in Proof2.
 use Prim.Native.Nat.{ℕ, _<_, _≤_}
 use mathlib.Core.Path.{_≡_, ap, sym, _∙_}
-use mathlib.Core.Bool.{true, false}
 use mathlib.Core.List.{List, []}
 use lib.ListN.{length, getD}
 use Rattle.layout.specs.Res.{ok, refuse}
 use Rattle.layout.specs.Limits.{maxKey, maxRestarts}
-use Rattle.layout.specs.Key.{Key, below, noRank, Rising, firstAtOrAbove, firstAbove}
+use Rattle.layout.specs.Key.{Key, noRank, Rising}
 use Rattle.layout.specs.Row.{Fields, Row, encodeRow, Typed}
 use Rattle.layout.specs.Trailer.{Trailer}
 use Rattle.layout.specs.Check.{check}
 use Rattle.layout.specs.Cursor.{ascending, Cursor, openedUp, openedDown, Keyed, found, stepIs, next}
 use Rattle.layout.specs.Seek.{Sought, soughtIs, seek}
 use Rattle.demands.specs.Reads.{Accepts, keysOf}
-use Rattle.demands.specs.Runs.{Lending, Call, Ran, Finishes, RoomFor, backwards, GivesFirst}
-use Rattle.demands.specs.Rows.{DecodesBack, Rows, BothWays, SoughtUp, SoughtDown, FoundFirst, offeredRanks}
+use Rattle.demands.specs.Lends.{Call}
+use Rattle.demands.specs.Runs.{Lending, Ran, Finishes, RoomFor, backwards, GivesFirst}
+use Rattle.demands.specs.Rows.{DecodesBack, Rows, BothWays, SoughtUp, SoughtDown, PartsBelow, PartsAbove, FoundFirst, offeredRanks}
 use Rattle.demands.specs.RunsProof.{walks-first}
 use Rattle.demands.specs.Proof3.{encode-tells, ran-laid}
 use Rattle.demands.specs.Proof2.{decodes-back, rows-walked, accepted-rows, rows-room, sought-up, sought-down, first-splits, last-splits, retry-present, retry-absent, restarts-few, laid-accepted, laid-verdict, accepted-laid}
@@ -55,13 +55,11 @@ module _ (b : List ℕ) (n : ℕ) (t : Trailer) (rows : List Keyed) (q : Rows b 
       (walks-first b maxKey rooms openedUp rows (w .forwards), walks-first b maxKey rooms (openedDown b t) (backwards rows) (w .back))
 
   -- Its keys never fall, so "the first at or above the target" parts its rows: those before it are below the target, and no row from it on is.
-  pub first-at-or-above : (target : Key) (i : ℕ) → i < length rows
-      → (i < firstAtOrAbove target (keysOf rows) → below (getD (keysOf rows) i []) target ≡ true) × (firstAtOrAbove target (keysOf rows) ≤ i → below (getD (keysOf rows) i []) target ≡ false)
+  pub first-at-or-above : (target : Key) (i : ℕ) → i < length rows → PartsBelow target rows i
   first-at-or-above target i h = first-splits target rows (q .in-order) i h
 
   -- And so does "the last at or below", which is the one before the first above: no row up to it is above the target, and every row after it is.
-  pub last-at-or-below : (target : Key) (i : ℕ) → i < length rows
-      → (i < firstAbove target (keysOf rows) → below target (getD (keysOf rows) i []) ≡ false) × (firstAbove target (keysOf rows) ≤ i → below target (getD (keysOf rows) i []) ≡ true)
+  pub last-at-or-below : (target : Key) (i : ℕ) → i < length rows → PartsAbove target rows i
   last-at-or-below target i h = last-splits target rows (q .in-order) i h
 
 module _ (b : List ℕ) (n : ℕ) (t : Trailer) (rows : List Keyed) (q : Rows b n t rows) (room : ℕ) (fits : RoomFor room rows) where

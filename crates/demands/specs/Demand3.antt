@@ -15,7 +15,8 @@ use Rattle.layout.specs.Block.{blockBytes}
 use Rattle.layout.specs.Trailer.{Trailer, dataOf}
 use Rattle.layout.specs.Cursor.{ascending, descending, openedUp, openedDown, openBlock, Keyed}
 use Rattle.demands.specs.Reads.{contentOf}
-use Rattle.demands.specs.Runs.{Lending, Call, Ran, Finishes, backwards, WalksAll, GivesFirst, KeysFit}
+use Rattle.demands.specs.Lends.{Call}
+use Rattle.demands.specs.Runs.{Lending, Ran, Finishes, backwards, WalksAll, GivesFirst, KeysFit}
 use Rattle.demands.specs.RunsProof.{walks-first}
 use Rattle.demands.specs.Proof3.{ran-finishes, ran-laid, ran-fits, same-rows, ReadsBack, laid-reads-back, encode-tells, encoded-differ, decoded-differ}
 

@@ -10,7 +10,7 @@ use mathlib.Core.Logic.{⊎-elim}
 use native.Mathlib.Omega.{arith}
 use lib.ListN.{length, length-map, getD}
 use Rattle.layout.specs.Res.{ok}
-use Rattle.layout.specs.Key.{Rank, rankIs, noRank, mayFollow}
+use Rattle.layout.specs.Key.{Rank, rankIs, noRank, mayFollow, Rising}
 use Rattle.layout.specs.Trailer.{Trailer}
 use Rattle.layout.specs.Check.{check}
 use Rattle.layout.specs.Cursor.{Keyed}
@@ -24,18 +24,13 @@ use Rattle.demands.specs.Laws.Sorted.{may-at-most, may-newer, rising-by}
 abbrev pub rankAt : List Keyed → ℕ → Rank
 rankAt rows i = getD (ranksOf rows) i noRank
 
-module _ (b : List ℕ) (n : ℕ) (t : Trailer) (regions : List (List Keyed)) (accepted : check b ≡ ok n) (reads : Reads b t regions) where
-  abbrev rows : List Keyed
-  rows = allRows regions
-
+-- of any rows in order, whichever the format
+module _ (rows : List Keyed) (in-order : Rising noRank (ranksOf rows)) where
   follows : (i j : ℕ) → i < j → j < length rows → mayFollow (rankAt rows i) (rankAt rows j) ≡ true
-  follows i j h l =
-      rising-by noRank (ranksOf rows) (accepted-in-order b n t regions accepted reads) i j h
-      (omega (arith, length-map rows (λ (k : Keyed). rankIs (k .key) (k .row .seq))))
+  follows i j h l = rising-by noRank (ranksOf rows) in-order i j h (omega (arith, length-map rows (λ (k : Keyed). rankIs (k .key) (k .row .seq))))
 
-  -- Two rows with equal key and equal sequence number, wherever they stand, are one.
-  pub no-double-debit : (i j : ℕ) → i < length rows → j < length rows → rankAt rows i .key ≡ rankAt rows j .key → rankAt rows i .seq ≡ rankAt rows j .seq → i ≡ j
-  no-double-debit i j h l k s =
+  pub rows-no-double : (i j : ℕ) → i < length rows → j < length rows → rankAt rows i .key ≡ rankAt rows j .key → rankAt rows i .seq ≡ rankAt rows j .seq → i ≡ j
+  rows-no-double i j h l k s =
       ⊎-elim
       (λ u. absurd (omega (arith, may-newer (rankAt rows i) (rankAt rows j) (follows i j (u .1) l) k)))
       (λ u.
@@ -45,10 +40,9 @@ module _ (b : List ℕ) (n : ℕ) (t : Trailer) (regions : List (List Keyed)) (a
       (ltb-cases j i))
       (ltb-cases i j)
 
-  -- Where rows i and j have one key, each row after i, up to j, has it too, and a smaller sequence number than i.
-  pub newest-first : (i m j : ℕ) → i < m → m ≤ j → j < length rows → rankAt rows i .key ≡ rankAt rows j .key
+  pub rows-newest-first : (i m j : ℕ) → i < m → m ≤ j → j < length rows → rankAt rows i .key ≡ rankAt rows j .key
       → (rankAt rows m .key ≡ rankAt rows i .key) × (rankAt rows m .seq < rankAt rows i .seq)
-  newest-first i m j h l last k =
+  rows-newest-first i m j h l last k =
       let f = follows i m h (omega arith) in
       let up : AtMost (rankAt rows m .key) (rankAt rows i .key) =
       ⊎-elim
@@ -57,3 +51,19 @@ module _ (b : List ℕ) (n : ℕ) (t : Trailer) (regions : List (List Keyed)) (a
       (ltb-cases m j) in
       let same : rankAt rows m .key ≡ rankAt rows i .key = at-most-antisym (rankAt rows m .key) (rankAt rows i .key) up (may-at-most (rankAt rows i) (rankAt rows m) f) in
       (same, may-newer (rankAt rows i) (rankAt rows m) f (sym same))
+
+module _ (b : List ℕ) (n : ℕ) (t : Trailer) (regions : List (List Keyed)) (accepted : check b ≡ ok n) (reads : Reads b t regions) where
+  abbrev rows : List Keyed
+  rows = allRows regions
+
+  ordered : Rising noRank (ranksOf rows)
+  ordered = accepted-in-order b n t regions accepted reads
+
+  -- Two rows with equal key and equal sequence number, wherever they stand, are one.
+  pub no-double-debit : (i j : ℕ) → i < length rows → j < length rows → rankAt rows i .key ≡ rankAt rows j .key → rankAt rows i .seq ≡ rankAt rows j .seq → i ≡ j
+  no-double-debit = rows-no-double rows ordered
+
+  -- Where rows i and j have one key, each row after i, up to j, has it too, and a smaller sequence number than i.
+  pub newest-first : (i m j : ℕ) → i < m → m ≤ j → j < length rows → rankAt rows i .key ≡ rankAt rows j .key
+      → (rankAt rows m .key ≡ rankAt rows i .key) × (rankAt rows m .seq < rankAt rows i .seq)
+  newest-first = rows-newest-first rows ordered

@@ -26,7 +26,8 @@ use Rattle.layout.specs.Cursor.{ascending, descending, Cursor, keptCursor, curs
 use Rattle.layout.specs.Seek.{seek, soughtAfter}
 use Rattle.demands.specs.Reads.{regionRows, regionsRows, Reads, allRows, Accepts, contentOf, keysOf}
 use Rattle.layout.specs.Cases.{rowWith, rows8 as offered8}
-use Rattle.demands.specs.Runs.{Lending, lending, Call, offer, would-fit, is-empty, finish, lend-on, run, rowsOf, BeginAlike, Ran, Finishes, RoomFor, backwards, WalksAll, stepsGive, GivesFirst, KeysFit}
+use Rattle.demands.specs.Lends.{Call, offer, would-fit, is-empty, finish, lend-on, lendingOf, run, rowsOf, BeginAlike}
+use Rattle.demands.specs.Runs.{maker, Lending, Ran, Finishes, RoomFor, backwards, WalksAll, stepsBy, stepsGive, GivesFirst, KeysFit}
 use Rattle.demands.specs.Rows.{DecodesBack, Rows, BothWays, SoughtUp, SoughtDown, FoundFirst}
 use Rattle.demands.specs.Demand1.{refused-step, refused-seek, refused-add, refused-build, refused-encode, refused-restore, given-bytes, stale-bytes-tell-nothing, stale-bytes-empty, stale-bytes-seek, stale-bytes-fit, stale-bytes-add, stale-bytes-build}
 use Rattle.demands.specs.Demand2.{decode-encode, check-exact, has-rows, room-enough, walk-any-buffers, first-at-or-above, last-at-or-below, walk-steps, seek-ascending-lands, seek-descending-lands, retry-found, restarts-at-most, finished-accepted, finished-refused}
@@ -57,12 +58,12 @@ abbrev pub calls2 : List Call
 calls2 = is-empty ∷ offer rowA ∷ offer noKey ∷ finish ∷ lend-on longer (0 ∷ 5 ∷ []) ∷ would-fit rowAB ∷ offer rowAB ∷ []
 
 abbrev start2 : Lending
-start2 = lending (fresh 4096 16) (replicate 20 7) (replicate 1 7)
+start2 = lendingOf maker (fresh 4096 16) (replicate 20 7) (replicate 1 7)
 
 typed : (k : Key) (v : List ℕ) (q : ℕ) → q < 100 → Typed (rowWith k v q .fields)
 typed k v q h = record { seq-fits = omega arith; expire-fits = tt; create-fits = tt }
 
-pub case-2-ran : Ran 4096 16 calls2 (rowA ∷ rowAB ∷ []) (run start2 calls2)
+pub case-2-ran : Ran 4096 16 calls2 (rowA ∷ rowAB ∷ []) (run maker start2 calls2)
 unfolding leadingZeros run rowsOf newBuilder stateTests fits wouldFit add build keyLengthTests lengthTests isRestart shareOf laidRow rowBytes timeBytes big varint varintIn common splice trailer offsetBytes
 case-2-ran =
     record {
@@ -75,11 +76,11 @@ case-2-ran =
       ends = refl;
     }
   where
-    alike : BeginAlike (run start2 (is-empty ∷ offer rowA ∷ offer noKey ∷ finish ∷ [])) longer (0 ∷ 5 ∷ [])
+    alike : BeginAlike maker (run maker start2 (is-empty ∷ offer rowA ∷ offer noKey ∷ finish ∷ [])) longer (0 ∷ 5 ∷ [])
     alike = record { no-fewer-bytes = omega arith; no-fewer-places = omega arith; same-bytes = refl; same-places = refl }
 
-pub case-2-finishes : Finishes (run start2 calls2) (blockBytes 16 (rowA ∷ rowAB ∷ []))
-case-2-finishes = run-finishes 4096 16 calls2 (rowA ∷ rowAB ∷ []) (run start2 calls2) case-2-ran (omega arith)
+pub case-2-finishes : Finishes (run maker start2 calls2) (blockBytes 16 (rowA ∷ rowAB ∷ []))
+case-2-finishes = run-finishes 4096 16 calls2 (rowA ∷ rowAB ∷ []) (run maker start2 calls2) case-2-ran (omega arith)
 
 -- and that block is case 2's
 pub case-2-block : blockBytes 16 (rowA ∷ rowAB ∷ [])
@@ -90,40 +91,40 @@ case-2-block = refl
 pub case-2-accepted : check (blockBytes 16 (rowA ∷ rowAB ∷ [])) ≡ ok 2
 unfolding mayFollow below
 case-2-accepted =
-    finished-accepted 4096 16 calls2 (rowA ∷ rowAB ∷ []) (run start2 calls2) (blockBytes 16 (rowA ∷ rowAB ∷ [])) case-2-ran case-2-finishes .0 (refl, (refl, tt))
+    finished-accepted 4096 16 calls2 (rowA ∷ rowAB ∷ []) (run maker start2 calls2) (blockBytes 16 (rowA ∷ rowAB ∷ [])) case-2-ran case-2-finishes .0 (refl, (refl, tt))
 
 abbrev block2 : List ℕ
 block2 = blockBytes 16 (rowA ∷ rowAB ∷ [])
 
 pub case-2-forwards : (t : Trailer) × (given : List Keyed) × (openBlock block2 ascending ≡ ok openedUp) × WalksAll block2 2 openedUp given
     × (map (contentOf (dataOf block2 t)) given ≡ map plainRow (rowA ∷ rowAB ∷ []))
-case-2-forwards = reads-forwards 4096 16 calls2 (rowA ∷ rowAB ∷ []) (run start2 calls2) block2 case-2-ran case-2-finishes 2 (omega arith, (omega arith, tt))
+case-2-forwards = reads-forwards 4096 16 calls2 (rowA ∷ rowAB ∷ []) (run maker start2 calls2) block2 case-2-ran case-2-finishes 2 (omega arith, (omega arith, tt))
 
 pub case-2-backwards : (t : Trailer) × (given : List Keyed) × (openBlock block2 descending ≡ ok (openedDown block2 t)) × WalksAll block2 2 (openedDown block2 t) (backwards given)
     × (map (contentOf (dataOf block2 t)) given ≡ map plainRow (rowA ∷ rowAB ∷ []))
-case-2-backwards = reads-backwards 4096 16 calls2 (rowA ∷ rowAB ∷ []) (run start2 calls2) block2 case-2-ran case-2-finishes 2 (omega arith, (omega arith, tt))
+case-2-backwards = reads-backwards 4096 16 calls2 (rowA ∷ rowAB ∷ []) (run maker start2 calls2) block2 case-2-ran case-2-finishes 2 (omega arith, (omega arith, tt))
 
 pub case-2-any-buffers : (rooms : List ℕ) → (t : Trailer) × (given : List Keyed) × GivesFirst block2 openedUp rooms given × GivesFirst block2 (openedDown block2 t) rooms (backwards given)
     × (map (contentOf (dataOf block2 t)) given ≡ map plainRow (rowA ∷ rowAB ∷ []))
-case-2-any-buffers rooms = reads-any-buffers 4096 16 calls2 (rowA ∷ rowAB ∷ []) (run start2 calls2) block2 case-2-ran case-2-finishes rooms
+case-2-any-buffers rooms = reads-any-buffers 4096 16 calls2 (rowA ∷ rowAB ∷ []) (run maker start2 calls2) block2 case-2-ran case-2-finishes rooms
 
 -- its keys are short, so it was built before the key limit rose, and reads the same
 pub case-2-stands : Stand 16 (rowA ∷ rowAB ∷ []) block2
-case-2-stands = old-blocks-stand 4096 16 calls2 (rowA ∷ rowAB ∷ []) (run start2 calls2) block2 case-2-ran case-2-finishes (omega arith, (omega arith, tt))
+case-2-stands = old-blocks-stand 4096 16 calls2 (rowA ∷ rowAB ∷ []) (run maker start2 calls2) block2 case-2-ran case-2-finishes (omega arith, (omega arith, tt))
 
 -- the run of case 2's first row alone accepts other rows, so it makes another block
 abbrev calls1 : List Call
 calls1 = offer rowA ∷ []
 
-case-1-ran : Ran 4096 16 calls1 (rowA ∷ []) (run start2 calls1)
+case-1-ran : Ran 4096 16 calls1 (rowA ∷ []) (run maker start2 calls1)
 unfolding leadingZeros run rowsOf newBuilder stateTests fits wouldFit add keyLengthTests lengthTests isRestart shareOf laidRow rowBytes timeBytes big varint varintIn common splice
 case-1-ran =
     record { fresh-one = fresh 4096 16; bytes = replicate 20 7; places = replicate 1 7; is-new = refl; typed = (typed (97 ∷ []) [] 1 (omega arith), tt); rows-are = refl; ends = refl }
 
 pub case-2-differs : blockBytes 16 (rowA ∷ []) ≡ block2 → ⊥
 case-2-differs =
-    blocks-differ 4096 4096 16 16 calls1 calls2 (rowA ∷ []) (rowA ∷ rowAB ∷ []) (run start2 calls1) (run start2 calls2) (blockBytes 16 (rowA ∷ [])) block2 case-1-ran case-2-ran
-    (run-finishes 4096 16 calls1 (rowA ∷ []) (run start2 calls1) case-1-ran (omega arith))
+    blocks-differ 4096 4096 16 16 calls1 calls2 (rowA ∷ []) (rowA ∷ rowAB ∷ []) (run maker start2 calls1) (run maker start2 calls2) (blockBytes 16 (rowA ∷ [])) block2 case-1-ran case-2-ran
+    (run-finishes 4096 16 calls1 (rowA ∷ []) (run maker start2 calls1) case-1-ran (omega arith))
     case-2-finishes
     (λ e. let z : _≡_ {A = ℕ} 0 1 = cc in omega arith)
 
@@ -184,7 +185,7 @@ case-8-walked = walk-steps block8 5 t8 rows8 reads8 maxKey room8
 
 -- of steps with key buffers of 0, 8, 0 and 1 bytes two are refused, and two give the first two rows
 pub case-8-two-given : length (stepsGive block8 openedUp (0 ∷ 8 ∷ 0 ∷ 1 ∷ [])) ≡ 2
-unfolding blockBytes blockRows offsets rowsFrom offsetsFrom trailer offsetBytes isRestart shareOf laidRow rowBytes timeBytes big varint varintIn common trailerOf shortAt unbig regionOf readRow rowAt headTests headAt lengthsAt varintAt readVarint readVarintIn keyLengthTests bodyTests bodyAt fixedAt flagsAt timesAt timeAt next stepUp stepsGive
+unfolding blockBytes blockRows offsets rowsFrom offsetsFrom trailer offsetBytes isRestart shareOf laidRow rowBytes timeBytes big varint varintIn common trailerOf shortAt unbig regionOf readRow rowAt headTests headAt lengthsAt varintAt readVarint readVarintIn keyLengthTests bodyTests bodyAt fixedAt flagsAt timesAt timeAt next stepUp stepsBy
 case-8-two-given = refl
 
 pub case-8-any-buffers : GivesFirst block8 openedUp (0 ∷ 8 ∷ 0 ∷ 1 ∷ []) rows8
@@ -360,15 +361,15 @@ abbrev callsX : List Call
 callsX = offer rowX ∷ finish ∷ offer rowA ∷ would-fit rowX ∷ []
 
 abbrev startX : Lending
-startX = lending (fresh 0 1) (replicate 30 9) (replicate 1 9)
+startX = lendingOf maker (fresh 0 1) (replicate 30 9) (replicate 1 9)
 
 abbrev callsY : List Call
 callsY = offer rowY ∷ offer rowA ∷ []
 
 abbrev startY : Lending
-startY = lending (fresh maxBlock maxInterval) (replicate 64 3) (replicate 5 9)
+startY = lendingOf maker (fresh maxBlock maxInterval) (replicate 64 3) (replicate 5 9)
 
-ran-x : Ran 0 1 callsX (rowX ∷ []) (run startX callsX)
+ran-x : Ran 0 1 callsX (rowX ∷ []) (run maker startX callsX)
 unfolding leadingZeros run rowsOf newBuilder stateTests fits wouldFit add build keyLengthTests lengthTests isRestart shareOf laidRow rowBytes timeBytes big bits varint varintIn common splice trailer offsetBytes
 ran-x =
     record {
@@ -381,7 +382,7 @@ ran-x =
       ends = refl;
     }
 
-ran-y : Ran maxBlock maxInterval callsY (rowY ∷ rowA ∷ []) (run startY callsY)
+ran-y : Ran maxBlock maxInterval callsY (rowY ∷ rowA ∷ []) (run maker startY callsY)
 unfolding leadingZeros run rowsOf newBuilder stateTests fits wouldFit add build keyLengthTests lengthTests isRestart shareOf laidRow rowBytes timeBytes big bits varint varintIn common splice trailer offsetBytes
 ran-y =
     record {
@@ -397,31 +398,31 @@ ran-y =
 abbrev blockY : List ℕ
 blockY = blockBytes maxInterval (rowY ∷ rowA ∷ [])
 
-finishes-y : Finishes (run startY callsY) blockY
-finishes-y = run-finishes maxBlock maxInterval callsY (rowY ∷ rowA ∷ []) (run startY callsY) ran-y (omega arith)
+finishes-y : Finishes (run maker startY callsY) blockY
+finishes-y = run-finishes maxBlock maxInterval callsY (rowY ∷ rowA ∷ []) (run maker startY callsY) ran-y (omega arith)
 
 pub one-time-differs : blockBytes 1 (rowX ∷ []) ≡ blockY → ⊥
 one-time-differs =
-    blocks-differ 0 maxBlock 1 maxInterval callsX callsY (rowX ∷ []) (rowY ∷ rowA ∷ []) (run startX callsX) (run startY callsY) (blockBytes 1 (rowX ∷ [])) blockY ran-x ran-y
-    (run-finishes 0 1 callsX (rowX ∷ []) (run startX callsX) ran-x (omega arith))
+    blocks-differ 0 maxBlock 1 maxInterval callsX callsY (rowX ∷ []) (rowY ∷ rowA ∷ []) (run maker startX callsX) (run maker startY callsY) (blockBytes 1 (rowX ∷ [])) blockY ran-x ran-y
+    (run-finishes 0 1 callsX (rowX ∷ []) (run maker startX callsX) ran-x (omega arith))
     finishes-y
     (λ e. let z : _≡_ {A = ℕ} 0 1 = cc in omega arith)
 
 -- keys that fall: the block is refused with 17, and still reads back
 pub falling-refused : check blockY ≡ refuse 17
 unfolding mayFollow below
-falling-refused = finished-refused maxBlock maxInterval callsY (rowY ∷ rowA ∷ []) (run startY callsY) blockY ran-y finishes-y (λ o. clash (o .1 .0) refl)
+falling-refused = finished-refused maxBlock maxInterval callsY (rowY ∷ rowA ∷ []) (run maker startY callsY) blockY ran-y finishes-y (λ o. clash (o .1 .0) refl)
 
 pub falling-backwards : (t : Trailer) × (given : List Keyed) × (openBlock blockY descending ≡ ok (openedDown blockY t)) × WalksAll blockY 1 (openedDown blockY t) (backwards given)
     × (map (contentOf (dataOf blockY t)) given ≡ map plainRow (rowY ∷ rowA ∷ []))
-falling-backwards = reads-backwards maxBlock maxInterval callsY (rowY ∷ rowA ∷ []) (run startY callsY) blockY ran-y finishes-y 1 (omega arith, (omega arith, tt))
+falling-backwards = reads-backwards maxBlock maxInterval callsY (rowY ∷ rowA ∷ []) (run maker startY callsY) blockY ran-y finishes-y 1 (omega arith, (omega arith, tt))
 
 pub falling-keys-fit : KeysFit maxKey (rowY ∷ rowA ∷ [])
-falling-keys-fit = keys-fit maxBlock maxInterval callsY (rowY ∷ rowA ∷ []) (run startY callsY) ran-y
+falling-keys-fit = keys-fit maxBlock maxInterval callsY (rowY ∷ rowA ∷ []) (run maker startY callsY) ran-y
 
 -- and it stands under the higher key limit: its rows are one region, "b" then "a", and every seek is told by them. Down to "a" it lands after the last row at or below it, the second
 pub falling-stands : Stand maxInterval (rowY ∷ rowA ∷ []) blockY
-falling-stands = old-blocks-stand maxBlock maxInterval callsY (rowY ∷ rowA ∷ []) (run startY callsY) blockY ran-y finishes-y (omega arith, (omega arith, tt))
+falling-stands = old-blocks-stand maxBlock maxInterval callsY (rowY ∷ rowA ∷ []) (run maker startY callsY) blockY ran-y finishes-y (omega arith, (omega arith, tt))
 
 pub falling-region : regionsFrom maxInterval 0 (rowY ∷ rowA ∷ []) ≡ (rowY ∷ rowA ∷ []) ∷ []
 unfolding regionsFrom cutFrom isRestart
@@ -440,12 +441,12 @@ abbrev callsB : List Call
 callsB = offer rowB ∷ offer rowB ∷ []
 
 abbrev startB : Lending
-startB = lending (fresh 4096 1) (replicate 32 9) (replicate 2 9)
+startB = lendingOf maker (fresh 4096 1) (replicate 32 9) (replicate 2 9)
 
 abbrev blockB : List ℕ
 blockB = blockBytes 1 (rowB ∷ rowB ∷ [])
 
-ran-b : Ran 4096 1 callsB (rowB ∷ rowB ∷ []) (run startB callsB)
+ran-b : Ran 4096 1 callsB (rowB ∷ rowB ∷ []) (run maker startB callsB)
 unfolding leadingZeros run rowsOf newBuilder stateTests fits wouldFit add build keyLengthTests lengthTests isRestart shareOf laidRow rowBytes timeBytes big varint varintIn common splice trailer offsetBytes
 ran-b =
     record {
@@ -458,15 +459,15 @@ ran-b =
       ends = refl;
     }
 
-finishes-b : Finishes (run startB callsB) blockB
-finishes-b = run-finishes 4096 1 callsB (rowB ∷ rowB ∷ []) (run startB callsB) ran-b (omega arith)
+finishes-b : Finishes (run maker startB callsB) blockB
+finishes-b = run-finishes 4096 1 callsB (rowB ∷ rowB ∷ []) (run maker startB callsB) ran-b (omega arith)
 
 pub twice-refused : check blockB ≡ refuse 17
 unfolding mayFollow below
-twice-refused = finished-refused 4096 1 callsB (rowB ∷ rowB ∷ []) (run startB callsB) blockB ran-b finishes-b (λ o. clash (o .1 .0) refl)
+twice-refused = finished-refused 4096 1 callsB (rowB ∷ rowB ∷ []) (run maker startB callsB) blockB ran-b finishes-b (λ o. clash (o .1 .0) refl)
 
 pub twice-stands : Stand 1 (rowB ∷ rowB ∷ []) blockB
-twice-stands = old-blocks-stand 4096 1 callsB (rowB ∷ rowB ∷ []) (run startB callsB) blockB ran-b finishes-b (omega arith, (omega arith, tt))
+twice-stands = old-blocks-stand 4096 1 callsB (rowB ∷ rowB ∷ []) (run maker startB callsB) blockB ran-b finishes-b (omega arith, (omega arith, tt))
 
 pub twice-sought : SoughtAmong blockB (twice-stands .t) (98 ∷ []) (twice-stands .given) formerMaxKey
 twice-sought = twice-stands .sought (98 ∷ [])

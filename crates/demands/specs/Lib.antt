@@ -1,4 +1,6 @@
 pub mod Reads
+pub mod Lends
+pub mod LendsProof
 pub mod AnyOrder
 pub mod Laws
 pub mod Runs

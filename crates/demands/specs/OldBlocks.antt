@@ -11,7 +11,8 @@ use Rattle.layout.specs.Trailer.{Trailer, dataOf}
 use Rattle.layout.specs.Check.{check}
 use Rattle.layout.specs.Cursor.{Keyed}
 use Rattle.demands.specs.Reads.{allRows, contentOf, verdict}
-use Rattle.demands.specs.Runs.{Lending, Call, Ran, Finishes, KeysFit}
+use Rattle.demands.specs.Lends.{Call}
+use Rattle.demands.specs.Runs.{Lending, Ran, Finishes, KeysFit}
 use Rattle.demands.specs.Rows.{BothWays, offeredRanks}
 use Rattle.demands.specs.AnyOrder.{regionsFrom, SoughtAmong}
 use Rattle.demands.specs.Proof3.{ran-block, ran-laid, laid-room, laid-both-ways}

@@ -23,14 +23,14 @@ use Rattle.layout.specs.Cursor.{Cursor, openedUp, openedDown, Keyed, found, don
 use Rattle.layout.specs.Seek.{doneUp}
 use Rattle.demands.specs.Reads.{regionsRows, Reads, allRows, ranksOf, verdict, keysOf, contentOf}
 use Rattle.demands.specs.Runs.{RoomFor, Walks, stands, gives, WalksAll}
-use Rattle.demands.specs.Rows.{DecodesBack, Rows, BothWays, offeredRanks, SoughtUp, SoughtDown, Given, FoundFirst}
+use Rattle.demands.specs.Rows.{DecodesBack, Rows, BothWays, offeredRanks, SoughtUp, SoughtDown, PartsBelow, PartsAbove, Given, FoundFirstOf, FoundFirst}
 use Rattle.demands.specs.RunsProof.{walks-before, walks-after}
 use Rattle.demands.specs.SoughtProof.{landed-up, landed-down}
-use Rattle.demands.specs.Proof3.{Encoded, encoded-fields}
 use Rattle.layout.specs.Laws.Res.{ok-inj, ltb-cases, clash}
 use Rattle.layout.specs.Laws.Key.{AtMost, at-most-refl, at-most-trans, at-most-antisym, below-false, le-below, below-most}
 use Rattle.layout.specs.Laws.Row.{placesOf, readRow-law, placesOf-fields, placesOf-key}
 use Rattle.layout.specs.Laws.Tells.{readRow-ends, restart-least}
+use Rattle.layout.specs.Laws.Encoded.{Encoded, encoded-fields}
 use Rattle.layout.specs.Laws.Trailer.{regionOf-tells, trailerOf-tells}
 use Rattle.layout.specs.Laws.Cursor.{next-marked}
 use Rattle.demands.specs.Laws.Reads.{region-at, rows-all}
@@ -46,7 +46,7 @@ use Rattle.demands.specs.Laws.Laid.{LaidBlock}
 
 -- ---- one row
 
-pub decodes-back : (prevLen shared : ℕ) (suffix : List ℕ) (f : Fields) (w post : List ℕ) → Encoded prevLen shared suffix f w → Typed f → DecodesBack prevLen shared suffix f w post
+pub decodes-back : (prevLen shared : ℕ) (suffix : List ℕ) (f : Fields) (w post : List ℕ) → Encoded (rowBytes shared suffix f) prevLen shared suffix f w → Typed f → DecodesBack prevLen shared suffix f w post
 unfolding decodeRow
 decodes-back prevLen shared suffix f w post e t =
     let here : drop 0 (w ++ post) ≡ rowBytes shared suffix f ++ post = ap (λ (x : List ℕ). x ++ post) (sym (e .is)) in
@@ -123,8 +123,7 @@ module _ (target : Key) (rows : List Keyed) (in-order : Rising noRank (ranksOf r
   keys-many : length (keysOf rows) ≡ length rows
   keys-many = length-map rows (λ (k : Keyed). k .key)
 
-  pub first-splits : (i < firstAtOrAbove target (keysOf rows) → below (getD (keysOf rows) i []) target ≡ true)
-      × (firstAtOrAbove target (keysOf rows) ≤ i → below (getD (keysOf rows) i []) target ≡ false)
+  pub first-splits : PartsBelow target rows i
   first-splits = (first-before target (keysOf rows) i, from)
     where
       from : firstAtOrAbove target (keysOf rows) ≤ i → below (getD (keysOf rows) i []) target ≡ false
@@ -133,8 +132,7 @@ module _ (target : Key) (rows : List Keyed) (in-order : Rising noRank (ranksOf r
           let up : AtMost target (getD (keysOf rows) j []) = below-false (getD (keysOf rows) j []) target (first-here target (keysOf rows) (omega (arith, keys-many))) in
           le-below (getD (keysOf rows) i []) target (at-most-trans target (getD (keysOf rows) j []) (getD (keysOf rows) i []) up (sorted-by [] rows o j i h here))
 
-  pub last-splits : (i < firstAbove target (keysOf rows) → below target (getD (keysOf rows) i []) ≡ false)
-      × (firstAbove target (keysOf rows) ≤ i → below target (getD (keysOf rows) i []) ≡ true)
+  pub last-splits : PartsAbove target rows i
   last-splits = (above-before target (keysOf rows) i, from)
     where
       from : firstAbove target (keysOf rows) ≤ i → below target (getD (keysOf rows) i []) ≡ true
@@ -142,7 +140,7 @@ module _ (target : Key) (rows : List Keyed) (in-order : Rising noRank (ranksOf r
           let j : ℕ = firstAbove target (keysOf rows) in
           below-most target (getD (keysOf rows) j []) (getD (keysOf rows) i []) (above-here target (keysOf rows) (omega (arith, keys-many))) (sorted-by [] rows o j i h here)
 
-key-at : (ks : List Keyed) (n : ℕ) (k : Keyed) (rest : List Keyed) → drop n ks ≡ k ∷ rest → getD (keysOf ks) n [] ≡ k .key
+pub key-at : (ks : List Keyed) (n : ℕ) (k : Keyed) (rest : List Keyed) → drop n ks ≡ k ∷ rest → getD (keysOf ks) n [] ≡ k .key
 key-at [] zero k rest e = absurd (let z : _≡_ {A = ℕ} 0 1 = cc in omega arith)
 key-at [] (suc n) k rest e = absurd (let z : _≡_ {A = ℕ} 0 1 = cc in omega arith)
 key-at (x ∷ ks) zero k rest e = let s : x ≡ k = cc in ap (λ (y : Keyed). y .key) s
@@ -158,53 +156,41 @@ first-given b room c k ks last w = go c (k ∷ ks) last w refl
         let s : x ≡ k = cc in
         rw (← s) (record { moved = c′; t = t; region = region; number = number; trailer-good = tr; named = named; gives-it = p })
 
+-- where some row has the target as its key, the first at or above the target has it, and none before it
+module _ (target : Key) (rows : List Keyed) (in-order : Rising noRank (ranksOf rows)) (i : ℕ) (here : i < length rows) (e : getD (keysOf rows) i [] ≡ target) where
+  none-before : (j : ℕ) → j < firstAtOrAbove target (keysOf rows) → getD (keysOf rows) j [] ≡ target → ⊥
+  none-before j h e = clash (rw e at (first-before target (keysOf rows) j h)) (le-below target target (at-most-refl target))
+
+  no-later : firstAtOrAbove target (keysOf rows) ≤ i
+  no-later = ⊎-elim (λ u. absurd (none-before i (u .1) e)) (λ u. u .1) (ltb-cases i (firstAtOrAbove target (keysOf rows)))
+
+  is-target : getD (keysOf rows) (firstAtOrAbove target (keysOf rows)) [] ≡ target
+  is-target =
+      let key : Key = getD (keysOf rows) (firstAtOrAbove target (keysOf rows)) [] in
+      let up : AtMost target key = below-false key target (first-splits target rows in-order (firstAtOrAbove target (keysOf rows)) (omega (arith, no-later)) .1 (omega arith)) in
+      let down : AtMost key target = rw e at (sorted-by [] rows (rising-never-falls noRank rows in-order) (firstAtOrAbove target (keysOf rows)) i no-later here) in
+      at-most-antisym key target down up
+
+  pub found-first : (Is : Keyed → Type 0) → ((k : Keyed) (ks : List Keyed) → drop (firstAtOrAbove target (keysOf rows)) rows ≡ k ∷ ks → Is k) → FoundFirstOf Is target rows
+  found-first Is given = made (drop (firstAtOrAbove target (keysOf rows)) rows) refl
+    where
+      made : (ks : List Keyed) → drop (firstAtOrAbove target (keysOf rows)) rows ≡ ks → FoundFirstOf Is target rows
+      made [] z = absurd (omega (arith, ap length z, length-drop (firstAtOrAbove target (keysOf rows)) rows, no-later))
+      made (k ∷ ks) z =
+          record {
+            k = k;
+            rest = ks;
+            given = given k ks z;
+            has-it = sym (key-at rows (firstAtOrAbove target (keysOf rows)) k ks z) ∙ is-target;
+            stands-first = z;
+            none-before = none-before;
+          }
+
 module _ (b : List ℕ) (n : ℕ) (t : Trailer) (rows : List Keyed) (q : Rows b n t rows) (target : Key) (room : ℕ) (f : RoomFor room rows) where
-  count : length (keysOf rows) ≡ length rows
-  count = length-map rows (λ (k : Keyed). k .key)
-
-  below-before : (j : ℕ) → j < firstAtOrAbove target (keysOf rows) → below (getD (keysOf rows) j []) target ≡ true
-  below-before j h = first-before target (keysOf rows) j h
-
   pub retry-present : (i : ℕ) → i < length rows → getD (keysOf rows) i [] ≡ target → FoundFirst b target rows room (sought-up b n t rows q target room f .c)
   retry-present i h e =
       let s = sought-up b n t rows q target room f in
-      ⊎-elim (λ l. here (l .0) (s .walked)) (λ l. absurd (late (l .0))) (s .over)
-    where
-      first : ℕ
-      first = firstAtOrAbove target (keysOf rows)
-
-      c : Cursor
-      c = sought-up b n t rows q target room f .c
-
-      not-below : below target target ≡ false
-      not-below = le-below target target (at-most-refl target)
-
-      no-later : firstAtOrAbove target (keysOf rows) ≤ i
-      no-later = ⊎-elim (λ u. absurd (clash (rw e at (below-before i (u .1))) not-below)) (λ u. u .1) (ltb-cases i (firstAtOrAbove target (keysOf rows)))
-
-      late : firstAtOrAbove target (keysOf rows) ≡ length rows → ⊥
-      late z = omega (arith, no-later)
-
-      here : firstAtOrAbove target (keysOf rows) < length rows → WalksAll b room (sought-up b n t rows q target room f .c) (drop (firstAtOrAbove target (keysOf rows)) rows)
-          → FoundFirst b target rows room (sought-up b n t rows q target room f .c)
-      here l w = made (drop (firstAtOrAbove target (keysOf rows)) rows) refl w
-        where
-          made : (ks : List Keyed) → drop (firstAtOrAbove target (keysOf rows)) rows ≡ ks → WalksAll b room (sought-up b n t rows q target room f .c) ks
-              → FoundFirst b target rows room (sought-up b n t rows q target room f .c)
-          made [] z w = absurd (omega (arith, ap length z, length-drop (firstAtOrAbove target (keysOf rows)) rows))
-          made (k ∷ ks) z w =
-              let g = first-given b room (sought-up b n t rows q target room f .c) k ks (w .last) (w .walks) in
-              let key : getD (keysOf rows) (firstAtOrAbove target (keysOf rows)) [] ≡ k .key = key-at rows (firstAtOrAbove target (keysOf rows)) k ks z in
-              let up : AtMost target (k .key) = below-false (k .key) target (rw key at (first-here target (keysOf rows) (omega (arith, count)))) in
-              let down : AtMost (k .key) target = rw (key, e) at (sorted-by [] rows (rising-never-falls noRank rows (q .in-order)) (firstAtOrAbove target (keysOf rows)) i no-later h) in
-              record {
-                k = k;
-                rest = ks;
-                given = g;
-                has-it = at-most-antisym (k .key) target down up;
-                stands-first = z;
-                none-before = λ j u e′. clash (rw e′ at (below-before j u)) not-below;
-              }
+      found-first target rows (q .in-order) i h e (Given b room (s .c)) λ k ks z. first-given b room (s .c) k ks (s .walked .last) (rw z at (s .walked .walks))
 
   pub retry-absent : (k : Keyed) (moved : Cursor) (region number : ℕ) → next (sought-up b n t rows q target room f .c) b room ≡ ok (stepIs moved (found region number (k .row) (k .key)))
       → k .key ≡ target

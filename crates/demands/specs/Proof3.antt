@@ -6,23 +6,24 @@ use mathlib.Core.Bool.{Bool, false}
 use mathlib.Core.List.{List, [], _∷_, _++_, append-nil, map}
 use native.Mathlib.Omega.{arith}
 use lib.Dec.{ltb}
-use lib.ListN.{length, take, length-append}
+use lib.ListN.{length, length-append}
 use borrow.Author.Tests.{le-ltb, ltb-false}
 use Rattle.layout.specs.Res.{ok}
-use Rattle.layout.specs.Limits.{maxKey, maxValue}
-use Rattle.layout.specs.Row.{Fields, Row, valueOf, rowBytes, keyLengthTests, lengthTests, encodeRow, SameRow, Typed, plainRow}
+use Rattle.layout.specs.Limits.{maxKey}
+use Rattle.layout.specs.Row.{Fields, Row, rowBytes, encodeRow, SameRow, Typed, plainRow}
 use Rattle.layout.specs.RowRead.{RowRead, rowAt, readRow, decodeRow, keyLength}
 use Rattle.layout.specs.Block.{blockBytes, offsets}
 use Rattle.layout.specs.Trailer.{Trailer, dataOf}
-use Rattle.layout.specs.Builder.{blockAfter}
 use Rattle.layout.specs.Cursor.{openedUp, openedDown, Keyed}
 use Rattle.demands.specs.Reads.{regionsRows, Reads, allRows, AllOf, contentOf}
 use Rattle.demands.specs.Rows.{BothWays}
-use Rattle.demands.specs.Runs.{Lending, Call, Ran, Finishes, RoomFor, KeysFit}
+use Rattle.demands.specs.Lends.{Call}
+use Rattle.demands.specs.LendsProof.{finishes-one}
+use Rattle.demands.specs.Runs.{maker, Lending, Ran, Finishes, RoomFor, KeysFit}
 use Rattle.demands.specs.RunsProof.{made-ran, finishes-some, made-finishes, walks-before, walks-after}
 use Rattle.layout.specs.Laws.Res.{bind-then, guard-then, ok-inj}
-use Rattle.layout.specs.Laws.Row.{FieldsOk, KeyOk, prefix-free}
-use Rattle.layout.specs.Laws.Tells.{keyLengthTests-tells}
+use Rattle.layout.specs.Laws.Row.{prefix-free}
+use Rattle.layout.specs.Laws.Encoded.{Encoded, tests-tell, encoded-fields}
 use Rattle.demands.specs.Laws.Local.{readRow-local}
 use Rattle.layout.specs.Laws.Carry.{keyOf-length}
 use Rattle.layout.specs.Laws.Block.{AllOk, AllFit}
@@ -33,12 +34,6 @@ use Rattle.demands.specs.Laws.Descend.{opened-after, opens-down}
 use Rattle.demands.specs.Laws.Laid.{LaidBlock, laid-block}
 
 -- ---- a run finishes
-
--- one answer of build, one block
-finishes-one : (h : Lending) (x y : List ℕ) → Finishes h x → Finishes h y → x ≡ y
-finishes-one h x y f g =
-    let n : f .n ≡ g .n = ok-inj (sym (f .answers) ∙ g .answers) in
-    sym (f .block-is) ∙ ap (λ (k : ℕ). take k (blockAfter (ok k) (h .builder) (h .bytes) (h .places))) n ∙ g .block-is
 
 -- rows that are laid make a block
 laid-rows : (n : ℕ) (rows : List Row) → 1 ≤ length rows → AllOk rows → AllFit (offsets n rows) → LaidBlock (blockBytes n rows) n rows
@@ -56,18 +51,18 @@ module _ (size n : ℕ) (calls : List Call) (rows : List Row) (end : Lending) (r
   ran-some block f = finishes-some n rows end block m f
 
   pub ran-block : (block : List ℕ) → Finishes end block → block ≡ blockBytes n rows
-  ran-block block f = finishes-one end block (blockBytes n rows) f (ran-finishes (ran-some block f))
+  ran-block block f = finishes-one maker end block (blockBytes n rows) f (ran-finishes (ran-some block f))
 
   pub ran-laid : (block : List ℕ) → Finishes end block → LaidBlock block n rows
   ran-laid block f = rw (ran-block block f) (laid-rows n rows (ran-some block f) (m .rows-ok) (m .offsets-fit))
 
 -- no accepted key is longer than the key limit
+pub keys-fit-all : (rows : List Row) → AllOk rows → KeysFit maxKey rows
+keys-fit-all [] a = tt
+keys-fit-all (r ∷ rs) a = (a .0 .key-fits, keys-fit-all rs (a .1))
+
 pub ran-fits : (size n : ℕ) (calls : List Call) (rows : List Row) (end : Lending) → Ran size n calls rows end → KeysFit maxKey rows
-ran-fits size n calls rows end ran = go rows (made-ran size n calls rows end ran .rows-ok)
-  where
-    go : (rows : List Row) → AllOk rows → KeysFit maxKey rows
-    go [] a = tt
-    go (r ∷ rs) a = (a .0 .key-fits, go rs (a .1))
+ran-fits size n calls rows end ran = keys-fit-all rows (made-ran size n calls rows end ran .rows-ok)
 
 -- ---- a read has one outcome
 
@@ -84,10 +79,10 @@ same-rows b n₁ n₂ rows₁ rows₂ p q =
 -- ---- reading back
 
 -- keys that are read are as long as their rows say
-abbrev Keyeds : List Keyed → Type 0
+abbrev pub Keyeds : List Keyed → Type 0
 Keyeds ks = AllOf (λ (k : Keyed). length (k .key) ≡ keyLength (k .row)) ks
 
-rooms : (room : ℕ) (d : List ℕ) (ks : List Keyed) (rows : List Row) → map (contentOf d) ks ≡ map plainRow rows → Keyeds ks → KeysFit room rows → RoomFor room ks
+pub rooms : (room : ℕ) (d : List ℕ) (ks : List Keyed) (rows : List Row) → map (contentOf d) ks ≡ map plainRow rows → Keyeds ks → KeysFit room rows → RoomFor room ks
 rooms room d [] rows e k f = tt
 rooms room d (x ∷ ks) [] e k f = absurd (let z : _≡_ {A = ℕ} 0 1 = cc in omega arith)
 rooms room d (x ∷ ks) (r ∷ rows) e k f =
@@ -123,34 +118,13 @@ laid-reads-back block n room rows l f = record { t = l .t; given = allRows (l .r
 
 -- ---- rows after one key
 
--- what encoding tells
-pub record Encoded (prevLen shared : ℕ) (suffix : List ℕ) (f : Fields) (w : List ℕ) : Type 0 where
-  pub is : rowBytes shared suffix f ≡ w
-  pub shares : shared ≤ prevLen
-  pub key-ok : KeyOk shared (length suffix)
-  pub value-fits : length (valueOf f) ≤ maxValue
-
-pub encode-tells : (prevLen shared : ℕ) (suffix : List ℕ) (f : Fields) (room : ℕ) (w : List ℕ) → encodeRow prevLen shared suffix f room ≡ ok w → Encoded prevLen shared suffix f w
-unfolding encodeRow lengthTests
-encode-tells prevLen shared suffix f room w e =
-    guard-then (ltb prevLen shared) 13 _ w e λ t₁ e₁.
-    bind-then (lengthTests (shared + length suffix) (length (valueOf f))) _ w e₁ λ u l e₂.
-    guard-then (ltb room (length (rowBytes shared suffix f))) 6 _ w e₂ λ t₂ e₃.
-    bind-then (keyLengthTests (shared + length suffix)) _ u l λ u₂ k l₂.
-    guard-then (ltb maxValue (length (valueOf f))) 3 _ u l₂ λ t₃ l₃.
-    let q = keyLengthTests-tells (shared + length suffix) u₂ k in
-    record {
-      is = ok-inj e₃;
-      shares = ltb-false prevLen shared t₁;
-      key-ok = record { some = q .0; fits = q .1 };
-      value-fits = ltb-false maxValue (length (valueOf f)) t₃;
-    }
-
-pub encoded-fields : {prevLen shared : ℕ} {suffix : List ℕ} {f : Fields} {w : List ℕ} → Encoded prevLen shared suffix f w → Typed f → FieldsOk f
-encoded-fields e t = record { value-fits = e .value-fits; seq-fits = t .seq-fits; expire-fits = t .expire-fits; create-fits = t .create-fits }
+pub encode-tells : (prevLen shared : ℕ) (suffix : List ℕ) (f : Fields) (room : ℕ) (w : List ℕ) → encodeRow prevLen shared suffix f room ≡ ok w
+    → Encoded (rowBytes shared suffix f) prevLen shared suffix f w
+unfolding encodeRow
+encode-tells prevLen shared suffix f room w e = tests-tell (rowBytes shared suffix f) prevLen shared suffix f room w e
 
 pub encoded-differ : (prevLen : ℕ) (s₁ : ℕ) (x₁ : List ℕ) (f₁ : Fields) (w₁ : List ℕ) (s₂ : ℕ) (x₂ : List ℕ) (f₂ : Fields) (w₂ tail : List ℕ)
-    → Encoded prevLen s₁ x₁ f₁ w₁ → Encoded prevLen s₂ x₂ f₂ w₂ → Typed f₁ → Typed f₂ → w₁ ++ tail ≡ w₂ → SameRow s₁ x₁ f₁ tail s₂ x₂ f₂ []
+    → Encoded (rowBytes s₁ x₁ f₁) prevLen s₁ x₁ f₁ w₁ → Encoded (rowBytes s₂ x₂ f₂) prevLen s₂ x₂ f₂ w₂ → Typed f₁ → Typed f₂ → w₁ ++ tail ≡ w₂ → SameRow s₁ x₁ f₁ tail s₂ x₂ f₂ []
 encoded-differ prevLen s₁ x₁ f₁ w₁ s₂ x₂ f₂ w₂ tail e₁ e₂ t₁ t₂ h =
     prefix-free prevLen false s₁ x₁ f₁ tail s₂ x₂ f₂ [] (e₁ .shares) (e₂ .shares) (e₁ .key-ok) (e₂ .key-ok) (encoded-fields e₁ t₁) (encoded-fields e₂ t₂)
     (ap (λ (x : List ℕ). x ++ tail) (e₁ .is) ∙ h ∙ sym (e₂ .is) ∙ sym (append-nil (rowBytes s₂ x₂ f₂)))
@@ -163,6 +137,14 @@ wider d at end end′ n restart r e h =
     guard-then (ltb end (g .next)) 16 _ r q λ t c.
     rw (p, le-ltb end′ (g .next) (omega (arith, ltb-false end (g .next) t))) c
 
+-- two reads of one row, each of all its bytes, leave nothing over
+pub no-tail : (x y tail : List ℕ) (r q : RowRead) → r ≡ q → r .next ≡ length x → q .next ≡ length y → x ++ tail ≡ y → tail ≡ []
+no-tail x y tail r q same n m h = nothing tail (omega (arith, n, m, ap (λ (z : RowRead). z .next) same, ap length h, length-append x tail))
+  where
+    nothing : (t : List ℕ) → length t ≡ 0 → t ≡ []
+    nothing [] k = refl
+    nothing (z ∷ t) k = absurd (omega arith)
+
 pub decoded-differ : (prevLen : ℕ) (x y tail : List ℕ) (r q : RowRead) → decodeRow x prevLen ≡ ok r → r .next ≡ length x → decodeRow y prevLen ≡ ok q → q .next ≡ length y → x ++ tail ≡ y
     → (tail ≡ []) × (r ≡ q)
 unfolding decodeRow
@@ -173,9 +155,4 @@ decoded-differ prevLen x y tail r q e n f m h =
     let e₃ : readRow (x ++ tail) 0 (length (x ++ tail)) prevLen false ≡ ok r = wider (x ++ tail) 0 (length x) (length (x ++ tail)) prevLen false r e₂ long in
     let f₁ : readRow (x ++ tail) 0 (length (x ++ tail)) prevLen false ≡ ok q = ap (λ (d : List ℕ). readRow d 0 (length d) prevLen false) h ∙ f in
     let same : r ≡ q = ok-inj (sym e₃ ∙ f₁) in
-    let k : length tail ≡ 0 = omega (arith, n, m, ap (λ (z : RowRead). z .next) same, ap length h, length-append x tail) in
-    (nothing tail k, same)
-  where
-    nothing : (t : List ℕ) → length t ≡ 0 → t ≡ []
-    nothing [] k = refl
-    nothing (z ∷ t) k = absurd (omega arith)
+    (no-tail x y tail r q same n m h, same)

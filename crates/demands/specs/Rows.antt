@@ -1,12 +1,12 @@
 -- What the demands say of rows: of one row that is decoded, of the rows that an accepted block has, of walks through them, and of seeks.
-use Prim.Native.Nat.{ℕ, _<_}
+use Prim.Native.Nat.{ℕ, _<_, _≤_}
 use mathlib.Core.Path.{_≡_}
-use mathlib.Core.Bool.{false}
+use mathlib.Core.Bool.{true, false}
 use mathlib.Core.List.{List, [], _∷_, _++_, map}
 use mathlib.Core.Logic.{_⊎_}
 use lib.ListN.{length, take, drop, getD}
-use Rattle.layout.specs.Res.{ok}
-use Rattle.layout.specs.Key.{Key, Rank, rankIs, noRank, Rising, firstAtOrAbove, firstAbove}
+use Rattle.layout.specs.Res.{Res, ok}
+use Rattle.layout.specs.Key.{Key, below, Rank, rankIs, noRank, Rising, firstAtOrAbove, firstAbove}
 use Rattle.layout.specs.Row.{Fields, Row, plain}
 use Rattle.layout.specs.RowRead.{RowRead, decodeRow, keyOf, fieldsOf}
 use Rattle.layout.specs.Trailer.{Trailer, trailerOf}
@@ -17,13 +17,17 @@ use Rattle.demands.specs.Runs.{WalksAll, backwards}
 
 -- ---- one row
 
--- the bytes w, whatever bytes follow, decode to these fields (a tombstone's value is empty) and end where w ends; the full key is the shared bytes of the previous key, then the suffix
-pub record DecodesBack (prevLen shared : ℕ) (suffix : List ℕ) (f : Fields) (w post : List ℕ) : Type 0 where
+-- the bytes w, whatever bytes follow, decode with this answer to these fields (a tombstone's value is empty) and end where w ends; the full key is the shared bytes of the previous key,
+-- then the suffix
+pub record DecodesTo (answer : Res RowRead) (shared : ℕ) (suffix : List ℕ) (f : Fields) (w post : List ℕ) : Type 0 where
   pub row : RowRead
-  pub reads : decodeRow (w ++ post) prevLen ≡ ok row
+  pub reads : answer ≡ ok row
   pub ends : row .next ≡ length w
   pub fields : fieldsOf (w ++ post) row ≡ plain f
   pub key : (prev : Key) → keyOf (w ++ post) prev row ≡ take shared prev ++ suffix
+
+abbrev pub DecodesBack : ℕ → ℕ → List ℕ → Fields → List ℕ → List ℕ → Type 0
+DecodesBack prevLen shared suffix f w post = DecodesTo (decodeRow (w ++ post) prevLen) shared suffix f w post
 
 -- ---- the rows of an accepted block
 
@@ -68,6 +72,16 @@ pub record SoughtDown (b : List ℕ) (t : Trailer) (target : Key) (rows : List K
       ((0 < firstAbove target (keysOf rows)) × (c .done ≡ false))
       ⊎ ((firstAbove target (keysOf rows) ≡ 0) × (c ≡ doneDown))
 
+-- "the first at or above the target" parts the rows: those before it are below the target, and no row from it on is. So does "the first above": no row before it is above the target, and
+-- every row from it on is
+abbrev pub PartsBelow : Key → List Keyed → ℕ → Type 0
+PartsBelow target rows i =
+    (i < firstAtOrAbove target (keysOf rows) → below (getD (keysOf rows) i []) target ≡ true) × (firstAtOrAbove target (keysOf rows) ≤ i → below (getD (keysOf rows) i []) target ≡ false)
+
+abbrev pub PartsAbove : Key → List Keyed → ℕ → Type 0
+PartsAbove target rows i =
+    (i < firstAbove target (keysOf rows) → below target (getD (keysOf rows) i []) ≡ false) × (firstAbove target (keysOf rows) ≤ i → below target (getD (keysOf rows) i []) ≡ true)
+
 -- a step gives this row, with the pair that names it
 pub record Given (b : List ℕ) (room : ℕ) (c : Cursor) (k : Keyed) : Type 0 where
   pub moved : Cursor
@@ -78,11 +92,14 @@ pub record Given (b : List ℕ) (room : ℕ) (c : Cursor) (k : Keyed) : Type 0 w
   pub named : Names b t region number k
   pub gives-it : next c b room ≡ ok (stepIs moved (found region number (k .row) (k .key)))
 
--- the row that the step after the seek gives has the target as its key, and no row before it has
-pub record FoundFirst (b : List ℕ) (target : Key) (rows : List Keyed) (room : ℕ) (c : Cursor) : Type 0 where
+-- the row that the step after the seek gives has the target as its key, and no row before it has; of any format, by what a given row is
+pub record FoundFirstOf (Is : Keyed → Type 0) (target : Key) (rows : List Keyed) : Type 0 where
   pub k : Keyed
   pub rest : List Keyed
-  pub given : Given b room c k
+  pub given : Is k
   pub has-it : k .key ≡ target
   pub stands-first : drop (firstAtOrAbove target (keysOf rows)) rows ≡ k ∷ rest
   pub none-before : (j : ℕ) → j < firstAtOrAbove target (keysOf rows) → getD (keysOf rows) j [] ≡ target → ⊥
+
+abbrev pub FoundFirst : List ℕ → Key → List Keyed → ℕ → Cursor → Type 0
+FoundFirst b target rows room c = FoundFirstOf (Given b room c) target rows

@@ -1,34 +1,34 @@
 -- A run keeps `Made`: whatever calls were made, state and buffers are those of the accepted rows. A walk along cursors that each stand before (or after) the rows to
 -- come gives exactly these rows; and with key buffers that are too short now and then, the first of them.
-use Prim.Native.Nat.{ℕ, zero, suc, _+_, _*_, _≤_}
+use Prim.Native.Nat.{ℕ, zero, suc, _+_, _≤_}
 use mathlib.Core.Path.{_≡_, refl, ap, _∙_}
-use mathlib.Core.List.{List, [], _∷_, _++_, append-assoc, append-nil}
+use mathlib.Core.List.{List, [], _∷_, _++_}
 use mathlib.Core.Logic.{⊎-elim}
 use native.Mathlib.Omega.{arith}
 use lib.Dec.{ltb, eqb}
 use lib.ListN.{length, take, length-append}
 use borrow.Author.Tests.{ltb-false, eqb-false}
-use Rattle.layout.specs.Res.{Res, ok, refuse}
+use Rattle.layout.specs.Res.{ok}
 use Rattle.layout.specs.Place.{splice}
 use Rattle.layout.specs.Row.{Row}
 use Rattle.layout.specs.RowRead.{keyLength}
-use Rattle.layout.specs.Block.{offsets, trailer, blockBytes}
+use Rattle.layout.specs.Block.{trailer, blockBytes}
 use Rattle.layout.specs.Trailer.{Trailer}
-use Rattle.layout.specs.Builder.{Builder, stateTests, presentSize, build, blockAfter}
+use Rattle.layout.specs.Builder.{Builder, newBuilder, stateTests, presentSize, build, blockAfter}
 use Rattle.layout.specs.Cursor.{Cursor, marked, Keyed, found, done, stepIs}
-use Rattle.demands.specs.Runs.{Lending, lending, Call, offer, would-fit, is-empty, finish, lend-on, addTo, buildOf, after, taken, accepted, run, rowsOf, BeginAlike, TypedCall, TypedCalls, Ran, Finishes, Walks, stands, gives, EndsDone, RoomFor, backwards, WalksAll, stepsGive, GivesFirst}
+use Rattle.demands.specs.Lends.{Call, lendingOf, BeginAlike}
+use Rattle.demands.specs.LendsProof.{Keeps, kept-ran}
+use Rattle.demands.specs.Runs.{maker, Lending, Ran, Finishes, Walks, stands, gives, EndsDone, RoomFor, backwards, WalksAll, stepsBy, GivesFirst}
 use Rattle.layout.specs.Laws.Res.{bind-then, guard-then, ltb-cases}
-use Rattle.layout.specs.Laws.Splice.{length-splice, take-splice}
-use Rattle.layout.specs.Laws.Trailer.{length-trailer}
 use Rattle.demands.specs.Laws.Ascend.{Before, before-gives, before-done, marked-stays}
 use Rattle.demands.specs.Laws.Descend.{After, after-gives, after-done, FromEnd, empty, ending, from-end}
-use Rattle.layout.specs.Laws.Made.{Made, made-none, made-more, made-builds}
+use Rattle.layout.specs.Laws.Made.{Made, made-none, made-more, made-stands, made-builds}
 use Rattle.layout.specs.Laws.Step.{next-again}
 
 -- ---- the builder
 
 -- buffers that begin alike hold the same rows
-made-longer : (n : ℕ) (rs : List Row) (h : Lending) (bytes places : List ℕ) → Made n rs (h .builder) (h .bytes) (h .places) → BeginAlike h bytes places → Made n rs (h .builder) bytes places
+made-longer : (n : ℕ) (rs : List Row) (h : Lending) (bytes places : List ℕ) → Made n rs (h .builder) (h .bytes) (h .places) → BeginAlike maker h bytes places → Made n rs (h .builder) bytes places
 made-longer n rs h bytes places m a =
     record {
       interval-is = m .interval-is;
@@ -57,45 +57,23 @@ made-finish n rs b bytes places k m e =
     bind-then (stateTests b (length bytes) (length places)) _ k e λ u s e₁.
     guard-then (eqb (b .counter) 0) 7 _ k e₁ λ t₁ e₂.
     guard-then (ltb (length bytes) (presentSize b)) 6 _ k e₂ λ t₂ e₃.
-    let long : length (trailer (take (b .restarts) places)) ≡ 2 * b .restarts + 2 =
-    ap (λ (x : List ℕ). length (trailer x)) (m .places-are) ∙ length-trailer (offsets n rs) ∙ omega (arith, m .restarts-are) in
-    let fits : b .used + length (trailer (take (b .restarts) places)) ≤ length bytes = omega (arith, ltb-false (length bytes) (presentSize b) t₂) in
-    let same : length (splice bytes (b .used) (trailer (take (b .restarts) places))) ≡ length bytes = length-splice bytes (b .used) (trailer (take (b .restarts) places)) fits in
-    made-longer n rs (lending b bytes places) (splice bytes (b .used) (trailer (take (b .restarts) places))) places m
-    (record {
-      no-fewer-bytes = omega (arith, same);
-      no-fewer-places = omega arith;
-      same-bytes = take-splice bytes (b .used) (trailer (take (b .restarts) places)) fits;
-      same-places = refl;
-    })
+    let w = made-stands n rs b bytes places m (ltb-false (length bytes) (presentSize b) t₂) in
+    made-longer n rs (lendingOf maker b bytes places) (splice bytes (b .used) (trailer (take (b .restarts) places))) places m
+    (record { no-fewer-bytes = omega (arith, w .long); no-fewer-places = omega arith; same-bytes = w .begins; same-places = refl })
 
-pub made-after : (n : ℕ) (rs : List Row) (h : Lending) (c : Call) → Made n rs (h .builder) (h .bytes) (h .places) → TypedCall h c
-    → Made n (rs ++ accepted h c) (after h c .builder) (after h c .bytes) (after h c .places)
-made-after n rs h (offer r) m t = go (addTo h r) refl
-  where
-    go : (x : Res Builder) → addTo h r ≡ x → Made n (rs ++ taken (addTo h r) r) (after h (offer r) .builder) (after h (offer r) .bytes) (after h (offer r) .places)
-    go (ok b) e = rw e (made-more n rs (h .builder) (h .bytes) (h .places) r b m t e)
-    go (refuse k) e = rw (e, append-nil rs) m
-made-after n rs h (would-fit r) m t = rw (append-nil rs) m
-made-after n rs h is-empty m t = rw (append-nil rs) m
-made-after n rs h finish m t = rw (append-nil rs) (go (buildOf h) refl)
-  where
-    go : (x : Res ℕ) → buildOf h ≡ x → Made n rs (h .builder) (blockAfter (buildOf h) (h .builder) (h .bytes) (h .places)) (h .places)
-    go (ok k) e = rw e (made-finish n rs (h .builder) (h .bytes) (h .places) k m e)
-    go (refuse k) e = rw e m
-made-after n rs h (lend-on bytes places) m t = rw (append-nil rs) (made-longer n rs h bytes places m t)
-
-pub made-run : (n : ℕ) (rs : List Row) (h : Lending) (cs : List Call) → Made n rs (h .builder) (h .bytes) (h .places) → TypedCalls h cs
-    → Made n (rs ++ rowsOf h cs) (run h cs .builder) (run h cs .bytes) (run h cs .places)
-unfolding rowsOf run
-made-run n rs h [] m t = rw (append-nil rs) m
-made-run n rs h (c ∷ cs) m t =
-    rw (append-assoc rs (accepted h c) (rowsOf (after h c) cs)) at (made-run n (rs ++ accepted h c) (after h c) cs (made-after n rs h c m (t .0)) (t .1))
+pub made-kept : (n : ℕ) → Keeps maker (Made n)
+made-kept n =
+    record {
+      more = made-more n;
+      given = λ b b′. refl;
+      untouched = λ b bytes places r k. (refl, refl, refl);
+      unbuilt = λ b bytes places k. refl;
+      longer = made-longer n;
+      finished = made-finish n;
+    }
 
 pub made-ran : (size n : ℕ) (cs : List Call) (rows : List Row) (end : Lending) → Ran size n cs rows end → Made n rows (end .builder) (end .bytes) (end .places)
-made-ran size n cs rows end r =
-    rw (r .rows-are, r .ends)
-    (made-run n [] (lending (r .fresh-one) (r .bytes) (r .places)) cs (made-none size n (r .fresh-one) (r .bytes) (r .places) (r .is-new)) (r .typed))
+made-ran size n cs rows end r = kept-ran maker (Made n) (made-kept n) (newBuilder size n) cs rows end (made-none size n) r
 
 -- build answers a block only where a row was accepted
 pub finishes-some : (n : ℕ) (rows : List Row) (h : Lending) (block : List ℕ) → Made n rows (h .builder) (h .bytes) (h .places) → Finishes h block → 1 ≤ length rows
@@ -130,16 +108,16 @@ walks-before b t room c (k ∷ ks) q f =
     let w = walks-before b t room (g .moved) ks (g .then-before) (f .1) in
     record { last = w .last; walks = gives c (g .moved) (w .last) k ks t (c .region) (c .number) (q .stands .trailer-good) (g .named) (g .gives (f .0)) (w .walks); ends = w .ends }
 
-backwards-end : (ks : List Keyed) (k : Keyed) → backwards (ks ++ (k ∷ [])) ≡ k ∷ backwards ks
+pub backwards-end : (ks : List Keyed) (k : Keyed) → backwards (ks ++ (k ∷ [])) ≡ k ∷ backwards ks
 unfolding backwards
 backwards-end [] k = refl
 backwards-end (x ∷ ks) k = rw (backwards-end ks k)
 
-room-first : (room : ℕ) (xs ys : List Keyed) → RoomFor room (xs ++ ys) → RoomFor room xs
+pub room-first : (room : ℕ) (xs ys : List Keyed) → RoomFor room (xs ++ ys) → RoomFor room xs
 room-first room [] ys f = tt
 room-first room (x ∷ xs) ys f = (f .0, room-first room xs ys (f .1))
 
-room-last : (room : ℕ) (xs : List Keyed) (k : Keyed) → RoomFor room (xs ++ (k ∷ [])) → keyLength (k .row) ≤ room
+pub room-last : (room : ℕ) (xs : List Keyed) (k : Keyed) → RoomFor room (xs ++ (k ∷ [])) → keyLength (k .row) ≤ room
 room-last room [] k f = f .0
 room-last room (x ∷ xs) k f = room-last room xs k (f .1)
 
@@ -174,7 +152,7 @@ walks-after (suc n) b t room c rows h q f = go rows (from-end rows) h q f (walks
 
 -- a row whose key has no room stays to be given; every other step goes on along the walk
 pub walks-first : (b : List ℕ) (room : ℕ) (rooms : List ℕ) (c : Cursor) (rows : List Keyed) → WalksAll b room c rows → GivesFirst b c rooms rows
-unfolding stepsGive
+unfolding stepsBy
 walks-first b room [] c rows w = record { rest = rows; parts = refl }
 walks-first b room (other ∷ rooms) c rows w = go c rows (w .last) (w .walks) (w .ends) (walks-first b room rooms)
   where

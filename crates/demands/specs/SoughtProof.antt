@@ -26,12 +26,12 @@ use Rattle.demands.specs.Laws.LandsUp.{LandsUp, lands, passes, landed}
 use Rattle.demands.specs.Laws.LandsDown.{LandsDown, lands as lands-down, passes as passes-down}
 use Rattle.demands.specs.Laws.AnyOrder.{search-among, lands-among, StartsAt, start-among, LandsAfter, after, nowhere, down-among}
 
-room-drop : (room n : ℕ) (ks : List Keyed) → RoomFor room ks → RoomFor room (drop n ks)
+pub room-drop : (room n : ℕ) (ks : List Keyed) → RoomFor room ks → RoomFor room (drop n ks)
 room-drop room zero ks f = f
 room-drop room (suc n) [] f = tt
 room-drop room (suc n) (k ∷ ks) f = room-drop room n ks (f .1)
 
-room-take : (room n : ℕ) (ks : List Keyed) → RoomFor room ks → RoomFor room (take n ks)
+pub room-take : (room n : ℕ) (ks : List Keyed) → RoomFor room ks → RoomFor room (take n ks)
 room-take room zero ks f = tt
 room-take room (suc n) [] f = tt
 room-take room (suc n) (k ∷ ks) f = (f .0, room-take room n ks (f .1))

@@ -9,7 +9,8 @@ use lib.Dec.{eqb}
 use lib.ListN.{length, take}
 use Rattle.layout.specs.Res.{Res, ok, refuse, guard}
 use Rattle.layout.specs.Block.{trailer}
-use Rattle.layout.specs.Builder.{Builder, restartsOf, stateTests, presentSize, build}
+use Rattle.layout.specs.Place.{splice}
+use Rattle.layout.specs.Builder.{Builder, restartsOf, stateTests, build}
 use Rattle.layout.specs.Limits.{maxKey, maxBlock, maxInterval, maxRestarts}
 use Rattle.layout.specs.Laws.Res.{eqb-cases}
 use Rattle.layout.specs.Laws.Builder.{state-good, state-tells, build-state, build-none, build-short, build-good}
@@ -18,7 +19,7 @@ use lib.Seq.{length-take-le}
 use Rattle.layout.specs.Laws.Trailer.{length-trailer}
 use Rattle.basics.specs.Number.{number}
 use Rattle.basics.specs.declared.Refusal.{Refusal}
-use Rattle.basics.specs.declared.Refusal.the-variants.{EmptyBlock, BadState}
+use Rattle.basics.specs.declared.Refusal.the-variants.{BufferTooSmall, EmptyBlock, BadState}
 use Rattle.buf_mut.specs.Promise.{Puts}
 use Rattle.buf_mut.specs.declared.Put.{Put}
 use Rattle.buf_mut.specs.declared.Put.the-variants.{At, Refused as PutRefused}
@@ -63,6 +64,30 @@ state-refused t e q = rw q at e
 pub state-taken : {x : Res (Unit {0})} (t : Bool) → x ≡ guard t 18 (ok tt) → t ≡ false → x ≡ ok tt
 state-taken t e q = rw q at e
 
+-- ---- a trailer of `count` offsets, put after `used` bytes, whatever the format: it is as long as the room that building tests
+
+pub record Trailed (bytes places : List ℕ) (used count : ℕ) (bytes′ : List ℕ) (n : ℕ) : Type 0 where
+  pub is : bytes′ ≡ splice bytes used (trailer (take count places))
+  pub next : n ≡ used + 2 * count + 2
+  pub room : n ≤ length bytes
+
+module _ (bytes places : List ℕ) (used count : ℕ) (in-places : count ≤ length places) where
+  long : used + length (trailer (take count places)) ≡ used + 2 * count + 2
+  long =
+      let l : length (take count places) ≡ count = length-take-le count places in-places in
+      omega (arith, length-trailer (take count places), l)
+
+  module _ {p : Put} {bytes′ : List ℕ} (q : Puts (trailer (take count places)) bytes used p bytes′) where
+    pub trailer-put : {n : ℕ} → p ≡ At n → Trailed bytes places used count bytes′ n
+    trailer-put t =
+        let w = puts-at (rw t at q) in
+        record { is = w .is; next = w .next ∙ long; room = w .room }
+
+    pub trailer-not : {x : Refusal} → p ≡ PutRefused x → (x ≡ BufferTooSmall) × (bytes′ ≡ bytes) × (length bytes < used + 2 * count + 2)
+    trailer-not t =
+        let no = puts-refused (rw t at q) in
+        (no .0, no .1, omega (arith, long, no .2))
+
 -- ---- building
 
 module _ (s : State) (bytes places last : List ℕ) where
@@ -76,22 +101,18 @@ module _ (s : State) (bytes places last : List ℕ) where
     pub ends-none : s .counter ≡ 0 → Ends (viewFrom s last) bytes places (BuildRefused EmptyBlock) bytes
     ends-none z = ends-not (build-none (viewFrom s last) (length bytes) (length places) state z)
 
-    -- the trailer is as long as the room that is tested
-    long : s .used + length (trailer (take (s .restarts) places)) ≡ presentSize (viewFrom s last)
-    long =
-        let o = state-tells (viewFrom s last) (length bytes) (length places) tt state in
-        let l : length (take (s .restarts) places) ≡ s .restarts = length-take-le (s .restarts) places (o .in-places) in
-        omega (arith, length-trailer (take (s .restarts) places), l)
-
     module _ (some : s .counter ≡ 0 → ⊥) {p : Put} {bytes′ : List ℕ} (q : Puts (trailer (take (s .restarts) places)) bytes (s .used) p bytes′) where
+      in-places : s .restarts ≤ length places
+      in-places = state-tells (viewFrom s last) (length bytes) (length places) tt state .in-places
+
       pub ends-block : {n : ℕ} → p ≡ At n → Ends (viewFrom s last) bytes places (Block n) bytes′
       ends-block t =
-          let w = puts-at (rw t at q) in
-          let e = build-good (viewFrom s last) (length bytes) (length places) state some (omega (arith, long, w .next, w .room)) in
-          record { answer = ap ok (w .next ∙ long) ∙ sym e; bytes-after = rw e (w .is) }
+          let w = trailer-put bytes places (s .used) (s .restarts) in-places q t in
+          let e = build-good (viewFrom s last) (length bytes) (length places) state some (omega (arith, w .next, w .room)) in
+          record { answer = ap ok (w .next) ∙ sym e; bytes-after = rw e (w .is) }
 
       pub ends-short : {x : Refusal} → p ≡ PutRefused x → Ends (viewFrom s last) bytes places (BuildRefused x) bytes′
       ends-short t =
-          let no = puts-refused (rw t at q) in
-          let e = build-short (viewFrom s last) (length bytes) (length places) state some (omega (arith, long, no .2)) in
+          let no = trailer-not bytes places (s .used) (s .restarts) in-places q t in
+          let e = build-short (viewFrom s last) (length bytes) (length places) state some (no .2) in
           rw (no .0, no .1) (ends-not e)

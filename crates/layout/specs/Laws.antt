@@ -9,8 +9,10 @@ pub mod Compare
 pub mod Order
 pub mod Match
 pub mod Words
+pub mod OneRow
 pub mod Row
 pub mod Tells
+pub mod Encoded
 pub mod RowExits
 pub mod Plain
 pub mod RowWrite

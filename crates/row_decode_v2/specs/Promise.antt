@@ -3,8 +3,11 @@ use Prim.Native.Nat.{ℕ}
 use mathlib.Core.Path.{_≡_}
 use mathlib.Core.Bool.{Bool}
 use mathlib.Core.List.{List}
-use Rattle.layout.specs.RowRead.{decodeRow, readRow, readKey}
+use Rattle.layout.specs.RowRead.{Held, heldAs, decodeRow, readRow, readKey}
+use Rattle.basics.specs.Says.{saysKind, saysHeld}
+use Rattle.basics.specs.declared.Kind.{Kind}
 use Rattle.basics.specs.declared.Refusal.{Refusal}
+use Rattle.basics.specs.declared.ValueDeletable.{ValueDeletable}
 use Rattle.row_decode_v2.specs.declared.RowRead.{RowRead}
 use Rattle.row_decode_v2.specs.declared.KeyRead.{KeyRead}
 use Rattle.row_decode_v2.specs.Says.{saysRow, refusalOfRow, saysKey, refusalOfKey}
@@ -26,3 +29,10 @@ DecodesKey s at end prevLen restart r = saysKey r ≡ readKey s at end prevLen r
 
 abbrev pub KeyRefusal : KeyRead → Refusal → Type 0
 KeyRefusal a r = r ≡ refusalOfKey a
+
+-- what a row of this kind holds, of value bytes that stand at a place
+abbrev pub heldFrom : Kind → ℕ → ℕ → Held
+heldFrom k at n = heldAs (saysKind k) at n
+
+abbrev pub HeldAs : Kind → ℕ → ℕ → ValueDeletable → Type 0
+HeldAs k at n r = saysHeld r ≡ heldFrom k at n

@@ -1,10 +1,8 @@
 -- What the answers of the parts of a read say, and the refusal that each hands on: where an answer is none, it does not matter which.
-use Prim.Native.Nat.{ℕ}
 use Rattle.layout.specs.Res.{Res, ok, refuse}
-use Rattle.layout.specs.RowRead.{Lengths, lengthsIs, Held, heldAs, Body as BodyL, bodyIs}
+use Rattle.layout.specs.RowRead.{Lengths, lengthsIs, Body as BodyL, bodyIs}
 use Rattle.basics.specs.Number.{number}
-use Rattle.basics.specs.Says.{saysKind, saysHeld}
-use Rattle.basics.specs.declared.Kind.{Kind}
+use Rattle.basics.specs.Says.{saysHeld}
 use Rattle.basics.specs.declared.Refusal.{Refusal}
 use Rattle.basics.specs.declared.Refusal.the-variants.{BadState}
 use Rattle.row_flags_decode.specs.Says.{flagsFrom}
@@ -39,9 +37,6 @@ refusalOfHead (ReadHead h) = BadState
 refusalOfHead (HeadRefused r) = r
 
 -- ---- value, seq and flags
-
-abbrev pub heldFrom : Kind → ℕ → ℕ → Held
-heldFrom k at n = heldAs (saysKind k) at n
 
 abbrev pub bodyFrom : Body → BodyL
 bodyFrom b = bodyIs (saysHeld (b .held)) (b .seq) (flagsFrom (b .flags)) (b .next)

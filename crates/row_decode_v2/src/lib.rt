@@ -6,11 +6,10 @@ ghost use Prim.Native.Nat.{_≤_};
 ghost use lib.ListN.{length};
 ghost use Rattle.layout.specs.Limits.{maxKey};
 ghost use Rattle.layout.specs.RowRead.{lengthsAt, mayShare, headAt, bodyAt, rowIs};
-ghost use Rattle.basics.specs.Says.{saysHeld};
 ghost use Rattle.row_flags_decode.specs.Says.{timesFrom};
 ghost use Rattle.row_decode_v2.specs.Says.{rowFrom};
-ghost use Rattle.row_decode_v2.specs.Promise.{Decodes, DecodesAt, DecodesKey, RowRefusal, KeyRefusal};
-ghost use Rattle.row_decode_v2.specs.Reading.{saysLengths, lengthsFrom, saysHead, heldFrom, bodyFrom, saysBody, refusalOfLengths, refusalOfHead, refusalOfBody};
+ghost use Rattle.row_decode_v2.specs.Promise.{Decodes, DecodesAt, DecodesKey, HeldAs, RowRefusal, KeyRefusal};
+ghost use Rattle.row_decode_v2.specs.Reading.{saysLengths, lengthsFrom, saysHead, bodyFrom, saysBody, refusalOfLengths, refusalOfHead, refusalOfBody};
 use basics::Kind;
 use basics::Refusal;
 use basics::Time;
@@ -216,8 +215,8 @@ fn head_at(s: &[u8], at: usize, previous_len: usize, restart: bool) -> HeadRead
 }
 
 // Value bytes that a tombstone was written with are dropped.
-fn held_as(kind: Kind, start: usize, len: usize) -> ValueDeletable
-    ensures { λ r. ⌜ saysHeld r ≡ heldFrom kind start len ⌝ }
+pub fn held_as(kind: Kind, start: usize, len: usize) -> ValueDeletable
+    ensures { λ r. ⌜ HeldAs kind start len r ⌝ }
 {
     match kind {
         Kind::Value => ValueDeletable::Value { start, len },

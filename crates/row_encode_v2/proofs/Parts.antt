@@ -1,4 +1,4 @@
--- What the proofs cite: three writes that follow one another with room for all, and the three parts that a row is written in.
+-- What the proofs cite: the three parts that a row is written in.
 -- A row's bytes are its lengths, its body and its marks, one after another (`row-parts`); so room for the row is room for each part where the one before it ended.
 use Prim.Native.Nat.{ℕ, _+_, _≤_}
 use mathlib.Core.Path.{_≡_, refl, ap, _∙_}
@@ -9,21 +9,12 @@ use lib.Seq.{take-all}
 use Rattle.layout.specs.Row.{Kind, value, tombstone, merge, kept, keptLength, rowBytes}
 use Rattle.layout.specs.Laws.RowWrite.{rowBytes-parts}
 use Rattle.layout.specs.Laws.Row.{length-kept}
-use Rattle.layout.specs.Laws.Splice.{Wrote, wrote-then}
+use Rattle.layout.specs.Laws.Splice.{Wrote}
 use Rattle.basics.specs.Says.{saysKind}
-use Rattle.buf_mut.specs.declared.Put.{Put}
-use Rattle.buf_mut.specs.Says.{placeAfter}
-use Rattle.buf_mut.specs.Promise.{Puts}
-use Rattle.row_flags.specs.Says.{fieldsFrom}
+use Rattle.buf_mut.proofs.Laws.{room-first, room-next}
+use Rattle.row_flags.specs.Says.{fieldsFrom, markBytes}
 use Rattle.row_flags.specs.declared.RowFields.{RowFields}
-use Rattle.row_size_v2.proofs.Writes.{room-first, room-next, put-one, put-two}
-use Rattle.row_encode_v2.specs.Parts.{lengthBytes, bodyBytes, markBytes}
-
-pub put-three : {xs ys zs out w w′ w″ : List ℕ} {at a b n : ℕ} {p q r : Put} → at + length (w ++ (w′ ++ w″)) ≤ length xs → Puts w xs at p ys → a ≡ placeAfter p
-    → Puts w′ ys a q zs → b ≡ placeAfter q → Puts w″ zs b r out → n ≡ placeAfter r → Wrote xs at (w ++ (w′ ++ w″)) out n
-put-three {w = w} {w′} {w″} {at} h x d y e z f =
-    let one = put-one (room-first at w (w′ ++ w″) h) x d in
-    wrote-then one (put-two (room-next (w′ ++ w″) one h) y e z f)
+use Rattle.row_encode_v2.specs.Parts.{lengthBytes, bodyBytes}
 
 -- the bytes of the value that are kept
 pub take-kept : (k : Kind) (v : List ℕ) → take (keptLength k (length v)) v ≡ kept k v

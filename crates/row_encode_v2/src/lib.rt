@@ -7,7 +7,7 @@ ghost use Rattle.layout.specs.Row.{keptLength, rowBytes};
 ghost use Rattle.layout.specs.Laws.Splice.{Wrote};
 ghost use Rattle.basics.specs.Says.{saysKind};
 ghost use Rattle.row_flags.specs.Says.{fieldsFrom};
-ghost use Rattle.row_encode_v2.specs.Parts.{lengthBytes, bodyBytes, markBytes};
+ghost use Rattle.row_encode_v2.specs.Parts.{lengthBytes, bodyBytes};
 ghost use Rattle.row_encode_v2.specs.Promise.{Encodes};
 use basics::Refusal;
 use row_flags::RowFields;
@@ -39,17 +39,6 @@ fn write_body(output: &mut [u8], at: usize, key_suffix: &[u8], value: &[u8], seq
     buf_mut::place_after(buf_mut::put_u64(output, b, seq))
 }
 
-fn write_marks(output: &mut [u8], at: usize, row: RowFields) -> usize
-    requires { ⌜ at + length (markBytes row) ≤ length (now output) ⌝ }
-    ensures { λ r. ⌜ Wrote (now (output .entry)) at (markBytes row) (now (output .exit)) r ⌝ }
-{
-    let expire = row.expire;
-    let create = row.create;
-    output[at] = row_flags::flags(row);
-    let a = buf_mut::place_after(row_flags::write_time(output, at + 1, expire));
-    buf_mut::place_after(row_flags::write_time(output, a, create))
-}
-
 // The row at the start of `output`, once its lengths and its room are tested.
 fn write_row(
     output: &mut [u8],
@@ -67,7 +56,7 @@ fn write_row(
     let kept = row_flags::kept_len(kind, value.len());
     let a = write_lengths(output, 0, shared, key_suffix.len(), kept);
     let b = write_body(output, a, key_suffix, &value[..kept], seq);
-    write_marks(output, b, row)
+    buf_mut::place_after(row_flags::write_marks(output, b, row))
 }
 
 pub enum Encoded {

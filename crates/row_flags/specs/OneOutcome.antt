@@ -10,6 +10,7 @@ use Rattle.buf_mut.specs.declared.Put.{Put}
 use Rattle.buf_mut.specs.Promise.{Puts}
 use Rattle.buf_mut.specs.OneOutcome.{puts-settled}
 use Rattle.row_flags.specs.declared.RowFields.{RowFields}
+use Rattle.row_flags.specs.Says.{markBytes}
 use Rattle.row_flags.specs.Promise.{Keeps, Flagged, TimeLength}
 
 pub kept-len-settled : (kind : Kind) (n r q : ℕ) → Keeps kind n r → Keeps kind n q → r ≡ q
@@ -24,3 +25,6 @@ time-len-settled time r q a b = a .0 ∙ sym (b .0)
 pub write-time-settled : (time : Time) (out : List ℕ) (at : ℕ) (r q : Put) (ys zs : List ℕ) → Puts (timeBytes (saysTime time)) out at r ys → Puts (timeBytes (saysTime time)) out at q zs
     → (r ≡ q) × (ys ≡ zs)
 write-time-settled time = puts-settled (timeBytes (saysTime time))
+
+pub write-marks-settled : (row : RowFields) (out : List ℕ) (at : ℕ) (r q : Put) (ys zs : List ℕ) → Puts (markBytes row) out at r ys → Puts (markBytes row) out at q zs → (r ≡ q) × (ys ≡ zs)
+write-marks-settled row = puts-settled (markBytes row)

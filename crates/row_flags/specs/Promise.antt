@@ -1,4 +1,4 @@
--- What each public function promises: equations to the definitions of `layout`, that settle each number answered. That of `write_time` is `Puts` of `buf_mut`.
+-- What each public function promises: equations to the definitions of `layout`, that settle each number answered. Those of `write_time` and `write_marks` are `Puts` of `buf_mut`.
 use Prim.Native.Nat.{ℕ, _≤_}
 use mathlib.Core.Path.{_≡_}
 use Rattle.layout.specs.Row.{keptLength, ifSo, present, flagsOf}

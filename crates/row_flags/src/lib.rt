@@ -6,6 +6,7 @@ ghost use Prim.Native.Nat.{_≤_};
 ghost use Rattle.layout.specs.Row.{kindBits, ifSo, present, timeBytes};
 ghost use Rattle.basics.specs.Says.{saysKind, saysTime};
 ghost use Rattle.buf_mut.specs.Promise.{Puts};
+ghost use Rattle.row_flags.specs.Says.{markBytes};
 ghost use Rattle.row_flags.specs.Promise.{Flagged, Keeps, TimeLength};
 use basics::Kind;
 use basics::Refusal;
@@ -93,4 +94,19 @@ pub fn write_time(output: &mut [u8], at: usize, time: Time) -> Put
         return Put::At(at);
     };
     buf_mut::put_i64(output, at, t)
+}
+
+// Writes a row's flags at `at`, then its expire time, then its create time.
+pub fn write_marks(output: &mut [u8], at: usize, row: RowFields) -> Put
+    ensures { λ r. ⌜ Puts (markBytes row) (now (output .entry)) at r (now (output .exit)) ⌝ }
+{
+    let expire = row.expire;
+    let create = row.create;
+    let len = 1 + time_len(expire) + time_len(create);
+    if numbers::rest_from(output.len(), at) < len {
+        return Put::Refused(Refusal::BufferTooSmall);
+    }
+    output[at] = flags(row);
+    let a = buf_mut::place_after(write_time(output, at + 1, expire));
+    write_time(output, a, create)
 }

@@ -1,48 +1,19 @@
--- What the proofs cite: writes that follow one another with room for all; the promise of a function that writes at the start of a buffer; and the exits of the
--- tests of a key's length and of a row's size.
+-- What the proofs cite: the promise of a function that writes at the start of a buffer; and the exits of the tests of a key's length and of a row's size.
 use Prim.Native.Nat.{ℕ, _+_, _≤_, _<_}
 use mathlib.Core.Path.{_≡_, refl, sym, ap, _∙_}
 use mathlib.Core.Bool.{Bool}
-use mathlib.Core.List.{List, _++_}
+use mathlib.Core.List.{List}
 use native.Mathlib.Nat.{zero-add}
 use native.Mathlib.Omega.{arith}
-use lib.ListN.{length, length-append}
 use Rattle.layout.specs.Res.{Res, ok, refuse, bind}
 use Rattle.layout.specs.Limits.{maxKey, maxValue}
-use Rattle.layout.specs.Row.{Kind, keptLength, ifSo, keyLengthTests, sizeAlone}
+use Rattle.layout.specs.Row.{Kind, keptLength, ifSo, keyLengthTests, lengthTests, sizeAlone}
 use Rattle.layout.specs.Varint.{varintLength}
 use Rattle.layout.specs.Laws.RowExits.{key-empty, key-long, key-fits, lengths-key, lengths-value, lengths-fit, size-no, size-is}
 use Rattle.layout.specs.Laws.RowWrite.{rowSize-sum}
-use Rattle.layout.specs.Laws.Splice.{Wrote, wrote-then, wrote-length}
+use Rattle.layout.specs.Laws.Splice.{Wrote}
 use Rattle.layout.specs.Laws.Tells.{keyLengthTests-tells}
-use Rattle.buf_mut.specs.declared.Put.{Put}
-use Rattle.buf_mut.specs.Promise.{Puts}
-use Rattle.buf_mut.specs.Says.{placeAfter}
-use Rattle.buf_mut.proofs.Laws.{puts-at, puts-fits}
-use Rattle.row_size_v2.specs.Parts.{keyLength}
-use Rattle.row_size_v2.specs.Promise.{Lays}
-
--- ---- writes
-
--- room for both is room for the first, and after it for the second
-pub room-first : (a : ℕ) (w w′ : List ℕ) {k : ℕ} → a + length (w ++ w′) ≤ k → a + length w ≤ k
-room-first a w w′ h = omega (arith, length-append w w′)
-
-pub room-next : {xs ys w : List ℕ} {a n : ℕ} (w′ : List ℕ) → Wrote xs a w ys n → a + length (w ++ w′) ≤ length xs → n + length w′ ≤ length ys
-room-next {w = w} w′ p h = omega (arith, length-append w w′, p .next, wrote-length p)
-
--- a writer that had room wrote, and the place after is in its answer
-pub put-one : {xs ys w : List ℕ} {at n : ℕ} {p : Put} → at + length w ≤ length xs → Puts w xs at p ys → n ≡ placeAfter p → Wrote xs at w ys n
-put-one {w = w} {at} {n} h q e =
-    let is = puts-fits h q in
-    let m : n ≡ at + length w = e ∙ ap placeAfter is in
-    rw m (puts-at (rw is at q))
-
-pub put-two : {xs ys zs w w′ : List ℕ} {at a n : ℕ} {p q : Put} → at + length (w ++ w′) ≤ length xs → Puts w xs at p ys → a ≡ placeAfter p → Puts w′ ys a q zs
-    → n ≡ placeAfter q → Wrote xs at (w ++ w′) zs n
-put-two {w = w} {w′} {at} h x d y e =
-    let one = put-one (room-first at w w′ h) x d in
-    wrote-then one (put-one (room-next w′ one h) y e)
+use Rattle.row_size_v2.specs.Promise.{keyLength, Lays}
 
 -- ---- promises
 
@@ -78,18 +49,31 @@ module _ (n : ℕ) where
       go (ok u) t q = (t, cc, keyLengthTests-tells n u t .1)
       go (refuse k) t q = absurd (let z : _≡_ {A = ℕ} 0 1 = cc in omega arith)
 
+-- ---- the tests of both lengths, by the key's
+
+module _ (n v : ℕ) where
+  pub tests-unkeyed : {k : ℕ} → keyLength n ≡ refuse k → lengthTests n v ≡ refuse k
+  tests-unkeyed q = sym (lengths-key _ _ (key-refused _ q))
+
+  module _ {m : ℕ} (q : keyLength n ≡ ok m) where
+    pub tests-over : maxValue < v → lengthTests n v ≡ refuse 3
+    tests-over h = sym (lengths-value _ _ (key-tested _ q .0) h)
+
+    pub tests-pass : v ≤ maxValue → lengthTests n v ≡ ok tt
+    tests-pass h = sym (lengths-fit _ _ (key-tested _ q .0) h)
+
 -- ---- the exits of a row's size, by its key's length
 
 module _ (shared suffixLen : ℕ) (k : Kind) (offered : ℕ) (e c : Bool) where
   pub size-unkeyed : {n : ℕ} → keyLength (shared + suffixLen) ≡ refuse n → refuse n ≡ sizeAlone shared suffixLen k offered e c
-  size-unkeyed q = size-no _ _ _ _ _ _ (sym (lengths-key _ _ (key-refused _ q)))
+  size-unkeyed q = size-no _ _ _ _ _ _ (tests-unkeyed _ _ q)
 
   module _ {n v : ℕ} (q : keyLength (shared + suffixLen) ≡ ok n) (is : v ≡ keptLength k offered) where
     pub size-over : maxValue < v → refuse 3 ≡ sizeAlone shared suffixLen k offered e c
-    size-over h = size-no _ _ _ _ _ _ (sym (lengths-value _ _ (key-tested _ q .0) (omega arith)))
+    size-over h = size-no _ _ _ _ _ _ (tests-over _ _ q (omega arith))
 
     pub size-sum : {x y z t u : ℕ} → v ≤ maxValue → x ≡ varintLength shared → y ≡ varintLength suffixLen → z ≡ varintLength v → t ≡ ifSo e 8 → u ≡ ifSo c 8
         → ok (x + y + z + suffixLen + v + 9 + (t + u)) ≡ sizeAlone shared suffixLen k offered e c
     size-sum {x} {y} {z} {t} {u} h ex ey ez et eu =
         let len : varintLength v ≡ varintLength (keptLength k offered) = ap varintLength is in
-        ap ok (omega (arith, rowSize-sum shared suffixLen (keptLength k offered) e c)) ∙ size-is _ _ _ _ _ _ (sym (lengths-fit _ _ (key-tested _ q .0) (omega arith)))
+        ap ok (omega (arith, rowSize-sum shared suffixLen (keptLength k offered) e c)) ∙ size-is _ _ _ _ _ _ (tests-pass _ _ q (omega arith))

@@ -7,8 +7,11 @@ use Rattle.basics.specs.declared.Refusal.{Refusal}
 use Rattle.basics.specs.declared.Time.{Time}
 use Rattle.row_size_v2.specs.declared.Sized.{Sized}
 use Rattle.row_size_v2.specs.declared.Restored.{Restored}
-use Rattle.row_size_v2.specs.Promise.{Sizes, SizeRefusal, Restores}
+use Rattle.row_size_v2.specs.Promise.{TestsKey, Sizes, SizeRefusal, Restores}
 use Rattle.row_size_v2.specs.Says.{saysSized-one, saysRestored-one}
+
+pub key-len-settled : (shared suffixLen : ℕ) (r q : Sized) → TestsKey shared suffixLen r → TestsKey shared suffixLen q → r ≡ q
+key-len-settled shared suffixLen r q a b = saysSized-one r q (a ∙ sym b)
 
 pub encoded-size-settled : (shared suffixLen : ℕ) (kind : Kind) (valueLen : ℕ) (expire create : Time) (r q : Sized)
     → Sizes shared suffixLen kind valueLen expire create r → Sizes shared suffixLen kind valueLen expire create q → r ≡ q

@@ -1,10 +1,10 @@
 -- What each public function promises: equations to the definitions of `layout`, that settle each number answered and each byte lent.
-use Prim.Native.Nat.{ℕ}
+use Prim.Native.Nat.{ℕ, _+_}
 use mathlib.Core.Path.{_≡_}
 use mathlib.Core.List.{List}
 use lib.ListN.{length}
 use Rattle.layout.specs.Res.{Res, ok, bind}
-use Rattle.layout.specs.Row.{present, sizeAlone, written, restoreKey}
+use Rattle.layout.specs.Row.{present, keyLengthTests, sizeAlone, written, restoreKey}
 use Rattle.basics.specs.Says.{saysKind, saysTime}
 use Rattle.basics.specs.declared.Kind.{Kind}
 use Rattle.basics.specs.declared.Refusal.{Refusal}
@@ -12,6 +12,13 @@ use Rattle.basics.specs.declared.Time.{Time}
 use Rattle.row_size_v2.specs.declared.Sized.{Sized}
 use Rattle.row_size_v2.specs.declared.Restored.{Restored}
 use Rattle.row_size_v2.specs.Says.{saysSized, sizedRefusal, saysRestored}
+
+-- the length of a key that passed its tests
+abbrev pub keyLength : ℕ → Res ℕ
+keyLength n = bind (keyLengthTests n) λ _. ok n
+
+abbrev pub TestsKey : ℕ → ℕ → Sized → Type 0
+TestsKey shared suffixLen r = saysSized r ≡ keyLength (shared + suffixLen)
 
 abbrev pub Sizes : ℕ → ℕ → Kind → ℕ → Time → Time → Sized → Type 0
 Sizes shared suffixLen kind valueLen expire create r =

@@ -2,11 +2,9 @@
 // Follows slatedb 0.16.0, src/format/row_codec_v2.rs (Apache License 2.0), and is changed: a key is restored to a lent slice, and what the lengths or the room
 // can break is a refusal.
 ghost use mathlib.Core.Path.{_≡_};
-ghost use Prim.Native.Nat.{_≤_, _<_, _+_, _^_};
+ghost use Prim.Native.Nat.{_≤_, _<_, _^_};
 ghost use Rattle.layout.specs.Varint.{varintLength};
-ghost use Rattle.row_size_v2.specs.Says.{saysSized};
-ghost use Rattle.row_size_v2.specs.Parts.{keyLength};
-ghost use Rattle.row_size_v2.specs.Promise.{Sizes, SizeRefusal, Restores};
+ghost use Rattle.row_size_v2.specs.Promise.{TestsKey, Sizes, SizeRefusal, Restores};
 use basics::Kind;
 use basics::Refusal;
 use basics::Time;
@@ -29,8 +27,8 @@ pub fn size_refusal(size: Sized) -> Refusal
 }
 
 // The full key's length: 1, 2. Each part is tested by itself first, since their sum may wrap; a key with such a part is over its limit, and not empty.
-fn key_len(shared: usize, suffix_len: usize) -> Sized
-    ensures { λ r. ⌜ saysSized r ≡ keyLength (shared + «suffix_len») ⌝ }
+pub fn key_len(shared: usize, suffix_len: usize) -> Sized
+    ensures { λ r. ⌜ TestsKey shared «suffix_len» r ⌝ }
 {
     if basics::MAX_KEY < shared {
         return Sized::Refused(Refusal::KeyTooLong);

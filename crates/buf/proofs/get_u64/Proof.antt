@@ -12,7 +12,7 @@ returns c = fixedAt-none 8 _ _ (omega arith)
 returns-2 : tie.Need-returns-2
 returns-2 c =
     let a = c .before .before .before .before .before .args in
-    rw (c .before .four .ensures .0, c .four2 .ensures .0) (fixedAt-eight (a .s .now) (a .at) (omega arith))
+    rw (c .before .four-at .ensures .0, c .four-at2 .ensures .0) (fixedAt-eight (a .s .now) (a .at) (omega arith))
 
 pub get-u64-spec : {M : Type 1} → statement M
 get-u64-spec =

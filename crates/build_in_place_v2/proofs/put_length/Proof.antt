@@ -1,5 +1,5 @@
 -- `put_length` writes a varint: the length fits 32 bits, as required, so the cast keeps it, and there is room for it.
-use Rattle.row_size_v2.proofs.Writes.{put-one}
+use Rattle.buf_mut.proofs.Laws.{put-one}
 use borrow.Author.Needs.{needs}
 use Rattle.build_in_place_v2.proofs.put_length.Statement.{statement}
 use Rattle.build_in_place_v2.proofs.put_length.Tie as tie

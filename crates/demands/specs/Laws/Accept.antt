@@ -86,16 +86,16 @@ past-row b t offs g at region before carried r key s e =
     (ltb-cases (region + 1) (t .count))))
     (ltb-cases (r .next) (g .end))
 
-verdict-none : (before : Rank) (rows : ℕ) → verdict before [] rows ≡ ok rows
+pub verdict-none : (before : Rank) (rows : ℕ) → verdict before [] rows ≡ ok rows
 unfolding verdict
 verdict-none before rows = refl
 
-verdict-next : (before r : Rank) (rs : List Rank) (rows : ℕ) → verdict before (r ∷ rs) rows ≡ guard (not (mayFollow before r)) 17 (verdict r rs (rows + 1))
+pub verdict-next : (before r : Rank) (rs : List Rank) (rows : ℕ) → verdict before (r ∷ rs) rows ≡ guard (not (mayFollow before r)) 17 (verdict r rs (rows + 1))
 unfolding verdict
 verdict-next before r rs rows = refl
 
 -- a refusal before what follows, on both sides
-after-guard : {A B : Type 0} (t : Bool) (a : A) (f : A → Res B) (x : Res B) → f a ≡ x → bind (guard t 17 (ok a)) f ≡ guard t 17 x
+pub after-guard : {A B : Type 0} (t : Bool) (a : A) (f : A → Res B) (x : Res B) → f a ≡ x → bind (guard t 17 (ok a)) f ≡ guard t 17 x
 after-guard true a f x e = refl
 after-guard false a f x e = e
 
@@ -340,7 +340,7 @@ check-verdict b t regions reads =
             rw (allRows-next here rest) (covers-verdict b t offs (t .size) g 0 0 0 noRank [] here rest s (omega arith) p′ (rw (← k) w))
 
 -- rows in order are counted
-verdict-rising : (before : Rank) (rs : List Rank) (rows : ℕ) → Rising before rs → verdict before rs rows ≡ ok (rows + length rs)
+pub verdict-rising : (before : Rank) (rs : List Rank) (rows : ℕ) → Rising before rs → verdict before rs rows ≡ ok (rows + length rs)
 verdict-rising before [] rows o = verdict-none before rows ∙ ap ok (omega arith)
 verdict-rising before (r ∷ rs) rows o = rw (verdict-next before r rs rows, o .0) (verdict-rising r rs (rows + 1) (o .1) ∙ ap ok (omega arith))
 

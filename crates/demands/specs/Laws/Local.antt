@@ -28,7 +28,7 @@ module _ (p s s′ : List ℕ) where
       let e₃ = rw (drop-append-le at p s (omega arith)) at e₁ in
       rw (drop-append-le at p s′ (omega arith), readVarint-local (drop at p) s s′ a e₃ (rw (length-drop at p) (omega arith))) e₂
 
-  fixedAt-local : (n at : ℕ) (r : NumAt) → fixedAt n (p ++ s) at ≡ ok r → r .next ≤ length p → fixedAt n (p ++ s′) at ≡ ok r
+  pub fixedAt-local : (n at : ℕ) (r : NumAt) → fixedAt n (p ++ s) at ≡ ok r → r .next ≤ length p → fixedAt n (p ++ s′) at ≡ ok r
   unfolding fixedAt
   fixedAt-local n at r e h =
       let w = fixedAt-ends n (p ++ s) at r e in
@@ -92,7 +92,7 @@ module _ (p s s′ : List ℕ) where
       rw (signedAt-local at w e₁ (omega arith)) e₂
   timeAt-local false at t e h = e
 
-  timesAt-local : (at : ℕ) (f : Flags) (t : Times) → timesAt (p ++ s) at f ≡ ok t → at ≤ length p → t .next ≤ length p → timesAt (p ++ s′) at f ≡ ok t
+  pub timesAt-local : (at : ℕ) (f : Flags) (t : Times) → timesAt (p ++ s) at f ≡ ok t → at ≤ length p → t .next ≤ length p → timesAt (p ++ s′) at f ≡ ok t
   unfolding timesAt
   timesAt-local at f t e k h =
       bind-then (timeAt (f .expire) (p ++ s) at) _ t e λ a e₁ e₂.

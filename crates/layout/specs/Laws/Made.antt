@@ -20,7 +20,7 @@ use Rattle.layout.specs.Block.{isRestart, laidRow, rowsFrom, offsetsFrom
 use Rattle.layout.specs.Builder.{Builder, fresh, newBuilder, restartsOf, stateTests, atRestart, nextRow, presentSize, grownSize, wouldFit, grown, add, dataAfter, placesAfter, build, blockAfter}
 use Rattle.layout.specs.Laws.Res.{bind-then, guard-then, ok-inj}
 use Rattle.layout.specs.Laws.Tells.{keyLengthTests-tells}
-use Rattle.layout.specs.Laws.Splice.{length-splice, take-past-splice}
+use Rattle.layout.specs.Laws.Splice.{length-splice, take-splice, take-past-splice}
 use Rattle.layout.specs.Laws.Block.{RowOk, AllOk, AllFit, lastKey, onlyIf, blockRows-snoc, offsets-snoc, lastKey-snoc, offsets-count, blockRows-least, offsets-few}
 use Rattle.layout.specs.Laws.Builder.{StateOk, state-good, build-good}
 use Rattle.layout.specs.Laws.Trailer.{length-trailer}
@@ -101,11 +101,15 @@ made-state {n} {rs} {b} {bytes} {places} m =
 
 -- ---- one row more
 
-all-snoc : (rs : List Row) (r : Row) → AllOk rs → RowOk r → AllOk (rs ++ (r ∷ []))
+pub row-ok : (r : Row) → 1 ≤ length (r .key) → length (r .key) ≤ maxKey → length (valueOf (r .fields)) ≤ maxValue → Typed (r .fields) → RowOk r
+row-ok r some fits small t =
+    record { key-some = some; key-fits = fits; fields-ok = record { value-fits = small; seq-fits = t .seq-fits; expire-fits = t .expire-fits; create-fits = t .create-fits } }
+
+pub all-snoc : (rs : List Row) (r : Row) → AllOk rs → RowOk r → AllOk (rs ++ (r ∷ []))
 all-snoc [] r a h = (h, tt)
 all-snoc (x ∷ xs) r a h = (a .0, all-snoc xs r (a .1) h)
 
-fit-append : (xs ys : List ℕ) → AllFit xs → AllFit ys → AllFit (xs ++ ys)
+pub fit-append : (xs ys : List ℕ) → AllFit xs → AllFit ys → AllFit (xs ++ ys)
 fit-append [] ys a b = b
 fit-append (x ∷ xs) ys a b = (a .0, fit-append xs ys (a .1) b)
 
@@ -199,12 +203,7 @@ made-more n rs b bytes places r b′ m t e = go (add-tells b (length bytes) (len
           bytes-are = take-past-splice bytes (b .used) w free ∙ rw grows (ap (λ (x : List ℕ). x ++ w) (m .bytes-are));
           places-are = p .0 ∙ rw offs (ap (λ (x : List ℕ). x ++ onlyIf (atRestart b) (b .used)) (m .places-are));
           room = λ h. sized long (a .room);
-          rows-ok = all-snoc rs r (m .rows-ok)
-              (record {
-                key-some = a .key-some;
-                key-fits = a .key-fits;
-                fields-ok = record { value-fits = a .value-fits; seq-fits = t .seq-fits; expire-fits = t .expire-fits; create-fits = t .create-fits };
-              });
+          rows-ok = all-snoc rs r (m .rows-ok) (row-ok r (a .key-some) (a .key-fits) (a .value-fits) t);
           offsets-fit = rw offs (fit-append (offsets n rs) (onlyIf (atRestart b) (b .used)) (m .offsets-fit) (fit-one (atRestart b) (b .used) (a .near)));
         })
       where
@@ -218,20 +217,39 @@ made-more n rs b bytes places r b′ m t e = go (add-tells b (length bytes) (len
 
 -- ---- what is built
 
-pub made-builds : (n : ℕ) (rs : List Row) (b : Builder) (bytes places : List ℕ) → Made n rs b bytes places → 1 ≤ length rs
-    → (build b (length bytes) (length places) ≡ ok (length (blockBytes n rs)))
-    × (take (length (blockBytes n rs)) (blockAfter (ok (length (blockBytes n rs))) b bytes places) ≡ blockBytes n rs)
-unfolding blockBytes
-made-builds n rs b bytes places m h =
-    let tr : List ℕ = trailer (take (b .restarts) places) in
-    let size : length (blockRows n rs ++ trailer (offsets n rs)) ≡ presentSize b =
-    rw (length-append (blockRows n rs) (trailer (offsets n rs)), length-trailer (offsets n rs)) (omega (arith, m .used-is, m .restarts-are)) in
-    let same : trailer (take (b .restarts) places) ≡ trailer (offsets n rs) = ap trailer (m .places-are) in
-    let long : b .used + length (trailer (take (b .restarts) places)) ≡ presentSize b = rw (same, length-trailer (offsets n rs)) (omega (arith, m .restarts-are)) in
-    let fit : b .used + length (trailer (take (b .restarts) places)) ≤ length bytes = omega (arith, m .room h) in
-    let ne : b .counter ≡ 0 → ⊥ = λ z. absurd (omega (arith, m .rows-are)) in (
-      build-good b (length bytes) (length places) (state-good b (length bytes) (length places) (made-state m)) ne (m .room h) ∙ ap ok (sym size),
-      ap (λ (k : ℕ). take k (splice bytes (b .used) (trailer (take (b .restarts) places)))) (size ∙ sym long)
-          ∙ take-past-splice bytes (b .used) (trailer (take (b .restarts) places)) fit
-          ∙ ap₂ _++_ (m .bytes-are) same,
-    )
+-- rows that stand in a buffer, and offsets in another: a trailer written after the rows makes the block, and leaves the rows
+pub record BlockStands (bytes places rows os : List ℕ) (used count : ℕ) : Type 0 where
+  pub size : length (rows ++ trailer os) ≡ used + 2 * count + 2
+  pub block : take (length (rows ++ trailer os)) (splice bytes used (trailer (take count places))) ≡ rows ++ trailer os
+  pub long : length (splice bytes used (trailer (take count places))) ≡ length bytes
+  pub begins : take used (splice bytes used (trailer (take count places))) ≡ take used bytes
+
+pub block-stands : (bytes places rows os : List ℕ) (used count : ℕ) → used ≡ length rows → count ≡ length os → take used bytes ≡ rows → take count places ≡ os
+    → used + 2 * count + 2 ≤ length bytes → BlockStands bytes places rows os used count
+block-stands bytes places rows os used count u c h o fits =
+    let size : length (rows ++ trailer os) ≡ used + 2 * count + 2 = rw (length-append rows (trailer os), length-trailer os) (omega arith) in
+    let same : trailer (take count places) ≡ trailer os = ap trailer o in
+    let long : used + length (trailer (take count places)) ≡ used + 2 * count + 2 = rw (same, length-trailer os) (omega arith) in
+    let fit : used + length (trailer (take count places)) ≤ length bytes = omega arith in
+    record {
+      size = size;
+      block =
+          ap (λ (k : ℕ). take k (splice bytes used (trailer (take count places)))) (size ∙ sym long)
+          ∙ take-past-splice bytes used (trailer (take count places)) fit
+          ∙ ap₂ _++_ h same;
+      long = length-splice bytes used (trailer (take count places)) fit;
+      begins = take-splice bytes used (trailer (take count places)) fit;
+    }
+
+module _ (n : ℕ) (rs : List Row) (b : Builder) (bytes places : List ℕ) (m : Made n rs b bytes places) where
+  pub made-stands : presentSize b ≤ length bytes → BlockStands bytes places (blockRows n rs) (offsets n rs) (b .used) (b .restarts)
+  made-stands h = block-stands bytes places (blockRows n rs) (offsets n rs) (b .used) (b .restarts) (m .used-is) (m .restarts-are) (m .bytes-are) (m .places-are) h
+
+  pub made-builds : 1 ≤ length rs
+      → (build b (length bytes) (length places) ≡ ok (length (blockBytes n rs)))
+      × (take (length (blockBytes n rs)) (blockAfter (ok (length (blockBytes n rs))) b bytes places) ≡ blockBytes n rs)
+  unfolding blockBytes
+  made-builds h =
+      let w = made-stands (m .room h) in
+      let ne : b .counter ≡ 0 → ⊥ = λ z. absurd (omega (arith, m .rows-are)) in
+      (build-good b (length bytes) (length places) (state-good b (length bytes) (length places) (made-state m)) ne (m .room h) ∙ ap ok (sym (w .size)), w .block)

@@ -1,7 +1,6 @@
--- A restart's key as a search meets it: read alone, it lies inside the data and the region. The middle of a span in numbers. And the regions that the
--- searches answer: each is below the count.
-use Prim.Native.Nat.{ℕ, zero, suc, _+_, _-_, _/_, _<_, _≤_}
-use mathlib.Core.Path.{_≡_, refl}
+-- A restart's key as a search meets it: read alone, it lies inside the data and the region. And the regions that the searches answer: each is below the count.
+use Prim.Native.Nat.{ℕ, zero, suc, _+_, _-_, _<_, _≤_}
+use mathlib.Core.Path.{_≡_}
 use mathlib.Core.Bool.{Bool}
 use mathlib.Core.List.{List}
 use mathlib.Core.Logic.{⊎-elim}
@@ -13,7 +12,7 @@ use Rattle.layout.specs.Res.{ok}
 use Rattle.layout.specs.Key.{Key, same}
 use Rattle.layout.specs.RowRead.{valueAt, headAt, KeyRead, readKey}
 use Rattle.layout.specs.Trailer.{Trailer}
-use Rattle.layout.specs.Seek.{Found, middle, restartKey, restartBelow, searchRestarts, lastEqual, startDown}
+use Rattle.layout.specs.Seek.{Found, restartKey, restartBelow, searchRestarts, lastEqual, startDown}
 use Rattle.layout.specs.Laws.Res.{bind-then, guard-then, cond-ok, ok-inj, ltb-cases}
 use Rattle.layout.specs.Laws.Search.{search-closed}
 
@@ -27,12 +26,6 @@ readKey-ends d at end prevLen restart k e =
     guard-then (ltb (length d) (valueAt l)) 9 _ k q λ t₁ q₁.
     guard-then (ltb end (valueAt l)) 16 _ k q₁ λ t₂ q₂.
     rw (← ok-inj q₂) (ltb-false (length d) (valueAt l) t₁, ltb-false end (valueAt l) t₂)
-
--- ---- the middle of a span
-
-pub middle-is : (low high : ℕ) → middle low high ≡ low + (high - low) / 2
-unfolding middle
-middle-is low high = refl
 
 -- ---- the regions answered
 

@@ -6,7 +6,7 @@ use mathlib.Core.Bool.{Bool, true, false}
 use mathlib.Core.List.{List, [], _∷_, _++_, append-assoc}
 use native.Mathlib.Omega.{arith}
 use lib.ListN.{length, take, drop, length-append}
-use lib.Seq.{take-at, drop-at, take-nil}
+use lib.Seq.{take-at}
 use borrow.Author.Tests.{le-ltb, ne-eqb}
 use Rattle.layout.specs.Res.{ok}
 use Rattle.layout.specs.Limits.{maxKey, maxValue}
@@ -19,6 +19,7 @@ use Rattle.layout.specs.Laws.Res.{ok-inj}
 use Rattle.layout.specs.Laws.Varint.{length-varint, varint-few}
 use Rattle.layout.specs.Laws.Fixed.{length-big, bits-fit, unbits-bits}
 use Rattle.layout.specs.Laws.Place.{past, within, byte-at, varintAt-law, fixedAt-law}
+use Rattle.layout.specs.Laws.OneRow.{StandsRead, one-row}
 
 -- ---- what may be laid
 
@@ -128,7 +129,7 @@ unfolding timeAt timeBytes
 timeAt-law Absent d at post h e = ap (λ (n : ℕ). ok (timeIs Absent n)) (omega arith)
 timeAt-law (At t) d at post h e = rw (fixedAt-law 8 d at (bits t) post (omega arith) (bits-fit t h) e, unbits-bits t h)
 
-timesAt-law : (d : List ℕ) (at : ℕ) (k : Kind) (e c : Time) (post : List ℕ) → TimeOk e → TimeOk c → drop at d ≡ timeBytes e ++ (timeBytes c ++ post)
+pub timesAt-law : (d : List ℕ) (at : ℕ) (k : Kind) (e c : Time) (post : List ℕ) → TimeOk e → TimeOk c → drop at d ≡ timeBytes e ++ (timeBytes c ++ post)
     → timesAt d at (flagsIs k (present e) (present c)) ≡ ok (timesIs e c (at + ifSo (present e) 8 + ifSo (present c) 8))
 unfolding timesAt
 timesAt-law d at k e c post he hc p =
@@ -229,20 +230,17 @@ module _ (d : List ℕ) (at shared : ℕ) (suffix : List ℕ) (f : Fields) (post
 
 -- ---- two rows after one previous key, of which one's bytes begin the other's (t₂ empty), or both begin one list, are one
 
+-- a row's bytes at the start of a list, as they are read there
+stands-read : (d : List ℕ) (shared : ℕ) (suffix : List ℕ) (f : Fields) (t : List ℕ) → d ≡ rowBytes shared suffix f ++ t
+    → StandsRead d (rowBytes shared suffix f) t (placesOf 0 shared suffix f) shared suffix f
+stands-read d shared suffix f t e =
+    record { is = e; ends = omega arith; shares = refl; key = placesOf-key d 0 shared suffix f t e []; fields = placesOf-fields d 0 shared suffix f t e }
+
 pub prefix-free : (prevLen : ℕ) (restart : Bool) (s₁ : ℕ) (x₁ : List ℕ) (f₁ : Fields) (t₁ : List ℕ) (s₂ : ℕ) (x₂ : List ℕ) (f₂ : Fields) (t₂ : List ℕ)
     → s₁ ≤ mayShare restart prevLen → s₂ ≤ mayShare restart prevLen → KeyOk s₁ (length x₁) → KeyOk s₂ (length x₂) → FieldsOk f₁ → FieldsOk f₂
     → rowBytes s₁ x₁ f₁ ++ t₁ ≡ rowBytes s₂ x₂ f₂ ++ t₂ → SameRow s₁ x₁ f₁ t₁ s₂ x₂ f₂ t₂
 prefix-free prevLen restart s₁ x₁ f₁ t₁ s₂ x₂ f₂ t₂ sh₁ sh₂ k₁ k₂ h₁ h₂ e =
     let d : List ℕ = rowBytes s₁ x₁ f₁ ++ t₁ in
-    let a : rowAt d 0 prevLen restart ≡ ok (placesOf 0 s₁ x₁ f₁) = rowAt-law d 0 s₁ x₁ f₁ t₁ refl prevLen restart sh₁ k₁ h₁ in
-    let b : rowAt d 0 prevLen restart ≡ ok (placesOf 0 s₂ x₂ f₂) = rowAt-law d 0 s₂ x₂ f₂ t₂ e prevLen restart sh₂ k₂ h₂ in
-    let g : placesOf 0 s₁ x₁ f₁ ≡ placesOf 0 s₂ x₂ f₂ = ok-inj (sym a ∙ b) in
-    let m : 0 + length (rowBytes s₁ x₁ f₁) ≡ 0 + length (rowBytes s₂ x₂ f₂) = ap (λ (x : RowRead). x .next) g in
-    let n : length (rowBytes s₁ x₁ f₁) ≡ length (rowBytes s₂ x₂ f₂) = omega arith in
-    record {
-      shares = ap (λ (x : RowRead). x .shared) g;
-      suffixes = rw (take-nil s₁, take-nil s₂) at (sym (placesOf-key d 0 s₁ x₁ f₁ t₁ refl []) ∙ ap (keyOf d []) g ∙ placesOf-key d 0 s₂ x₂ f₂ t₂ e []);
-      fields = sym (placesOf-fields d 0 s₁ x₁ f₁ t₁ refl) ∙ ap (fieldsOf d) g ∙ placesOf-fields d 0 s₂ x₂ f₂ t₂ e;
-      bytes = sym (take-at (rowBytes s₁ x₁ f₁) t₁ (length (rowBytes s₂ x₂ f₂)) n) ∙ ap (take (length (rowBytes s₂ x₂ f₂))) e ∙ take-at (rowBytes s₂ x₂ f₂) t₂ (length (rowBytes s₂ x₂ f₂)) refl;
-      tails = sym (drop-at (rowBytes s₁ x₁ f₁) t₁ (length (rowBytes s₂ x₂ f₂)) n) ∙ ap (drop (length (rowBytes s₂ x₂ f₂))) e ∙ drop-at (rowBytes s₂ x₂ f₂) t₂ (length (rowBytes s₂ x₂ f₂)) refl;
-    }
+    let g = ok-inj (sym (rowAt-law d 0 s₁ x₁ f₁ t₁ refl prevLen restart sh₁ k₁ h₁) ∙ rowAt-law d 0 s₂ x₂ f₂ t₂ e prevLen restart sh₂ k₂ h₂) in
+    let w = one-row g (stands-read d s₁ x₁ f₁ t₁ refl) (stands-read d s₂ x₂ f₂ t₂ e) in
+    record { shares = w .shares; suffixes = w .suffixes; fields = w .fields; bytes = w .bytes; tails = w .tails }

@@ -44,34 +44,40 @@ pub rowSize-sum : (shared suffixLen valueLen : ℕ) (e c : Bool)
 unfolding rowSize
 rowSize-sum shared suffixLen valueLen e c = refl
 
--- what a size that is answered tells
-pub record SizeTells (shared suffixLen valueLen : ℕ) (e c : Bool) (n : ℕ) : Type 0 where
-  pub tested : lengthTests (shared + suffixLen) valueLen ≡ ok tt
-  pub key-small : shared + suffixLen ≤ maxKey
+-- what a size that is answered tells, whatever the format
+pub record Tested (keyLen valueLen answer n : ℕ) : Type 0 where
+  pub tested : lengthTests keyLen valueLen ≡ ok tt
+  pub key-small : keyLen ≤ maxKey
   pub value-small : valueLen ≤ maxValue
-  pub size : n ≡ rowSize shared suffixLen valueLen e c
+  pub size : n ≡ answer
+
+module _ (keyLen valueLen answer : ℕ) where
+  pub tests-refused : {n : ℕ} → bind (lengthTests keyLen valueLen) (λ _. ok answer) ≡ refuse n → lengthTests keyLen valueLen ≡ refuse n
+  tests-refused {n} q = go (lengthTests keyLen valueLen) q
+    where
+      go : (x : Res (Unit {0})) → bind x (λ _. ok answer) ≡ refuse n → x ≡ refuse n
+      go (ok u) r = absurd (let z : _≡_ {A = ℕ} 0 1 = cc in omega arith)
+      go (refuse m) r = cc
+
+  pub tests-tell : {n : ℕ} → bind (lengthTests keyLen valueLen) (λ _. ok answer) ≡ ok n → Tested keyLen valueLen answer n
+  unfolding lengthTests
+  tests-tell {n} q =
+      bind-then (lengthTests keyLen valueLen) _ n q λ u t r.
+      bind-then (keyLengthTests keyLen) _ u t λ u₂ t₂ r₂.
+      guard-then (ltb maxValue valueLen) 3 _ u r₂ λ t₃ r₃.
+      record { tested = t; key-small = keyLengthTests-tells keyLen u₂ t₂ .1; value-small = ltb-false maxValue valueLen t₃; size = sym (ok-inj r) }
+
+abbrev pub SizeTells : ℕ → ℕ → ℕ → Bool → Bool → ℕ → Type 0
+SizeTells shared suffixLen valueLen e c n = Tested (shared + suffixLen) valueLen (rowSize shared suffixLen valueLen e c) n
 
 module _ (shared suffixLen : ℕ) (k : Kind) (offered : ℕ) (e c : Bool) where
   pub size-refused : {n : ℕ} → sizeAlone shared suffixLen k offered e c ≡ refuse n → lengthTests (shared + suffixLen) (keptLength k offered) ≡ refuse n
   unfolding sizeAlone
-  size-refused {n} q = go (lengthTests (shared + suffixLen) (keptLength k offered)) q
-    where
-      go : (x : Res (Unit {0})) → bind x (λ _. ok (rowSize shared suffixLen (keptLength k offered) e c)) ≡ refuse n → x ≡ refuse n
-      go (ok u) r = absurd (let z : _≡_ {A = ℕ} 0 1 = cc in omega arith)
-      go (refuse m) r = cc
+  size-refused q = tests-refused _ _ _ q
 
   pub size-tells : {n : ℕ} → sizeAlone shared suffixLen k offered e c ≡ ok n → SizeTells shared suffixLen (keptLength k offered) e c n
-  unfolding sizeAlone lengthTests
-  size-tells {n} q =
-      bind-then (lengthTests (shared + suffixLen) (keptLength k offered)) _ n q λ u t r.
-      bind-then (keyLengthTests (shared + suffixLen)) _ u t λ u₂ t₂ r₂.
-      guard-then (ltb maxValue (keptLength k offered)) 3 _ u r₂ λ t₃ r₃.
-      record {
-        tested = t;
-        key-small = keyLengthTests-tells (shared + suffixLen) u₂ t₂ .1;
-        value-small = ltb-false maxValue (keptLength k offered) t₃;
-        size = sym (ok-inj r);
-      }
+  unfolding sizeAlone
+  size-tells q = tests-tell _ _ _ q
 
 -- ---- one row's encoding, by its size
 

@@ -1,11 +1,12 @@
--- The search over restart keys. More steps than the span's length change nothing; three equations that a recursive function uses; and where it closes
--- and how many keys it reads, on any block.
-use Prim.Native.Nat.{ℕ, zero, suc, _-_, _^_, _<_, _≤_, zero-le}
+-- The search, over whatever keys. More steps than the span's length change nothing; three equations that a recursive function uses, with the count that it carries; and where it
+-- closes and how many keys it reads, on any block.
+use Prim.Native.Nat.{ℕ, zero, suc, _+_, _-_, _/_, _^_, _<_, _≤_, zero-le}
 use mathlib.Core.Path.{_≡_, refl, ap, _∙_}
 use mathlib.Core.Bool.{Bool, true, false, cond}
 use mathlib.Core.Logic.{⊎-elim}
 use native.Mathlib.Omega.{arith}
 use native.Mathlib.Nat.{pow-succ', sub-eq-zero-of-le}
+use native.Mathlib.Numerals.{add-one}
 use borrow.Author.Tests.{lt-ltb, le-ltb}
 use Rattle.layout.specs.Res.{Res, ok, refuse, bind}
 use Rattle.layout.specs.Seek.{Found, foundIs, tick, middle, searchIn, search}
@@ -59,6 +60,46 @@ search-split isBelow low high b h e =
 pub search-refuse : (isBelow : ℕ → Res Bool) (low high n : ℕ) → low < high → isBelow (middle low high) ≡ refuse n → search isBelow low high ≡ refuse n
 unfolding search
 search-refuse isBelow low high n h e = searchIn-more (high - low) (suc (high - low)) isBelow low high (omega arith) (omega arith) ∙ (unfold searchIn in rw (lt-ltb low high h, e))
+
+-- ---- the search, which carries its count: `reads` keys were read before
+
+abbrev counted : ℕ → Found → Res Found
+counted reads f = ok (foundIs (f .place) (reads + f .reads))
+
+unfoldable pub searchOn : (ℕ → Res Bool) → ℕ → ℕ → ℕ → Res Found
+searchOn isBelow low high reads = bind (search isBelow low high) (counted reads)
+
+pub on-whole : {x : Res Found} (isBelow : ℕ → Res Bool) (n : ℕ) → x ≡ searchOn isBelow 0 n 0 → x ≡ search isBelow 0 n
+unfolding searchOn
+on-whole isBelow n e = e ∙ none (search isBelow 0 n)
+  where
+    none : (y : Res Found) → bind y (counted 0) ≡ y
+    none (ok f) = ap (λ (n : ℕ). ok (foundIs (f .place) n)) (omega arith)
+    none (refuse n) = refl
+
+-- one law for each exit, with the middle in numbers
+module _ (isBelow : ℕ → Res Bool) (low high reads : ℕ) where
+  pub on-empty : high ≤ low → ok (foundIs low reads) ≡ searchOn isBelow low high reads
+  unfolding searchOn
+  on-empty h = rw (search-empty isBelow low high h) (ap (λ (n : ℕ). ok (foundIs low n)) (omega arith))
+
+  module _ (h : low < high) where
+    pub on-no : {n : ℕ} → isBelow (low + (high - low) / 2) ≡ refuse n → refuse n ≡ searchOn isBelow low high reads
+    unfolding searchOn middle
+    on-no {n} e = rw (search-refuse isBelow low high n h e)
+
+    ticked : (y : Res Found) → bind y (counted (reads + 1)) ≡ bind (bind y tick) (counted reads)
+    ticked (ok f) = ap (λ (n : ℕ). ok (foundIs (f .place) n)) (omega arith)
+    ticked (refuse n) = refl
+
+    pub on-up : {x : Res Found} → isBelow (low + (high - low) / 2) ≡ ok true → x ≡ searchOn isBelow (low + (high - low) / 2 + 1) high (reads + 1) → x ≡ searchOn isBelow low high reads
+    unfolding searchOn middle
+    on-up e q =
+        q ∙ rw (search-split isBelow low high true h e, add-one (low + (high - low) / 2)) (ticked (search isBelow (suc (low + (high - low) / 2)) high))
+
+    pub on-down : {x : Res Found} → isBelow (low + (high - low) / 2) ≡ ok false → x ≡ searchOn isBelow low (low + (high - low) / 2) (reads + 1) → x ≡ searchOn isBelow low high reads
+    unfolding searchOn middle
+    on-down e q = q ∙ rw (search-split isBelow low high false h e) (ticked (search isBelow low (low + (high - low) / 2)))
 
 -- ---- where it closes
 

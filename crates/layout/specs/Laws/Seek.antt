@@ -7,14 +7,14 @@ use mathlib.Core.List.{List, []}
 use native.Mathlib.Omega.{arith}
 use native.Mathlib.Numerals.{add-one}
 use borrow.Author.Tests.{lt-ltb, le-ltb}
-use Rattle.layout.specs.Res.{Res, ok, refuse, bind}
+use Rattle.layout.specs.Res.{Res, ok, refuse}
 use Rattle.layout.specs.Key.{Key, below, same}
 use Rattle.layout.specs.RowRead.{KeyRead, readKey, joined}
 use Rattle.layout.specs.Trailer.{Trailer, trailerOf, dataOf, Region, regionOf}
 use Rattle.layout.specs.Cursor.{Direction, ascending, descending, Cursor, cursorAt}
-use Rattle.layout.specs.Seek.{Found, foundIs, tick, middle, search, restartKey, restartBelow, searchRestarts, Stop, walkRegion, doneUp, walkUp, seekUp, lastEqual, startDown, lastAtOrBelow, doneDown, walkDown, seekDown, soughtIs, seekAlong, seek}
+use Rattle.layout.specs.Seek.{Found, restartKey, restartBelow, searchRestarts, Stop, walkRegion, doneUp, walkUp, seekUp, lastEqual, startDown, lastAtOrBelow, doneDown, walkDown, seekDown, soughtIs, seekAlong, seek}
 use Rattle.layout.specs.Laws.Res.{spend}
-use Rattle.layout.specs.Laws.Search.{search-empty, search-split, search-refuse}
+use Rattle.layout.specs.Laws.Search.{searchOn, on-whole}
 
 -- ---- a restart's key
 
@@ -43,43 +43,12 @@ module _ (b : List ℕ) (t : Trailer) (i : ℕ) where
 
 -- ---- the search, which carries its count
 
--- `reads` keys were read before
-abbrev pub counted : ℕ → Found → Res Found
-counted reads f = ok (foundIs (f .place) (reads + f .reads))
+abbrev pub searchFrom : List ℕ → Trailer → Key → ℕ → ℕ → ℕ → Res Found
+searchFrom b t target low high reads = searchOn (restartBelow b t target) low high reads
 
-unfoldable pub searchFrom : List ℕ → Trailer → Key → ℕ → ℕ → ℕ → Res Found
-searchFrom b t target low high reads = bind (search (restartBelow b t target) low high) (counted reads)
-
-module _ (b : List ℕ) (t : Trailer) (target : Key) where
-  pub search-whole : {x : Res Found} → x ≡ searchFrom b t target 0 (t .count) 0 → x ≡ searchRestarts b t target
-  unfolding searchFrom searchRestarts
-  search-whole {x = x} e = e ∙ none (search (restartBelow b t target) 0 (t .count))
-    where
-      none : (y : Res Found) → bind y (counted 0) ≡ y
-      none (ok f) = ap (λ (n : ℕ). ok (foundIs (f .place) n)) (omega arith)
-      none (refuse n) = refl
-
-  module _ (low high reads : ℕ) where
-    pub from-empty : high ≤ low → ok (foundIs low reads) ≡ searchFrom b t target low high reads
-    unfolding searchFrom
-    from-empty h = rw (search-empty (restartBelow b t target) low high h) (ap (λ (n : ℕ). ok (foundIs low n)) (omega arith))
-
-    module _ (h : low < high) where
-      pub from-no : {n : ℕ} → restartBelow b t target (middle low high) ≡ refuse n → refuse n ≡ searchFrom b t target low high reads
-      unfolding searchFrom
-      from-no {n} e = rw (search-refuse (restartBelow b t target) low high n h e)
-
-      ticked : (y : Res Found) → bind y (counted (reads + 1)) ≡ bind (bind y tick) (counted reads)
-      ticked (ok f) = ap (λ (n : ℕ). ok (foundIs (f .place) n)) (omega arith)
-      ticked (refuse n) = refl
-
-      pub from-up : restartBelow b t target (middle low high) ≡ ok true → searchFrom b t target (middle low high + 1) high (reads + 1) ≡ searchFrom b t target low high reads
-      unfolding searchFrom
-      from-up e = rw (search-split (restartBelow b t target) low high true h e, add-one (middle low high)) (ticked (search (restartBelow b t target) (suc (middle low high)) high))
-
-      pub from-down : restartBelow b t target (middle low high) ≡ ok false → searchFrom b t target low (middle low high) (reads + 1) ≡ searchFrom b t target low high reads
-      unfolding searchFrom
-      from-down e = rw (search-split (restartBelow b t target) low high false h e) (ticked (search (restartBelow b t target) low (middle low high)))
+pub search-whole : (b : List ℕ) (t : Trailer) (target : Key) {x : Res Found} → x ≡ searchFrom b t target 0 (t .count) 0 → x ≡ searchRestarts b t target
+unfolding searchRestarts
+search-whole b t target e = on-whole (restartBelow b t target) (t .count) e
 
 -- ---- from region to region, up
 

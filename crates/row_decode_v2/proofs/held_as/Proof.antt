@@ -2,7 +2,7 @@
 -- In each arm the kind is known, and the definition computes at it.
 use mathlib.Core.Path.{sym, ap}
 use Rattle.basics.specs.declared.Kind.{Kind}
-use Rattle.row_decode_v2.specs.Reading.{heldFrom}
+use Rattle.row_decode_v2.specs.Promise.{heldFrom}
 use borrow.Author.Needs.{needs}
 use Rattle.row_decode_v2.proofs.held_as.Statement.{statement}
 use Rattle.row_decode_v2.proofs.held_as.Tie as tie

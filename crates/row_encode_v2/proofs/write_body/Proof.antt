@@ -1,7 +1,7 @@
 -- `write_body` writes the suffix, the value and the sequence number, one after another. There is room for all, so each writer wrote, and three writes
 -- are one.
 use borrow.Author.Needs.{needs}
-use Rattle.row_encode_v2.proofs.Parts.{put-three}
+use Rattle.buf_mut.proofs.Laws.{put-three}
 use Rattle.row_encode_v2.proofs.write_body.Statement.{statement}
 use Rattle.row_encode_v2.proofs.write_body.Tie as tie
 

@@ -1,7 +1,7 @@
 -- `write_lengths` writes three varints, one after another.
 -- Each length fits 32 bits, as required, so the casts keep it. There is room for all, so each writer wrote, and three writes are one (`put-three`).
 use borrow.Author.Needs.{needs}
-use Rattle.row_encode_v2.proofs.Parts.{put-three}
+use Rattle.buf_mut.proofs.Laws.{put-three}
 use Rattle.row_encode_v2.proofs.write_lengths.Statement.{statement}
 use Rattle.row_encode_v2.proofs.write_lengths.Tie as tie
 

@@ -5,6 +5,7 @@ use native.Mathlib.Omega.{arith}
 use lib.Seq.{length-take-le}
 use borrow.Author.Needs.{needs}
 use Rattle.layout.specs.Laws.Splice.{wrote-then, wrote-as}
+use Rattle.buf_mut.proofs.Laws.{put-one}
 use Rattle.row_encode_v2.proofs.Parts.{row-parts, lengths-room, body-room, marks-room}
 use Rattle.row_encode_v2.proofs.write_row.Statement.{statement}
 use Rattle.row_encode_v2.proofs.write_row.Tie as tie
@@ -27,27 +28,22 @@ write-body-requires c κs =
     let a = s .args in
     body-room (a .shared) (a .key-suffix .now) (a .value .now) (a .row) (k .kept-len .ensures .0) (s .pre .1) (l .write-lengths .ensures)
 
-write-marks-requires : tie.Need-write-marks-requires
-write-marks-requires c κs =
-    let b = c .before .before .before in
+returns : tie.Need-returns
+returns c =
+    let m = c .before .before .before in
+    let b = m .before .before .before .before in
     let l = b .before .before .before .before .before in
     let k = l .before .before in
     let s = k .before .before .before .before in
     let a = s .args in
-    marks-room (a .shared) (a .key-suffix .now) (a .value .now) (a .row) (k .kept-len .ensures .0) (s .pre .1) (l .write-lengths .ensures) (b .write-body .ensures)
-
-returns : tie.Need-returns
-returns c =
-    let m = c .before .before in
-    let b = m .before .before .before .before in
-    let l = b .before .before .before .before .before in
-    let k = l .before .before in
-    let a = k .before .before .before .before .args in
-    wrote-as (sym (row-parts (a .shared) (a .key-suffix .now) (a .value .now) (a .row) (k .kept-len .ensures .0))) (wrote-then (l .write-lengths .ensures) (wrote-then (b .write-body .ensures) (m .write-marks .ensures)))
+    let is = k .kept-len .ensures .0 in
+    wrote-as (sym (row-parts (a .shared) (a .key-suffix .now) (a .value .now) (a .row) is))
+    (wrote-then (l .write-lengths .ensures) (wrote-then (b .write-body .ensures)
+    (put-one (marks-room (a .shared) (a .key-suffix .now) (a .value .now) (a .row) is (s .pre .1) (l .write-lengths .ensures) (b .write-body .ensures)) (m .write-marks .ensures) (c .place-after .ensures))))
 
 pub write-row-spec : {M : Type 1} → statement M
 write-row-spec =
     tie.close
     (tie.spec
     (search needs) write-lengths-requires slice-aggregate-write-body write-body-requires
-    write-marks-requires (search needs) returns)
+    (search needs) (search needs) (search needs) returns)

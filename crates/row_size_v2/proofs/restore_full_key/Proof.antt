@@ -7,8 +7,9 @@ use lib.Seq.{length-take-le}
 use borrow.Author.Needs.{needs}
 use Rattle.layout.specs.Laws.RowExits.{restore-share, restore-no, restore-short, restore-is}
 use Rattle.basics.specs.Answers.{yes, no}
+use Rattle.buf_mut.proofs.Laws.{put-two}
 use Rattle.row_size_v2.specs.Says.{saysSized, sizedRefusal}
-use Rattle.row_size_v2.proofs.Writes.{put-two, lays-not, lays-wrote, key-tested, key-refused}
+use Rattle.row_size_v2.proofs.Writes.{lays-not, lays-wrote, key-tested, key-refused}
 use Rattle.row_size_v2.proofs.restore_full_key.Statement.{statement}
 use Rattle.row_size_v2.proofs.restore_full_key.Tie as tie
 
