@@ -1,0 +1,10 @@
+pub mod Row
+pub mod RowRead
+pub mod Plain
+pub mod Block
+pub mod Builder
+pub mod Check
+pub mod Cursor
+pub mod Seek
+pub mod CasesRows
+pub mod Laws
