@@ -1,0 +1,4 @@
+pub mod Says
+pub mod Promise
+pub mod OneOutcome
+pub mod Parts

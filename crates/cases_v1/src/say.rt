@@ -1,0 +1,1 @@
+../../cases_rows_v0/src/say.rt
