@@ -1,0 +1,11 @@
+pub mod Reads
+pub mod Runs
+pub mod Rows
+pub mod Laws
+pub mod RowProof
+pub mod Proof3
+pub mod Proof2
+pub mod Demand2
+pub mod Demand3
+pub mod Instances
+pub mod Cases
