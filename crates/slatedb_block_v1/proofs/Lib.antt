@@ -1,0 +1,3 @@
+mod Laws
+mod Rows
+mod Steps
