@@ -123,6 +123,7 @@ fn module_tree(source: &str, out: &str, here: &str) -> String {
         cut("sst"),
         ours("driver"),
         ours("direct"),
+        ours("older"),
         ours("timing"),
         "}\n".into(),
     ]

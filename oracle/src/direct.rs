@@ -33,7 +33,7 @@ pub enum Stop {
     Panic,
 }
 
-fn stop(error: SlateDBError) -> Stop {
+pub(super) fn stop(error: SlateDBError) -> Stop {
     match error {
         SlateDBError::EmptyKey => Stop::EmptyKey,
         SlateDBError::EmptyBlock => Stop::EmptyBlock,
@@ -42,11 +42,11 @@ fn stop(error: SlateDBError) -> Stop {
     }
 }
 
-fn guard<T>(call: impl FnOnce() -> T) -> Result<T, Stop> {
+pub(super) fn guard<T>(call: impl FnOnce() -> T) -> Result<T, Stop> {
     catch_unwind(AssertUnwindSafe(call)).map_err(|_| Stop::Panic)
 }
 
-fn value_of(kind: u8, value: &[u8]) -> ValueDeletable {
+pub(super) fn value_of(kind: u8, value: &[u8]) -> ValueDeletable {
     let bytes = Bytes::copy_from_slice(value);
     match kind {
         0 => ValueDeletable::Value(bytes),
@@ -55,7 +55,7 @@ fn value_of(kind: u8, value: &[u8]) -> ValueDeletable {
     }
 }
 
-fn kind_and_value(value: &ValueDeletable) -> (u8, Vec<u8>) {
+pub(super) fn kind_and_value(value: &ValueDeletable) -> (u8, Vec<u8>) {
     match value {
         ValueDeletable::Value(v) => (0, v.to_vec()),
         ValueDeletable::Tombstone => (1, Vec::new()),
@@ -63,11 +63,11 @@ fn kind_and_value(value: &ValueDeletable) -> (u8, Vec<u8>) {
     }
 }
 
-fn entry(row: &Row) -> RowEntry {
+pub(super) fn entry(row: &Row) -> RowEntry {
     RowEntry::new(Bytes::copy_from_slice(&row.key), value_of(row.kind, &row.value), row.seq, row.create, row.expire)
 }
 
-fn row(entry: &RowEntry) -> Row {
+pub(super) fn row(entry: &RowEntry) -> Row {
     let (kind, value) = kind_and_value(&entry.value);
     Row { key: entry.key.to_vec(), kind, value, seq: entry.seq, expire: entry.expire_ts, create: entry.create_ts }
 }
@@ -112,7 +112,7 @@ pub fn decode_key_only(input: &[u8]) -> Result<(u32, Vec<u8>, usize), Stop> {
     Ok((shared, suffix.to_vec(), input.len() - rest.len()))
 }
 
-pub struct Builder(BlockBuilder);
+pub struct Builder(pub(super) BlockBuilder);
 
 impl Builder {
     pub fn new(block_size: usize, interval: usize) -> Builder {

@@ -3,4 +3,4 @@
 #![allow(dead_code, unused_imports)]
 include!(concat!(env!("OUT_DIR"), "/slatedb.rs"));
 pub mod rng;
-pub use format::{direct, driver, timing};
+pub use format::{direct, driver, older, timing};

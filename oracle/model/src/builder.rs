@@ -156,6 +156,6 @@ fn settings_good(block_size: usize, interval: usize) -> bool {
 }
 
 /// How many bytes two keys have in common at their start.
-fn common_prefix(one: &[u8], other: &[u8]) -> usize {
+pub(crate) fn common_prefix(one: &[u8], other: &[u8]) -> usize {
     one.iter().zip(other).take_while(|(a, b)| a == b).count()
 }

@@ -2,15 +2,15 @@
 use crate::{block::Block, refusal::*, Refusal};
 
 /// What the next row is held to: the key and the sequence number of a row.
-struct Entry {
-    key: Vec<u8>,
-    seq: u64,
+pub(crate) struct Entry {
+    pub key: Vec<u8>,
+    pub seq: u64,
 }
 
 impl Entry {
     /// "Equal keys stand with the larger sequence number first, and a key with the same sequence number twice is the very double
     /// debit we fear": the key is greater, or it is equal and the number is smaller.
-    fn may_follow(&self, before: &Entry) -> bool {
+    pub fn may_follow(&self, before: &Entry) -> bool {
         self.key > before.key || self.key == before.key && self.seq < before.seq
     }
 }

@@ -10,6 +10,7 @@ pub mod cursor;
 pub mod journal;
 pub mod row;
 pub mod seek;
+pub mod v1;
 pub mod varint;
 
 /// A number of the refusal table.
@@ -36,6 +37,7 @@ pub mod refusal {
     pub const KEY_FALLS: Refusal = 17;
     pub const STATE: Refusal = 18;
     pub const KEY_BUFFER: Refusal = 19;
+    pub const ROW_ENDS_EARLY: Refusal = 20;
 }
 
 // Numbers with an edge

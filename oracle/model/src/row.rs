@@ -3,13 +3,13 @@
 use crate::{refusal::*, varint, Refusal, KEY_LIMIT, VALUE_LIMIT};
 
 const TOMBSTONE: u8 = 1;
-const EXPIRE: u8 = 2;
-const CREATE: u8 = 4;
+pub(crate) const EXPIRE: u8 = 2;
+pub(crate) const CREATE: u8 = 4;
 const MERGE: u8 = 8;
 const FIRST_UNKNOWN: u8 = 16;
 
 /// seq and flags
-const FIXED: usize = 9;
+pub(crate) const FIXED: usize = 9;
 const TIME: usize = 8;
 
 #[derive(Clone, Copy, Debug, PartialEq, Eq)]
@@ -71,7 +71,7 @@ pub fn written_value(kind: Kind, value: &[u8]) -> &[u8] {
 }
 
 /// 1: "key empty". 2: "key over 4,096".
-fn test_key_len(key_len: usize) -> Result<(), Refusal> {
+pub(crate) fn test_key_len(key_len: usize) -> Result<(), Refusal> {
     if key_len == 0 {
         return Err(KEY_EMPTY);
     }
@@ -82,7 +82,7 @@ fn test_key_len(key_len: usize) -> Result<(), Refusal> {
 }
 
 /// 3: "value or value length over 65,535".
-fn test_value_len(value_len: usize) -> Result<(), Refusal> {
+pub(crate) fn test_value_len(value_len: usize) -> Result<(), Refusal> {
     if value_len > VALUE_LIMIT {
         return Err(VALUE_OVER);
     }
@@ -105,7 +105,7 @@ pub fn size(shared: usize, suffix_len: usize, value: &[u8], fields: &Fields) -> 
 }
 
 /// "8 for each time".
-fn times_size(fields: &Fields) -> usize {
+pub(crate) fn times_size(fields: &Fields) -> usize {
     let of = |time: Option<i64>| if time.is_some() { TIME } else { 0 };
     of(fields.expire) + of(fields.create)
 }
@@ -116,7 +116,7 @@ fn number(length: usize) -> u32 {
 }
 
 /// "Tombstone 1, expire 2, create 4, merge 8."
-fn flags(fields: &Fields) -> u8 {
+pub(crate) fn flags(fields: &Fields) -> u8 {
     let kind = match fields.kind {
         Kind::Value => 0,
         Kind::Tombstone => TOMBSTONE,
@@ -182,7 +182,7 @@ pub fn read_key(place: &Place) -> Result<KeyPart, Refusal> {
 }
 
 /// Where `len` bytes at `at` end. Bytes missing (9): "'Missing' is against the end of the data".
-fn end_of(data: &[u8], at: usize, len: usize) -> Result<usize, Refusal> {
+pub(crate) fn end_of(data: &[u8], at: usize, len: usize) -> Result<usize, Refusal> {
     match at.checked_add(len) {
         Some(end) if end <= data.len() => Ok(end),
         _ => Err(INPUT_ENDS),
@@ -190,7 +190,7 @@ fn end_of(data: &[u8], at: usize, len: usize) -> Result<usize, Refusal> {
 }
 
 /// "Fixed numbers are high byte first": the 8 bytes at `at`, and where they end.
-fn eight(data: &[u8], at: usize) -> Result<([u8; 8], usize), Refusal> {
+pub(crate) fn eight(data: &[u8], at: usize) -> Result<([u8; 8], usize), Refusal> {
     let end = end_of(data, at, 8)?;
     let mut number = [0; 8];
     number.copy_from_slice(&data[at..end]);
@@ -198,7 +198,7 @@ fn eight(data: &[u8], at: usize) -> Result<([u8; 8], usize), Refusal> {
 }
 
 /// A time, if flagged: "times are signed, two's complement".
-fn time(data: &[u8], at: usize, flagged: bool) -> Result<(Option<i64>, usize), Refusal> {
+pub(crate) fn time(data: &[u8], at: usize, flagged: bool) -> Result<(Option<i64>, usize), Refusal> {
     if !flagged {
         return Ok((None, at));
     }
@@ -207,7 +207,7 @@ fn time(data: &[u8], at: usize, flagged: bool) -> Result<(Option<i64>, usize), R
 }
 
 /// "Bytes 16 to 255 are unknown" (11); "9, 11, 13 and 15 set tombstone and merge together" (12); "the other twelve are good".
-fn kind_of(flags: u8) -> Result<Kind, Refusal> {
+pub(crate) fn kind_of(flags: u8) -> Result<Kind, Refusal> {
     if flags >= FIRST_UNKNOWN {
         return Err(FLAGS_UNKNOWN);
     }

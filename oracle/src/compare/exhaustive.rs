@@ -7,7 +7,7 @@ use model::row::Place;
 use model::KEY_LIMIT;
 use slate_oracle::direct::{self, Row};
 
-const LETTERS: [u8; 2] = [b'a', b'b'];
+pub const LETTERS: [u8; 2] = [b'a', b'b'];
 const LONGEST_KEY: usize = 2;
 const LONGEST_TARGET: usize = 3;
 const MOST_ROWS: usize = 4;
@@ -36,12 +36,12 @@ pub fn all(run: &mut Run) {
     equal_keys(run);
 }
 
-fn plain(key: &[u8], seq: u64) -> Row {
+pub fn plain(key: &[u8], seq: u64) -> Row {
     Row { key: key.to_vec(), kind: 0, value: Vec::new(), seq, expire: None, create: None }
 }
 
 /// Rows of these keys with falling numbers; where the keys never fall and some are equal, also with rising ones, and with one for all.
-fn numbered(keys: &[Vec<u8>]) -> Vec<Vec<Row>> {
+pub fn numbered(keys: &[Vec<u8>]) -> Vec<Vec<Row>> {
     let count = keys.len() as u64;
     let mut numbers: Vec<Vec<u64>> = vec![(0..count).rev().collect()];
     if keys.is_sorted() && keys.windows(2).any(|pair| pair[0] == pair[1]) {
@@ -67,7 +67,7 @@ fn equal_keys(run: &mut Run) {
 }
 
 /// All words over the letters, the empty one too.
-fn words(longest: usize) -> Vec<Vec<u8>> {
+pub fn words(longest: usize) -> Vec<Vec<u8>> {
     let mut all: Vec<Vec<u8>> = vec![Vec::new()];
     let mut from = 0;
     for _ in 0..longest {

@@ -1,6 +1,6 @@
-//! compare [--guest COMMAND.. | --no-guest] ROUNDS SEED: the unchanged Rust, the model of 01 and the proved library (as a guest
-//! process) are given the same inputs, and every result, count, refusal and byte is compared. --no-guest: the Rust and the model
-//! only.
+//! compare [v1] [--guest COMMAND.. | --no-guest] ROUNDS SEED: the unchanged Rust, the model of 01 and the proved library (as a
+//! guest process) are given the same inputs, and every result, count, refusal and byte is compared. --no-guest: the Rust and the
+//! model only. v1: the earlier format.
 #![allow(explicit_builtin_cfgs_in_flags)]
 mod building;
 mod calls;
@@ -15,6 +15,7 @@ mod refused;
 mod rounds;
 mod rows;
 mod tally;
+mod v1;
 
 use calls::{Arg, Call, Expected, Function};
 use guest::Guest;
@@ -35,10 +36,15 @@ impl Run {
         if let Some((restarts, reads)) = call.searched(&expected) {
             self.tally.sought(restarts, reads);
         }
-        if let Some(guest) = &mut self.guest {
-            guest.ask(kind, call, expected.clone(), &mut self.tally);
-        }
+        self.ask(kind, call, expected.clone());
         expected
+    }
+
+    /// Asks the guest, if there is one.
+    fn ask(&mut self, kind: &'static str, call: Call, expected: Expected) {
+        if let Some(guest) = &mut self.guest {
+            guest.ask(kind, call, expected, &mut self.tally);
+        }
     }
 
     /// Lent memory is never clean: the bytes that a call must leave are seen to stay.
@@ -58,7 +64,9 @@ fn main() {
         }));
     }
     let mut words: Vec<String> = std::env::args().skip(1).collect();
-    let (Some(seed), Some(rounds)) = (words.pop(), words.pop()) else { panic!("compare [--guest COMMAND.. | --no-guest] ROUNDS SEED") };
+    let earlier = words.first().is_some_and(|word| word == "v1");
+    words.drain(..earlier as usize);
+    let (Some(seed), Some(rounds)) = (words.pop(), words.pop()) else { panic!("compare [v1] [--guest COMMAND.. | --no-guest] ROUNDS SEED") };
     let (seed, rounds): (u64, usize) = (seed.parse().expect("a seed"), rounds.parse().expect("a number of rounds"));
     let guest = match words.first().map(String::as_str) {
         Some("--guest") => Some(Guest::start(&words[1..])),
@@ -66,10 +74,13 @@ fn main() {
         _ => panic!("--guest COMMAND.. or --no-guest"),
     };
     let mut run = Run { rng: Rng(seed), tally: Tally::default(), guest };
-    exhaustive::all(&mut run);
-    rounds::edges(&mut run);
-    for _ in 0..rounds {
-        rounds::round(&mut run);
+    run.tally.rows_are_restarts = earlier;
+    if earlier {
+        v1::compare(&mut run, rounds);
+    } else {
+        exhaustive::all(&mut run);
+        rounds::edges(&mut run);
+        (0..rounds).for_each(|_| rounds::round(&mut run));
     }
     if let Some(guest) = run.guest.take() {
         guest.finish(&mut run.tally);

@@ -6,12 +6,13 @@ pub struct Tally {
     same: BTreeMap<&'static str, u64>,
     /// how often each code was answered, of calls of the library
     codes: BTreeMap<&'static str, BTreeMap<u8, u64>>,
-    listed: BTreeMap<&'static str, Listed>,
+    listed: BTreeMap<String, Listed>,
     /// blocks that were checked, and of these the accepted ones, on which nothing may differ from the Rust
     checked: u64,
     accepted: u64,
-    /// the most restart keys that a seek's search read, for each count of restarts
+    /// the most restart keys that a seek's search read, for each count of restarts; in the earlier format each row is one
     reads: BTreeMap<u64, u64>,
+    pub rows_are_restarts: bool,
     differ: u64,
     /// the smallest input of each kind that differs
     smallest: BTreeMap<&'static str, (usize, String)>,
@@ -51,8 +52,8 @@ impl Tally {
     }
 
     /// A difference from the Rust that the table has.
-    pub fn listed(&mut self, name: &'static str, size: usize, input: impl FnOnce() -> String) {
-        let listed = self.listed.entry(name).or_insert(Listed { times: 0, size: usize::MAX, input: String::new() });
+    pub fn listed(&mut self, name: &str, size: usize, input: impl FnOnce() -> String) {
+        let listed = self.listed.entry(name.into()).or_insert(Listed { times: 0, size: usize::MAX, input: String::new() });
         listed.times += 1;
         if size < listed.size {
             listed.size = size;
@@ -89,7 +90,8 @@ impl Tally {
             println!("DIFFERS  {kind}: {what}");
         }
         let (reads, beyond) = self.reads_of();
-        println!("the most restart keys that a search read, by the count of restarts: {reads}");
+        let (keys, of) = if self.rows_are_restarts { ("keys", "rows") } else { ("restart keys", "restarts") };
+        println!("the most {keys} that a search read, by the count of {of}: {reads}");
         if !beyond.is_empty() {
             println!("MORE READS than significant bits, of these counts: {beyond:?}");
         }
