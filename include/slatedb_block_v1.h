@@ -92,8 +92,8 @@ uint8_t slatedb_v1_decode(const uint8_t *input, size_t input_len, size_t first_k
 
 /* ---- building a block: rows go into `data`, their offsets into `offsets`
  *
- * As offsets SLATEDB_V1_MOST_ROWS places always do; as data the larger of the block size and 2 bytes, and SLATEDB_V1_MOST_FIRST:
- * a row fits if it does without its own offset, so a finished block may be 2 bytes over. */
+ * As offsets SLATEDB_V1_MOST_ROWS places always do; as data the larger of SLATEDB_V1_MOST_FIRST and the block size + 2, since
+ * a row fits where it does without its own offset: a finished block may be 2 bytes over its size. */
 
 /* A new builder: 254, 8. Its key bytes need no setting. */
 SLATEDB_MUST_USE
