@@ -1,4 +1,4 @@
-//! Finds libslatedb_block.a and libslatedb_journal.a, or says how to make them.
+//! Finds libslatedb_block.a, libslatedb_block_v1.a and libslatedb_journal.a, or says how to make them.
 
 use std::env;
 use std::path::{Path, PathBuf};
@@ -28,7 +28,7 @@ fn main() {
         }
     }
     let folder = folder();
-    for name in ["slatedb_block", "slatedb_journal"] {
+    for name in ["slatedb_block", "slatedb_block_v1", "slatedb_journal"] {
         let library = folder.join(format!("lib{name}.a"));
         if !library.is_file() {
             fail(format!(

@@ -8,7 +8,7 @@ const DEFAULT_RESTART_INTERVAL: usize = 16;
 const ROW_OVERHEAD: usize = 3 * 5 + 8 + 1 + 2 * 8;
 
 /// The most that a trailer takes beside the offsets it has already: one more offset, and the count.
-const TRAILER_OVERHEAD: usize = 4;
+pub(crate) const TRAILER_OVERHEAD: usize = 4;
 
 /// Builder for a V2 block with restart points.
 pub struct BlockBuilderV2 {
@@ -102,7 +102,7 @@ impl BlockBuilderV2 {
     }
 }
 
-fn offer<'a>(entry: &'a RowEntry, fields: &'a [u64]) -> ffi::Offer<'a> {
+pub(crate) fn offer<'a>(entry: &'a RowEntry, fields: &'a [u64]) -> ffi::Offer<'a> {
     ffi::Offer {
         key: &entry.key,
         value: entry.value.as_bytes().unwrap_or(&[]),
@@ -110,7 +110,7 @@ fn offer<'a>(entry: &'a RowEntry, fields: &'a [u64]) -> ffi::Offer<'a> {
     }
 }
 
-fn false_if_it_does_not_fit(answer: Result<(), Refusal>) -> Result<bool, Refusal> {
+pub(crate) fn false_if_it_does_not_fit(answer: Result<(), Refusal>) -> Result<bool, Refusal> {
     match answer {
         Ok(()) => Ok(true),
         Err(Refusal::RowDoesNotFit) => Ok(false),

@@ -1,4 +1,5 @@
-//! The static library's functions (`include/slatedb_block.h`) on slices, and its constants. All that is unsafe is here.
+//! The static library's functions (`include/slatedb_block.h`) on slices, and its constants. All that is
+//! unsafe is here, and for the earlier format in `ffi_v1`.
 //!
 //! Why each call is safe: the library takes any arguments that are as long as the length beside them says and not NULL, which
 //! is how slices are given here; it writes only to what is lent by `&mut`, which nothing else can be lent with; it keeps no
@@ -13,6 +14,7 @@ pub(crate) const CURSOR_WORDS: usize = 6;
 pub(crate) const BUILDER_WORDS: usize = 6;
 pub(crate) const KEY_BYTES: usize = 4096;
 pub(crate) const FIELDS_WORDS: usize = 6;
+pub(crate) const SINGLE_WORDS: usize = 13;
 pub(crate) const ROW_WORDS: usize = 15;
 
 pub(crate) const ASCENDING: u64 = 0;

@@ -3,10 +3,12 @@ use std::fmt;
 
 use crate::ffi;
 
-// one list, so that a refusal's documentation and what it says of itself are one text: the header's
+// one list, so that a refusal's documentation and what it says of itself are one text: the headers'
 macro_rules! refusals {
     ($($number:literal $name:ident $reason:literal)*) => {
         /// Why a call was refused. A refused call has changed nothing.
+        ///
+        /// In the earlier format every row has an offset, and shares with the block's first key: read so in 5, 13, 15 and 16.
         #[derive(Clone, Copy, Debug, PartialEq, Eq, Hash)]
         #[non_exhaustive]
         #[repr(u8)]
@@ -47,6 +49,7 @@ refusals! {
     17 KeyFalls "a key is smaller than the one before, or equal with a sequence number that is not smaller"
     18 BadState "the cursor's or the builder's state can't belong to these buffers"
     19 KeyBufferTooShort "the lent key buffer is shorter than the key"
+    20 RowEndsEarly "a row of the earlier format ends before the next one starts, or before the data's end"
 }
 
 impl Refusal {

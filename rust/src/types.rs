@@ -1,4 +1,4 @@
-use crate::ffi;
+use crate::{ffi, ffi_v1};
 
 /// A row: a key, and what it stands for. One that was read from a block also says where it stood there; of two rows that hold
 /// the same it makes no difference, so they are equal.
@@ -67,13 +67,14 @@ impl RowEntry {
         }
     }
 
-    /// Of a row that was read from a block: its restart region there, from 0. No other row of a block that
+    /// Of a row that was read from a V2 block: its restart region there, from 0. No other row of a block that
     /// [`check`](crate::check) accepts has both this region and this [`number`](Self::number).
     pub fn region(&self) -> Option<usize> {
         self.region
     }
 
-    /// Of a row that was read from a block: its number among the rows of its [`region`](Self::region), from 0.
+    /// Of a row that was read from a block: its number among the rows of its [`region`](Self::region), from 0; in a block
+    /// of the earlier format, which has no regions, its number among all rows.
     pub fn number(&self) -> Option<usize> {
         self.number
     }
@@ -87,17 +88,33 @@ impl RowEntry {
 
     /// From a row's words, its key, and the block that its places are in.
     pub(crate) fn read(words: [u64; ffi::ROW_WORDS], key: &[u8], block: &[u8]) -> Self {
-        let [_start, _next, shared, _suffix_at, suffix_len, kind, value_at, value_len, seq, rest @ ..] = words;
-        let [has_expire, expire, has_create, create, region, number] = rest;
+        let [single @ .., region, number] = words;
         Self {
-            key: key[..(shared + suffix_len) as usize].to_vec(),
-            value: ValueDeletable::read(kind, &block[value_at as usize..][..value_len as usize]),
-            seq,
-            create_ts: time(has_create, create),
-            expire_ts: time(has_expire, expire),
             region: Some(region as usize),
             number: Some(number as usize),
+            ..Self::read_single(single, key, block)
         }
+    }
+
+    /// The same of the earlier format, where a row stands in no region.
+    pub(crate) fn read_v1(words: [u64; ffi_v1::ROW_WORDS], key: &[u8], block: &[u8]) -> Self {
+        let [single @ .., number] = words;
+        Self {
+            number: Some(number as usize),
+            ..Self::read_single(single, key, block)
+        }
+    }
+
+    fn read_single(words: [u64; ffi::SINGLE_WORDS], key: &[u8], block: &[u8]) -> Self {
+        let [_start, _next, shared, _suffix_at, suffix_len, kind, value_at, value_len, seq, times @ ..] = words;
+        let [has_expire, expire, has_create, create] = times;
+        Self::new(
+            key[..(shared + suffix_len) as usize].to_vec(),
+            ValueDeletable::read(kind, &block[value_at as usize..][..value_len as usize]),
+            seq,
+            time(has_create, create),
+            time(has_expire, expire),
+        )
     }
 }
 
