@@ -2,9 +2,7 @@
 
 mod common;
 
-use std::cell::Cell;
-
-use common::{build, open, rows_of, walk, walk_by, BOTH};
+use common::{build, open, rows_of, walk, walk_by, Vanishing, BOTH};
 use slatedb_block::{check, BlockBuilderV2, BlockIteratorV2, IterationOrder, Refusal, RowEntry};
 
 fn builder() -> BlockBuilderV2 {
@@ -198,27 +196,9 @@ fn a_refused_step_is_refused_again_and_ends_a_loop() {
     assert_eq!(iterator.map(|row| row.is_ok()).collect::<Vec<_>>(), [true, false]);
 }
 
-/// Lends its bytes when it is opened, and none later.
-struct Vanishing {
-    bytes: Vec<u8>,
-    lent: Cell<bool>,
-}
-
-impl AsRef<[u8]> for Vanishing {
-    fn as_ref(&self) -> &[u8] {
-        if self.lent.replace(true) {
-            return &[];
-        }
-        &self.bytes
-    }
-}
-
 #[test]
 fn a_refusal_is_not_an_end() {
-    let block = Vanishing {
-        bytes: build(&rows_of(&["a"]), 1),
-        lent: Cell::new(false),
-    };
+    let block = Vanishing::new(build(&rows_of(&["a"]), 1));
     let mut iterator = BlockIteratorV2::new_ascending(block).unwrap();
     assert!(!iterator.is_empty());
     assert_eq!(iterator.next(), Err(Refusal::BadTrailer));

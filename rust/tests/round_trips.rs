@@ -2,39 +2,8 @@
 
 mod common;
 
-use common::{build, build_within, open, rows_of, walk, walk_by, BOTH};
-use slatedb_block::{check, BlockBuilderV2, BlockIteratorV2, IterationOrder, RowEntry, ValueDeletable};
-
-fn values() -> Vec<ValueDeletable> {
-    let long = vec![7; 300];
-    vec![
-        ValueDeletable::Value(b"v".to_vec()),
-        ValueDeletable::Value(Vec::new()),
-        ValueDeletable::Merge(long),
-        ValueDeletable::Merge(Vec::new()),
-        ValueDeletable::Tombstone,
-    ]
-}
-
-/// Each kind with each pair of times, the keys rising and sharing bytes.
-fn all_sorts() -> Vec<RowEntry> {
-    let times = [None, Some(0), Some(-1), Some(i64::MIN), Some(i64::MAX)];
-    let mut rows = Vec::new();
-    for value in values() {
-        for create_ts in times {
-            for expire_ts in times {
-                let key = format!("card/{:05}", rows.len()).into_bytes();
-                let seq = u64::MAX - rows.len() as u64;
-                rows.push(RowEntry::new(key, value.clone(), seq, create_ts, expire_ts));
-            }
-        }
-    }
-    rows
-}
-
-fn reversed(rows: &[RowEntry]) -> Vec<RowEntry> {
-    rows.iter().rev().cloned().collect()
-}
+use common::{all_sorts, build, build_within, open, reversed, rows_of, walk, walk_by, BOTH};
+use slatedb_block::{check, BlockBuilderV2, BlockIteratorV2, IterationOrder, RowEntry};
 
 fn holds(rows: &[RowEntry], block: &[u8]) {
     assert_eq!(check(block), Ok(rows.len()));
@@ -42,7 +11,10 @@ fn holds(rows: &[RowEntry], block: &[u8]) {
     assert_eq!(walk(block, IterationOrder::Descending).unwrap(), reversed(rows));
     for most in [1, 2, 7, rows.len() + 1] {
         assert_eq!(walk_by(block, IterationOrder::Ascending, most).unwrap(), rows);
-        assert_eq!(walk_by(block, IterationOrder::Descending, most).unwrap(), reversed(rows));
+        assert_eq!(
+            walk_by(block, IterationOrder::Descending, most).unwrap(),
+            reversed(rows)
+        );
     }
 }
 

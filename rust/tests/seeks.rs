@@ -2,21 +2,8 @@
 
 mod common;
 
-use common::{build, open, rows_of, walk, BOTH};
+use common::{build, expected, open, rows_of, walk, BOTH};
 use slatedb_block::{check, IterationOrder, Refusal, RowEntry};
-
-/// The rows that have to follow a seek.
-fn expected(rows: &[RowEntry], order: IterationOrder, target: &[u8]) -> Vec<RowEntry> {
-    match order {
-        IterationOrder::Ascending => rows.iter().filter(|row| &row.key[..] >= target).cloned().collect(),
-        IterationOrder::Descending => rows
-            .iter()
-            .rev()
-            .filter(|row| &row.key[..] <= target)
-            .cloned()
-            .collect(),
-    }
-}
 
 fn rest(block: &[u8], order: IterationOrder, target: &[u8]) -> Vec<RowEntry> {
     let mut iterator = open(block, order);
