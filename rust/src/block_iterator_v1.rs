@@ -7,9 +7,9 @@ use crate::{ffi, ffi_v1};
 
 /// Iterator over a V1 block, the earlier format, which seeks by the keys of all rows.
 ///
-/// The block may be owned or borrowed: anything that lends its bytes. One that [`check_v1`](crate::check_v1) has not accepted may
-/// be read too: nothing panics, and a row that can't be read is refused, but a seek may pass over the row that it is to find.
-/// Nothing in a block tells its format: a V2 block is read here as if it were one of this format.
+/// The block may be owned or borrowed: anything that lends its bytes. One that [`check_v1`](crate::check_v1) has not
+/// accepted may be read too: nothing panics, and a row that can't be read is refused, but a seek may pass over the row that it
+/// is to find. Nothing in a block tells its format: a V2 block is read here as if it were one of this format.
 pub struct BlockIterator<B: AsRef<[u8]>> {
     block: B,
     cursor: ffi_v1::Cursor,
@@ -19,8 +19,8 @@ pub struct BlockIterator<B: AsRef<[u8]>> {
 }
 
 impl<B: AsRef<[u8]>> BlockIterator<B> {
-    /// Before the first row, or descending after the last. Refuses a block with a bad trailer or bad offsets, and, both ways, one
-    /// whose first key can't be read: the other rows share bytes with it.
+    /// Before the first row, or descending after the last. Refuses a block with a bad trailer or bad offsets, and, both ways,
+    /// one whose first key can't be read: the other rows share bytes with it.
     pub fn new(block: B, ordering: IterationOrder) -> Result<Self, Refusal> {
         let mut cursor = ffi_v1::Cursor::default();
         good(ffi_v1::open(block.as_ref(), ordering.word(), cursor.words_mut()))?;

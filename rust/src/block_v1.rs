@@ -3,7 +3,7 @@ use crate::refusal::{good, Refusal};
 use crate::types::RowEntry;
 use crate::{ffi, ffi_v1};
 
-/// The most that a row takes beside its key and value: two lengths, a sequence number, flags, two times and the value's length.
+/// The most that a row takes beside its key and value: two lengths, a sequence number, flags, two times, the value's length.
 const ROW_OVERHEAD: usize = 2 * 2 + 8 + 1 + 2 * 8 + 4;
 
 /// How far a finished block may be over its block size: a row fits if it does without its own offset.
@@ -30,8 +30,8 @@ impl BlockBuilderV1 {
         })
     }
 
-    /// Whether the row fits. An empty builder takes a first row of any size. As slatedb's it leaves the row's own offset out, so
-    /// a finished block may be 2 bytes over its block size. `add` may still refuse a row that fits, with
+    /// Whether the row fits. An empty builder takes a first row of any size. As slatedb's it leaves the row's own offset out,
+    /// so a finished block may be 2 bytes over its block size. `add` may still refuse a row that fits, with
     /// [`Refusal::RestartTooFar`]: it would start past 65,535.
     pub fn would_fit(&self, entry: &RowEntry) -> Result<bool, Refusal> {
         let fields = entry.fields();

@@ -10,8 +10,9 @@
 //! - [`check`] is added: whether a whole block is good. `seek` answers how many restart keys its search read. `build` gives the
 //!   encoded block. `new_with_restart_interval`, which slatedb has for tests, is for all.
 //! - A row that is read says which one of its block it is: [`RowEntry::region`] and [`RowEntry::number`].
-//! - The earlier format is [`BlockBuilderV1`], [`BlockIterator`] and [`check_v1`]. The caller names the format by what is called:
-//!   nothing in a block tells it. A row that is read there has a number in its block, and no region.
+//! - The earlier format has [`BlockBuilderV1`], [`BlockIterator`] and [`check_v1`]. The caller names the format by what is
+//!   called: nothing in a block tells it. There `seek` answers how many rows' keys its search read, and a row that is read has
+//!   a number in its block, and no region.
 //! - [`journal`] is added: the switch's journal, over the proved static library `slatedb_journal`.
 
 #![deny(unsafe_code)]

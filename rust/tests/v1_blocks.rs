@@ -29,13 +29,13 @@ fn size_of_last(rows: &[RowEntry]) -> usize {
 
 #[test]
 fn sizes_of_the_row_of_a() {
-    let (value, tombstone) = (RowEntry::new_value(b"a", b"", 2), RowEntry::new_tombstone(b"a", 2));
-    let later = RowEntry::new_tombstone(b"a", 1);
-    assert_eq!(size_of_last(&[value.clone()]), 18);
-    assert_eq!(size_of_last(&[tombstone.clone()]), 14);
-    // it shares the whole key
-    for first in [value, tombstone] {
-        let rows = [first, later.clone()];
+    for (first, size) in [
+        (RowEntry::new_value(b"a", b"", 2), 18),
+        (RowEntry::new_tombstone(b"a", 2), 14),
+    ] {
+        let rows = [first, RowEntry::new_tombstone(b"a", 1)];
+        assert_eq!(size_of_last(&rows[..1]), size);
+        // it shares the whole key
         assert_eq!(size_of_last(&rows), 13);
         holds(&rows, &build(&rows));
     }
