@@ -32,6 +32,8 @@ static inline void peer_count(peer_sums *sums, const uint8_t *key, size_t key_le
     sums->sum += seq + key_len + value_len + key[key_len - 1];
 }
 
+/* An interval is that of the restarts; 0 asks for a block of slatedb's earlier format, which has none. */
+
 /* ---- not timed */
 
 /* Builds the block that is read from now on, of all these rows. 0 if it can't. */

@@ -1,4 +1,5 @@
-/* race [-n ROUNDS] [-s BYTES] CONTENDER.so..: loads the contenders into one process and times them.
+/* race [-n ROUNDS] [-s BYTES] [-1] CONTENDER.so..: loads the contenders into one process and times them, with
+ * -1 on blocks of slatedb's earlier format.
  *
  * In each round every contender of a test takes its turn, so that a slow moment of the machine meets all of
  * them, and each test has ROUNDS rounds in each of ten passes over all tests, so that a slow minute does not
@@ -277,15 +278,19 @@ const times *times_of(size_t i, const test *t) {
     return NULL;
 }
 
-/* Those that have a table of their own come first. */
-static size_t plan_all(size_t a_pass) {
+static void plan_small_and_large(size_t interval, size_t a_pass) {
     for (enum keys keys = RANDOM; keys <= CARD; keys++) {
         for (size_t block_size = 4096; block_size <= 65536; block_size *= 16) {
             for (enum work work = FORWARD; work <= CHECK; work++) {
-                plan(keys, block_size, 16, work, a_pass);
+                plan(keys, block_size, interval, work, a_pass);
             }
         }
     }
+}
+
+/* Those that have a table of their own come first. */
+static size_t plan_all(size_t a_pass) {
+    plan_small_and_large(16, a_pass);
     plan(PREFIX, 4096, 16, BUILD, a_pass);
     size_t with_table = tests;
     for (enum work work = FORWARD; work <= BUILD; work++) {
@@ -297,8 +302,7 @@ static size_t plan_all(size_t a_pass) {
     return with_table;
 }
 
-static void run(size_t a_pass, size_t stack) {
-    size_t with_table = plan_all(a_pass);
+static void run(size_t with_table) {
     for (size_t i = 0; i < PASSES; i++) {
         for (size_t k = 0; k < tests; k++) {
             pass(&program[k]);
@@ -310,24 +314,33 @@ static void run(size_t a_pass, size_t stack) {
     for (size_t k = 0; k < with_table; k++) {
         print_test(&program[k].test, program[k].rows, program[k].rounds);
     }
-    print_growth();
-    print_aims(stack);
 }
 
 int main(int argc, char **argv) {
     size_t rounds = 80, stack = 0;
+    int older = 0;
     for (int i = 1; i < argc; i++) {
         if (strcmp(argv[i], "-n") == 0 && i + 1 < argc) {
             rounds = strtoul(argv[++i], NULL, 10);
         } else if (strcmp(argv[i], "-s") == 0 && i + 1 < argc) {
             stack = strtoul(argv[++i], NULL, 10);
+        } else if (strcmp(argv[i], "-1") == 0) {
+            older = 1;
         } else {
             enter(argv[i]);
         }
     }
     if (entered == 0 || all[0].build == NULL || rounds == 0 || rounds > MOST_ROUNDS) {
-        failed("usage", "race [-n ROUNDS] [-s BYTES] CONTENDER.so.., the first of which builds");
+        failed("usage", "race [-n ROUNDS] [-s BYTES] [-1] CONTENDER.so.., the first of which builds");
     }
-    run(rounds, stack);
+    if (older) {
+        plan_small_and_large(0, rounds);
+        run(tests);
+        print_older_aims();
+    } else {
+        run(plan_all(rounds));
+        print_growth();
+        print_aims(stack);
+    }
     return 0;
 }

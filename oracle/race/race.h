@@ -13,7 +13,7 @@ enum work { FORWARD, BACKWARD, SEEK, SEEK_BACK, BUILD, CHECK };
 typedef struct {
     enum keys keys;
     size_t block_size;
-    size_t interval; /* rows a restart region */
+    size_t interval; /* rows a restart region; 0 for slatedb's earlier format */
     enum work work;
 } test;
 
@@ -59,5 +59,8 @@ void print_growth(void);
 
 /* With the deepest stack of slatedb_block's functions, or 0 where it was not measured. */
 void print_aims(size_t stack);
+
+/* Those of the earlier format. */
+void print_older_aims(void);
 
 #endif

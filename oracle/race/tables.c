@@ -183,9 +183,17 @@ static void stack_aim(size_t stack) {
     verdict("the deepest stack of slatedb_block", (double)stack, "bytes", 16384, 1);
 }
 
-void print_aims(size_t stack) {
+static void print_head(void) {
     printf("\naims: the least of each, ns a row or a seek\n");
     printf("  %-50s %8s %8s %-20s %6s  %s\n", "", "library", "other", "", "ratio", "aim");
+}
+
+static void print_counts(void) {
+    printf("%zu met, %zu missed, %zu not run\n", met, missed, not_run);
+}
+
+void print_aims(size_t stack) {
+    print_head();
     for (enum keys keys = RANDOM; keys <= CARD; keys++) {
         scan_aims(keys);
         for (size_t block_size = 4096; block_size <= 65536; block_size *= 16) {
@@ -197,5 +205,26 @@ void print_aims(size_t stack) {
     }
     build_aims(PREFIX);
     stack_aim(stack);
-    printf("%zu met, %zu missed, %zu not run\n", met, missed, not_run);
+    print_counts();
+}
+
+/* The Rust has no check: the library's is held to its time forward. */
+static void older_aims(enum keys keys, size_t block_size) {
+    for (enum work work = FORWARD; work <= CHECK; work++) {
+        const test ours = {keys, block_size, 0, work};
+        const test theirs = {keys, block_size, 0, work == CHECK ? FORWARD : work};
+        char what[64];
+        snprintf(what, sizeof what, "%s, %zu KiB", work_names[work], block_size / 1024);
+        aim(what, &theirs, times_by_name("call", &ours), "rust", work == BUILD ? 0.35 : 0.1);
+    }
+}
+
+void print_older_aims(void) {
+    print_head();
+    for (size_t block_size = 4096; block_size <= 65536; block_size *= 16) {
+        for (enum keys keys = RANDOM; keys <= CARD; keys++) {
+            older_aims(keys, block_size);
+        }
+    }
+    print_counts();
 }
