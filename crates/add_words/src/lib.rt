@@ -1,4 +1,6 @@
 // A row added over lent words: the builder is its words and the bytes of its last key, and the answer a code.
+#![tactic(auto)]
+
 ghost use Rattle.std.specs.Prelude.{◌≡◌, length};
 ghost use Rattle.row_words.specs.Words.{builder_count};
 ghost use Rattle.builder_words.specs.Exports.{AddsFlat};

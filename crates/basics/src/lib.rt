@@ -1,9 +1,11 @@
 // What every crate's answers and settings are made of: refusals, kinds of value, times, orders, and the numbers with an edge.
 // Follows slatedb 0.16.0, src/error.rs, src/types.rs and src/iter.rs (Apache License 2.0), and is changed: an answer names the
 // place of a value's bytes and holds none, an absent time is a case of its own, and each refusal has a number.
+#![tactic(auto)]
+
 ghost use Rattle.basics.specs.Promise.{Numbered, TellsWrong};
 
-#[derive(Drop)]
+#[derive(Clone, Copy)]
 pub enum Refusal {
     // 1: the key is empty
     EmptyKey,
@@ -75,14 +77,14 @@ pub fn number(r: Refusal) -> u8
 }
 
 // An answer that tells no more than whether the call was good.
-#[derive(Drop)]
+#[derive(Clone, Copy)]
 pub enum Verdict {
     Good,
     Refused(Refusal),
 }
 
 // In an answer: where the value's bytes stand. A tombstone has no bytes, so it has no place.
-#[derive(Drop)]
+#[derive(Clone, Copy)]
 pub enum ValueDeletable {
     Value { start: usize, len: usize },
     Tombstone,
@@ -90,7 +92,7 @@ pub enum ValueDeletable {
 }
 
 // The kind of value that is offered, with its bytes beside it.
-#[derive(Drop)]
+#[derive(Clone, Copy)]
 pub enum Kind {
     Value,
     Tombstone,
@@ -98,13 +100,13 @@ pub enum Kind {
 }
 
 // A time that a row may lack.
-#[derive(Drop)]
+#[derive(Clone, Copy)]
 pub enum Time {
     Absent,
     At(i64),
 }
 
-#[derive(Drop)]
+#[derive(Clone, Copy)]
 pub enum IterationOrder {
     Ascending,
     Descending,

@@ -1,6 +1,8 @@
 // The check of a whole block of the earlier format: its trailer, all its offsets, then row after row, with the order of the rows last of each.
 // slatedb 0.16.0 has no such check. This one is added: it reads the layout of src/format/block.rs and src/format/row.rs (Apache License 2.0), takes any bytes,
 // walks the rows where they stand and copies nothing: the first key stands in row 0, and of the row before only its share and the place of its suffix are kept.
+#![tactic(auto)]
+
 ghost use Rattle.std.specs.Prelude.{cond, ◌++◌, ◌≡◌, ◌<◌, ◌≤◌, ◌+◌, eqb, length, take, drop};
 ghost use Rattle.layout.specs.Res.{ok};
 ghost use Rattle.layout.specs.Key.{compare};
@@ -23,7 +25,7 @@ use trailer::Trailer;
 const FIRST_KEY: usize = 4;
 
 // What the rows passed so far leave: how many they are, the first key's length, and of the last of them its share, its suffix and its sequence number.
-#[derive(Drop)]
+#[derive(Clone, Copy)]
 struct Passed {
     rows: usize,
     first_len: usize,
@@ -33,7 +35,7 @@ struct Passed {
     seq: u64,
 }
 
-#[derive(Drop)]
+#[derive(Clone, Copy)]
 enum Walked {
     On(Passed),
     Refused(Refusal),

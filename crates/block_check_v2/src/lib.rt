@@ -2,6 +2,8 @@
 // slatedb 0.16.0 has no such check. This one is added: it reads the layout of src/format/block_v2.rs and
 // src/format/row_codec_v2.rs (Apache License 2.0), takes any bytes, walks the rows where they stand and copies only the
 // suffixes of their keys.
+#![tactic(auto)]
+
 ghost use Rattle.std.specs.Prelude.{◌≡◌, ◌<◌, length};
 ghost use Rattle.layout.specs.Res.{ok};
 ghost use Rattle.layout.specs.Trailer.{trailer_of, all_offsets};
@@ -18,7 +20,7 @@ use trailer::Trailer;
 const SHORT_KEY: usize = 256;
 
 // How many rows the block has, or why it is refused.
-#[derive(Drop)]
+#[derive(Clone, Copy)]
 pub enum Checked {
     Rows(usize),
     Refused(Refusal),
@@ -26,7 +28,7 @@ pub enum Checked {
 
 // What the rows passed so far leave: where the next region starts and its number, the length of the carried key, the sequence
 // number of the last of them, and how many they are.
-#[derive(Drop)]
+#[derive(Clone, Copy)]
 struct Passed {
     at: usize,
     region: usize,
@@ -36,14 +38,14 @@ struct Passed {
 }
 
 // `Narrow`: a row's key is longer than the bytes that are lent for it. That says nothing of the block.
-#[derive(Drop)]
+#[derive(Clone, Copy)]
 enum Walked {
     Over(Passed),
     Refused(Refusal),
     Narrow,
 }
 
-#[derive(Drop)]
+#[derive(Clone, Copy)]
 enum Tried {
     Known(Checked),
     Narrow,

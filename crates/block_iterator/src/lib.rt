@@ -2,6 +2,8 @@
 // and come back by value; what it gives of a row are places in the block, and the full key in a lent buffer.
 // Follows slatedb 0.16.0, src/block_iterator.rs (Apache License 2.0), and is changed: the first key stays in the block, every call tests block and cursor for
 // itself, and what they can break is a refusal that gives the cursor back as it came.
+#![tactic(auto)]
+
 ghost use Rattle.std.specs.Prelude.{◌≡◌, ◌≤◌, ◌<◌, ◌+◌, length};
 ghost use Rattle.layout.specs.Res.{ok};
 ghost use Rattle.layout.specs.Place.{splice};
@@ -20,25 +22,25 @@ use row_decode_v2::{KeyRead, Row, RowRead};
 use trailer::{Trailer, TrailerRead};
 
 // A cursor: its order, and how many rows it has passed; all passed is "done".
-#[derive(Drop)]
+#[derive(Clone, Copy)]
 pub struct BlockIterator {
     pub order: IterationOrder,
     pub passed: usize,
 }
 
-#[derive(Drop)]
+#[derive(Clone, Copy)]
 pub struct Opened {
     pub iterator: BlockIterator,
     pub answer: Verdict,
 }
 
-#[derive(Drop)]
+#[derive(Clone, Copy)]
 pub enum EmptyRead {
     Is(bool),
     Refused(Refusal),
 }
 
-#[derive(Drop)]
+#[derive(Clone, Copy)]
 pub enum NextAnswer {
     // The row, and its number in the block.
     Found { number: usize, row: Row },
@@ -47,27 +49,27 @@ pub enum NextAnswer {
 }
 
 // What a step answers, with the cursor moved past the row.
-#[derive(Drop)]
+#[derive(Clone, Copy)]
 pub struct Next {
     pub iterator: BlockIterator,
     pub answer: NextAnswer,
 }
 
-#[derive(Drop)]
+#[derive(Clone, Copy)]
 pub enum SeekAnswer {
     // How many keys the search read; the cursor stands where the target belongs, with all rows passed where none is left.
     Landed(usize),
     Refused(Refusal),
 }
 
-#[derive(Drop)]
+#[derive(Clone, Copy)]
 pub struct Sought {
     pub iterator: BlockIterator,
     pub answer: SeekAnswer,
 }
 
 // A row that was read, and where the first key starts, of which it shares a part.
-#[derive(Drop)]
+#[derive(Clone, Copy)]
 enum Loaded {
     Row { first_at: usize, row: Row },
     Refused(Refusal),

@@ -2,6 +2,8 @@
 // value; what it gives of a row are places in the block, and the full key in a lent buffer.
 // Follows slatedb 0.16.0, src/block_iterator_v2.rs (Apache License 2.0), and is changed: no region is cached, a step back reads its region again, every call
 // tests block and cursor for itself, and what they can break is a refusal that gives the cursor back as it came.
+#![tactic(auto)]
+
 ghost use Rattle.std.specs.Prelude.{◌≡◌, length};
 ghost use Rattle.layout.specs.Cursor.{next};
 ghost use Rattle.layout.specs.Limits.{max_key};
@@ -22,19 +24,19 @@ use seek_in_place_v2::Found;
 use step_in_place_v2::Moved;
 
 // A cursor: its place, and beside it the bytes of the key before, of which the first `place.key_len` tell. A fresh one has `[0; basics::MAX_KEY]` and length 0.
-#[derive(Drop)]
+#[derive(Clone, Copy)]
 pub struct BlockIteratorV2 {
     pub place: Place,
     pub key: [u8; basics::MAX_KEY],
 }
 
-#[derive(Drop)]
+#[derive(Clone, Copy)]
 pub struct Opened {
     pub iterator: BlockIteratorV2,
     pub answer: Verdict,
 }
 
-#[derive(Drop)]
+#[derive(Clone, Copy)]
 pub enum NextAnswer {
     // The row, its region and its number there.
     Found {
@@ -47,13 +49,13 @@ pub enum NextAnswer {
 }
 
 // What a step answers, with the cursor moved past the row.
-#[derive(Drop)]
+#[derive(Clone, Copy)]
 pub struct Next {
     pub iterator: BlockIteratorV2,
     pub answer: NextAnswer,
 }
 
-#[derive(Drop)]
+#[derive(Clone, Copy)]
 pub enum SeekAnswer {
     // How many restart keys the search read; the cursor stands where the target belongs.
     Landed(usize),
@@ -62,7 +64,7 @@ pub enum SeekAnswer {
     Refused(Refusal),
 }
 
-#[derive(Drop)]
+#[derive(Clone, Copy)]
 pub struct Sought {
     pub iterator: BlockIteratorV2,
     pub answer: SeekAnswer,

@@ -1,6 +1,8 @@
 // The keys of a block of the earlier format, read alone and left where they lie: the first key, with which all others share, and the search over the keys of all rows.
 // Follows slatedb 0.16.0, src/block_iterator.rs (Apache License 2.0), and is changed: no key is copied, a row's key is held against the target in its two parts,
 // the search is recursive and counts the keys that it reads, and what a block's bytes can break is a refusal.
+#![tactic(auto)]
+
 ghost use Rattle.std.specs.Prelude.{◌≡◌, ◌≤◌, ◌<◌, ◌+◌, ◌-◌, ◌*◌, length};
 ghost use Rattle.layout.specs.Laws.Search.{search_on};
 ghost use Rattle.layout_v1.specs.Seek.{keeps_upper, key_passes};
@@ -15,20 +17,20 @@ use row_decode_v2::KeyRead;
 use trailer::Trailer;
 
 // Where the search's span closed, and how many keys it read.
-#[derive(Drop)]
+#[derive(Clone, Copy)]
 pub enum Search {
     Found { place: usize, reads: usize },
     Refused(Refusal),
 }
 
 // How a key stands to the target: how many bytes they begin with in common, and whether the search keeps the part above it.
-#[derive(Drop)]
+#[derive(Clone, Copy)]
 struct Stand {
     common: usize,
     keeps: bool,
 }
 
-#[derive(Drop)]
+#[derive(Clone, Copy)]
 enum Kept {
     Is(bool),
     Refused(Refusal),

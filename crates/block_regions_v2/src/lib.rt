@@ -3,6 +3,8 @@
 // the read back where in the data the first bytes of the key before stand. The key that is wanted is put together at the end, once all tests are made.
 // Follows slatedb 0.16.0, src/block_iterator_v2.rs (Apache License 2.0), and is changed: no rows are cached, no key is carried, and what the bytes or the
 // numbers handed in can break is a refusal that writes nothing.
+#![tactic(auto)]
+
 ghost use Rattle.std.specs.Prelude.{◌≡◌, cond, ◌≤◌, ◌<◌, ◌+◌, ◌-◌, ltb, length, take};
 ghost use Rattle.layout.specs.Key.{Key};
 ghost use Rattle.layout.specs.Place.{splice};
@@ -19,21 +21,21 @@ use row_decode_v2::{Row, RowRead};
 use trailer::Region;
 
 // How many rows of a region are said to end at or before a position: so many, or as many as do.
-#[derive(Drop)]
+#[derive(Clone, Copy)]
 pub enum Passed {
     Rows(usize),
     All,
 }
 
 // The row that ends at a position, and its number in the region. Its key stands in the lent buffer.
-#[derive(Drop)]
+#[derive(Clone, Copy)]
 pub enum Ended {
     Row { row: Row, number: usize },
     Refused(Refusal),
 }
 
 // Where a walk stopped, how long the key of the row before is, and how many rows of the region end at or before it.
-#[derive(Drop)]
+#[derive(Clone, Copy)]
 pub enum PlaceRead {
     At {
         at: usize,
@@ -45,7 +47,7 @@ pub enum PlaceRead {
 
 // Where a walk stopped, or the row that is refused (not `good`), with the length of the key before and how many rows were read before; and the last row that
 // shared no more than the match, with the length of the key before that one.
-#[derive(Drop)]
+#[derive(Clone, Copy)]
 struct Halted {
     at: usize,
     len: usize,
@@ -56,7 +58,7 @@ struct Halted {
 }
 
 // The first `len` bytes of a key, where they stand in the data: `split` of them from `first` on, the others from `second` on.
-#[derive(Drop)]
+#[derive(Clone, Copy)]
 struct Known {
     first: usize,
     split: usize,
@@ -66,7 +68,7 @@ struct Known {
 
 // The first row that reaches a position, or that is refused, with how many rows were read before it, the length of the key before it, and what is known of that
 // key.
-#[derive(Drop)]
+#[derive(Clone, Copy)]
 struct Reached {
     at: usize,
     len: usize,

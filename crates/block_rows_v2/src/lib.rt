@@ -1,6 +1,8 @@
 // Many rows in one call: a cursor stepped over lent words, all keys one after another in one lent buffer and all rows' words in another.
 // Follows the loop over next of slatedb 0.16.0's BlockIteratorV2 (Apache License 2.0), and is changed: rows are given until one is refused or does not fit, and a
 // refusal is answered only where no row is given.
+#![tactic(auto)]
+
 ghost use Rattle.std.specs.Prelude.{true, false, cond, ◌≡◌, ◌+◌, ◌*◌, ◌≤◌, eqb, length, take, drop};
 ghost use Rattle.layout.specs.Limits.{max_key};
 ghost use Rattle.layout.specs.Laws.Splice.{Wrote};
@@ -27,7 +29,7 @@ use row_plain_v2::PlainRow;
 use step_in_place_v2::Moved;
 
 // The cursor past the rows that were given, how many these are, and whether "done" came at once; or the refusal of the first row.
-#[derive(Drop)]
+#[derive(Clone, Copy)]
 enum Gave {
     Rows {
         over: bool,
@@ -106,7 +108,7 @@ fn row_of(data: &[u8], at: usize, row: PlainRow) -> Row
 // ---- the plain rows of a region
 
 // Where a run of rows stands: how many bytes of keys and how many rows are given, and whether no row is left, which is told at its start alone.
-#[derive(Drop)]
+#[derive(Clone, Copy)]
 struct Ran {
     place: Place,
     used: usize,
@@ -115,7 +117,7 @@ struct Ran {
 }
 
 // Where one more step leads: on, past its row; or to what is answered.
-#[derive(Drop)]
+#[derive(Clone, Copy)]
 enum Went {
     On(Ran),
     Stopped(Gave),

@@ -2,6 +2,8 @@
 // `build_in_place_v1`; the rows' bytes and their offsets are in buffers that are lent to each call.
 // Follows slatedb 0.16.0, src/format/block.rs (Apache License 2.0), and is changed: rows go into the free rest of the lent data buffer, the builder comes in and
 // goes out by value, and what the settings, the row, the room or the state itself can break is a refusal. A refused call changes nothing.
+#![tactic(auto)]
+
 ghost use Rattle.build_in_place_v1.specs.Promise.{AddsInPlace};
 ghost use Rattle.block_v1.specs.Promise.{Makes, Fits, Adds, Empties, Builds};
 
@@ -12,26 +14,26 @@ use row_flags::RowFields;
 use state_v1::State;
 
 // A builder's numbers, and beside them the bytes of the first key, of which the first `state.first_key_len` tell.
-#[derive(Drop)]
+#[derive(Clone, Copy)]
 pub struct BlockBuilderV1 {
     pub state: State,
     pub first_key: [u8; basics::MAX_KEY],
 }
 
 // A refused constructor gives a builder of size 0, with nothing used, beside its refusal.
-#[derive(Drop)]
+#[derive(Clone, Copy)]
 pub struct New {
     pub builder: BlockBuilderV1,
     pub answer: Verdict,
 }
 
-#[derive(Drop)]
+#[derive(Clone, Copy)]
 pub struct Added {
     pub builder: BlockBuilderV1,
     pub answer: Verdict,
 }
 
-#[derive(Drop)]
+#[derive(Clone, Copy)]
 pub struct Built {
     pub builder: BlockBuilderV1,
     pub answer: BuildAnswer,

@@ -2,6 +2,8 @@
 // `build_in_place_v2`; the rows' bytes and the restarts' offsets are in buffers that are lent to each call.
 // Follows slatedb 0.16.0, src/format/block_v2.rs (Apache License 2.0), and is changed: rows go into the free rest of the lent data buffer, the builder comes in and
 // goes out by value, and what the settings, the row, the room or the state itself can break is a refusal. A refused call changes nothing.
+#![tactic(auto)]
+
 ghost use Rattle.layout.specs.Limits.{default_interval};
 ghost use Rattle.build_in_place_v2.specs.Promise.{AddsInPlace};
 ghost use Rattle.block_v2.specs.Promise.{Makes, Fits, Adds, Empties, Builds};
@@ -13,26 +15,26 @@ use row_flags::RowFields;
 use state_v2::State;
 
 // A builder's numbers, and beside them the bytes of the most recent key, of which the first `state.last_key_len` tell.
-#[derive(Drop)]
+#[derive(Clone, Copy)]
 pub struct BlockBuilderV2 {
     pub state: State,
     pub last_key: [u8; basics::MAX_KEY],
 }
 
 // A refused constructor gives a builder of size 0 and interval 1, with nothing used, beside its refusal.
-#[derive(Drop)]
+#[derive(Clone, Copy)]
 pub struct New {
     pub builder: BlockBuilderV2,
     pub answer: Verdict,
 }
 
-#[derive(Drop)]
+#[derive(Clone, Copy)]
 pub struct Added {
     pub builder: BlockBuilderV2,
     pub answer: Verdict,
 }
 
-#[derive(Drop)]
+#[derive(Clone, Copy)]
 pub struct Built {
     pub builder: BlockBuilderV2,
     pub answer: BuildAnswer,

@@ -1,5 +1,7 @@
 // What crosses the C interface as lent words beside a builder: a cursor, loaded from words and stored to them, and the codes that a call answers.
 // Words that are not as many as they must be are neither loaded nor stored to.
+#![tactic(auto)]
+
 ghost use Rattle.std.specs.Prelude.{◌≡◌};
 ghost use Rattle.basics.specs.Says.{says_order};
 ghost use Rattle.row_words.specs.Words.{order_word};
@@ -21,13 +23,13 @@ pub const DONE: u8 = 255;
 
 pub const CURSOR_WORDS: usize = 6;
 
-#[derive(Drop)]
+#[derive(Clone, Copy)]
 pub enum OrderRead {
     Is(IterationOrder),
     Bad,
 }
 
-#[derive(Drop)]
+#[derive(Clone, Copy)]
 pub enum CursorRead {
     Is(Place),
     Bad,

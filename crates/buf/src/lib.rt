@@ -1,19 +1,21 @@
 // Numbers read at a place of a lent slice, high byte first: the reading half of the `bytes` crate that slatedb uses.
 // Follows slatedb 0.16.0, src/format/row_codec_v2.rs and row.rs, which read so (Apache License 2.0), and is changed: a buffer is a lent slice with a place in it,
 // each reader answers the place after what it read, and an input that ends is a refusal.
+#![tactic(auto)]
+
 ghost use Rattle.std.specs.Prelude.{◌≡◌, ◌≤◌, ◌<◌, ◌+◌, length};
 ghost use Rattle.layout.specs.Laws.Place.{pair_at, four_at};
 ghost use Rattle.buf.specs.Promise.{ReadsWord, WordRefusal, ReadsSigned, SignedRefusal, ReadsEight, ReadsNarrow, ReadsBytes};
 
 use basics::Refusal;
 
-#[derive(Drop)]
+#[derive(Clone, Copy)]
 pub enum WordRead {
     Word { value: u64, next: usize },
     Refused(Refusal),
 }
 
-#[derive(Drop)]
+#[derive(Clone, Copy)]
 pub enum SignedRead {
     Number { value: i64, next: usize },
     Refused(Refusal),

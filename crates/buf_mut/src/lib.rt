@@ -1,6 +1,8 @@
 // Numbers and bytes written at a place of a lent slice, high byte first: the writing half of the `bytes` crate that slatedb uses.
 // Follows slatedb 0.16.0, src/format/row_codec_v2.rs and src/format/block.rs, which write so (Apache License 2.0), and is changed: a buffer is a lent slice
 // with a place in it, each writer answers the place after what it wrote, and too little room is a refusal that writes nothing.
+#![tactic(auto)]
+
 ghost use Rattle.std.specs.Prelude.{◌≤◌};
 ghost use Rattle.layout.specs.Fixed.{big, bits};
 ghost use Rattle.buf_mut.specs.Promise.{Puts, PlaceAfter, PutRefusal};
@@ -8,7 +10,7 @@ ghost use Rattle.buf_mut.specs.Promise.{Puts, PlaceAfter, PutRefusal};
 use basics::Refusal;
 
 // The place after what was written.
-#[derive(Drop)]
+#[derive(Clone, Copy)]
 pub enum Put {
     At(usize),
     Refused(Refusal),

@@ -3,6 +3,8 @@
 // Follows slatedb 0.16.0, src/format/block.rs (Apache License 2.0), and is changed: the numbers come in and go out by value, rows go into the free rest of the lent
 // data buffer, the first key's bytes are worked on where they lie, and what the row, the room or the numbers themselves can break is a refusal. A refused call
 // changes nothing.
+#![tactic(auto)]
+
 ghost use Rattle.std.specs.Prelude.{◌≡◌, cond, [], ◌≤◌, ◌+◌, ◌*◌, eqb, length, take, drop};
 ghost use Rattle.layout.specs.Key.{common};
 ghost use Rattle.layout.specs.Limits.{max_key, max_block, max_restarts};
@@ -25,14 +27,14 @@ use state_v1::State;
 const SIZEOF_U16: usize = 2;
 
 // A refused row gives the numbers as they came.
-#[derive(Drop)]
+#[derive(Clone, Copy)]
 pub struct Grown {
     pub state: State,
     pub answer: Verdict,
 }
 
 // What the tests of a row found: how much of the first key it shares, and how large the block is with it, its offset too.
-#[derive(Drop)]
+#[derive(Clone, Copy)]
 enum Planned {
     Row { shared: usize, size: usize },
     Refused(Refusal),

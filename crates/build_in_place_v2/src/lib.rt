@@ -3,6 +3,8 @@
 // Follows slatedb 0.16.0, src/format/block_v2.rs (Apache License 2.0), and is changed: the numbers come in and go out by value, rows go into the free rest of the lent
 // data buffer, the last key's bytes are worked on where they lie, and what the row, the room or the numbers themselves can break is a refusal. A refused call
 // changes nothing.
+#![tactic(auto)]
+
 ghost use Rattle.std.specs.Prelude.{◌≡◌, false, cond, ◌&&◌, ◌||◌, ◌≤◌, ◌<◌, ◌+◌, ◌*◌, ◌^◌, ltb, leb, eqb, length, take, drop, set};
 ghost use Rattle.layout.specs.Block.{is_restart, share_of};
 ghost use Rattle.layout.specs.Builder.{restarts_of};
@@ -32,14 +34,14 @@ fn compute_prefix(last: &[u8], last_len: usize, key: &[u8]) -> usize
     keys::common_prefix(&last[..last_len], key)
 }
 
-#[derive(Drop)]
+#[derive(Clone, Copy)]
 pub enum Grown {
     Row(State),
     Refused(Refusal),
 }
 
 // What the tests of a row found: how much of the last key it shares, how large the block is with it, and whether it is a restart.
-#[derive(Drop)]
+#[derive(Clone, Copy)]
 enum Planned {
     Row {
         shared: usize,
@@ -50,7 +52,7 @@ enum Planned {
 }
 
 // What all tests of adding found, as plain numbers. A size of 0 is for a row that they refuse: a block with a row has more.
-#[derive(Drop)]
+#[derive(Clone, Copy)]
 struct Found {
     shared: usize,
     size: usize,

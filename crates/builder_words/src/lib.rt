@@ -1,5 +1,7 @@
 // A builder as lent words, loaded from them and stored to them, and what a call that offers it a row starts from.
 // Words that are not as many as they must be are neither loaded nor stored to.
+#![tactic(auto)]
+
 ghost use Rattle.std.specs.Prelude.{◌≡◌};
 ghost use Rattle.builder_words.specs.Promise.{LoadsState, PutsState, LoadsOffer};
 
@@ -9,14 +11,14 @@ use state_v2::State;
 
 pub const BUILDER_WORDS: usize = 6;
 
-#[derive(Drop)]
+#[derive(Clone, Copy)]
 pub enum StateRead {
     Is(State),
     Bad,
 }
 
 // A builder, and the row that is offered to it.
-#[derive(Drop)]
+#[derive(Clone, Copy)]
 pub enum OfferRead {
     Is { state: State, row: RowFields },
     Bad,

@@ -1,4 +1,6 @@
 // A builder and a cursor by value, beside lent words: what only the functions by value use.
+#![tactic(auto)]
+
 ghost use Rattle.by_value_words.specs.Promise.{MakesOver, PutsIterator};
 
 use block_iterator_v2::BlockIteratorV2;

@@ -1,4 +1,6 @@
 // The longest key, and one byte more, through every call that takes or reads a row's key. What they should answer stands in the file `stdout` alone.
+#![tactic(auto)]
+
 mod building;
 mod reading;
 mod rows;

@@ -1,5 +1,7 @@
 // Which row is this: the cases on the pairs that name rows and on the numbers of cursors, through the code. What should be printed stands in the file `stdout`
 // alone.
+#![tactic(auto)]
+
 mod blocks;
 mod forged;
 mod say;

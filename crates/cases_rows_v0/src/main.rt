@@ -1,5 +1,7 @@
 // Rows of the earlier format through the code: sized, encoded, and decoded alone and in a block, with every refusal that they can meet. What should be printed stands in the
 // file `stdout` alone.
+#![tactic(auto)]
+
 mod reading;
 mod say;
 mod writing;

@@ -1,5 +1,7 @@
 // Blocks of the earlier format through the code: built, checked, walked and sought in, both ways; then damaged ones, and cursors that can't be. What should be printed stands
 // in the file `stdout` alone.
+#![tactic(auto)]
+
 mod building;
 mod damaged;
 mod reading;

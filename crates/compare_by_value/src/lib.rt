@@ -1,5 +1,7 @@
 // The C interface through the methods that take a cursor or a builder by value, for comparing these with the Rust. A user takes those of `slatedb_block`, which
 // keep the same promises in place. Follows the methods of slatedb 0.16.0's BlockBuilderV2 and BlockIteratorV2 (Apache License 2.0), and is changed as those are.
+#![tactic(auto)]
+
 ghost use Rattle.std.specs.Prelude.{◌≡◌, length};
 ghost use Rattle.layout.specs.Limits.{max_key};
 ghost use Rattle.builder_words.specs.Exports.{AddsFlat};

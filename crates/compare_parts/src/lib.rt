@@ -2,6 +2,8 @@
 // have a C library of their own.
 // Follows the varints of slatedb 0.16.0's src/utils.rs and the key-only read of its SstRowCodecV2 (Apache License 2.0), and is changed: each answers a code, 0 for
 // good, the number of a refusal, and 254 for words that mean nothing, which is tested first; what else it answers goes to lent words.
+#![tactic(auto)]
+
 ghost use Rattle.compare_parts.specs.Promise.{WritesVarintFlat, ReadsVarintFlat, ReadsKeyFlat};
 
 use buf_mut::Put;

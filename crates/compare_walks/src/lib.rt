@@ -2,6 +2,8 @@
 // the cursor by value from step to step, one with its key bytes in place.
 // Follows the loop over next of slatedb 0.16.0's BlockIteratorV2 (Apache License 2.0), and is changed: each answers a code, 0 for good, the number of a refusal, 254
 // for words that mean nothing, which is tested first, and 255 for "done"; what else it answers goes to lent words.
+#![tactic(auto)]
+
 ghost use Rattle.std.specs.Prelude.{◌≡◌, ◌+◌, ◌%◌, ◌^◌, ◌<◌, ◌≤◌, length, take, replicate};
 ghost use Rattle.layout.specs.Res.{bind};
 ghost use Rattle.layout.specs.Limits.{max_key};
@@ -28,7 +30,7 @@ use step_in_place_v2::Moved;
 const SUMS_WORDS: usize = 2;
 
 // How many rows a walk found, their sum, and whether "done" ended it.
-#[derive(Drop)]
+#[derive(Clone, Copy)]
 enum Walked {
     Ended { over: bool, rows: u64, sum: u64 },
     Refused(Refusal),
@@ -163,7 +165,7 @@ fn pass_plain(key: &mut [u8], data: &[u8], at: usize, row: PlainRow, sum: u64) -
 
 // Where a run of rows ended, and what it found. The place stands last: in `Went` the tags of other answers lie over the first bytes, and a number there is put
 // together from parts each time that a step hands it back. `rows` is counted here.
-#[derive(Drop)]
+#[derive(Clone, Copy)]
 struct Ran {
     rows: u64,
     sum: u64,
@@ -230,7 +232,7 @@ fn run_here(block: &[u8], key: &mut [u8], came: Ran, limit: u64) -> Ran
 }
 
 // Where a walk has come to, still under way; or how it ended.
-#[derive(Drop)]
+#[derive(Clone, Copy)]
 enum Went {
     On(Ran),
     Over(Walked),

@@ -1,4 +1,6 @@
 // Bytes copied from one lent slice to another, in groups that LLVM makes one load and one store of: `copy_from_slice`, by those who know how many bytes there are.
+#![tactic(auto)]
+
 ghost use Rattle.std.specs.Prelude.{◌≡◌, ◌+◌, ◌≤◌, length, take, drop};
 ghost use Rattle.layout.specs.Place.{splice};
 ghost use Rattle.copies.specs.Promise.{CopiesFirst, CopiesAll};

@@ -1,5 +1,7 @@
 // What crosses the C interface of the earlier format as lent words beside a builder: a cursor, loaded from words and stored to them, and a row of a block, stored.
 // Words that are not as many as they must be are neither loaded nor stored to.
+#![tactic(auto)]
+
 ghost use Rattle.std.specs.Prelude.{◌≡◌};
 ghost use Rattle.basics.specs.Says.{says_order};
 ghost use Rattle.row_words.specs.Words.{order_word};
@@ -14,13 +16,13 @@ pub const CURSOR_WORDS: usize = 2;
 // a single row's words, and the row's number in the block
 pub const ROW_WORDS: usize = 14;
 
-#[derive(Drop)]
+#[derive(Clone, Copy)]
 pub enum OrderRead {
     Is(IterationOrder),
     Bad,
 }
 
-#[derive(Drop)]
+#[derive(Clone, Copy)]
 pub enum CursorRead {
     Is(BlockIterator),
     Bad,

@@ -1,6 +1,8 @@
 // A V1 block's builder as its numbers: whether they can belong to the lent buffers, and the block built.
 // Follows slatedb 0.16.0, src/format/block.rs (Apache License 2.0), and is changed: the numbers come in by value, the rows' bytes and their offsets are in buffers that are
 // lent, and what the numbers or the room can break is a refusal, which changes nothing.
+#![tactic(auto)]
+
 ghost use Rattle.finish_in_place_v1.specs.Promise.{Judges, Finishes};
 
 use basics::Refusal;

@@ -1,6 +1,8 @@
 // A V2 block's builder as its numbers: whether they can belong to the lent buffers, and the block built.
 // Follows slatedb 0.16.0, src/format/block_v2.rs (Apache License 2.0), and is changed: the numbers come in by value, the rows' bytes and the restarts' offsets are in
 // buffers that are lent, and what the numbers or the room can break is a refusal, which changes nothing.
+#![tactic(auto)]
+
 ghost use Rattle.std.specs.Prelude.{◌≡◌, cond, not, ◌≤◌, eqb};
 ghost use Rattle.layout.specs.Builder.{restarts_of};
 ghost use Rattle.layout.specs.Limits.{max_interval, max_restarts};
@@ -11,7 +13,7 @@ use buf_mut::Put;
 use state_v2::State;
 
 // The block's length: it stands at the start of the data buffer.
-#[derive(Drop)]
+#[derive(Clone, Copy)]
 pub enum BuildAnswer {
     Block(usize),
     Refused(Refusal),

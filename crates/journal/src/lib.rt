@@ -1,5 +1,7 @@
 // The switch's journal: debits, top-ups and closes of cards, one after another, until their rows reach a block. Here are its records. `journal_read` reads all of it,
 // `journal_balance` has a card's balance from it, `journal_append` appends to it. Nothing of slatedb's: added.
+#![tactic(auto)]
+
 ghost use Rattle.std.specs.Prelude.{◌≡◌, ◌+◌, ◌≤◌, ◌<◌, length};
 ghost use Rattle.journal.specs.Record.{length_of, number_at, body_at, found_in};
 ghost use Rattle.journal.specs.Promise.{Numbered, Measures, Finds};
@@ -7,7 +9,7 @@ ghost use Rattle.journal.specs.Promise.{Numbered, Measures, Finds};
 // A journal has no more bytes.
 pub const MAX_JOURNAL: usize = 65536;
 
-#[derive(Drop)]
+#[derive(Clone, Copy)]
 pub enum Refusal {
     // 30: the journal has over 65,536 bytes
     TooLong,
@@ -21,7 +23,7 @@ pub enum Refusal {
     NoRoom,
 }
 
-#[derive(Drop)]
+#[derive(Clone, Copy)]
 pub enum Record {
     Debit { card: u64, retry: u64, amount: u32 },
     TopUp { card: u64, retry: u64, amount: u32 },
@@ -29,7 +31,7 @@ pub enum Record {
 }
 
 // What stands at a place: a record and the place after it; a record that the journal ends inside; the journal's end.
-#[derive(Drop)]
+#[derive(Clone, Copy)]
 pub enum Found {
     Whole { record: Record, next: usize },
     Incomplete,

@@ -1,4 +1,6 @@
 // Records appended to the switch's journal. Nothing of slatedb's: added.
+#![tactic(auto)]
+
 ghost use Rattle.std.specs.Prelude.{◌≡◌, ◌+◌, ◌≤◌, length};
 ghost use Rattle.layout.specs.Place.{splice};
 ghost use Rattle.journal.specs.Record.{length_of, kind_of, body_bytes, record_bytes};
@@ -9,7 +11,7 @@ use journal::{Record, Refusal};
 use journal_read::{Reading, Tail};
 
 // The new used length.
-#[derive(Drop)]
+#[derive(Clone, Copy)]
 pub enum Appended {
     Used(usize),
     Refused(Refusal),

@@ -1,4 +1,6 @@
 // The balance of a card in the switch's journal: its top-ups less its debits, of those that count. Nothing of slatedb's: added.
+#![tactic(auto)]
+
 ghost use Rattle.std.specs.Prelude.{◌≡◌, ◌+◌, ◌^◌, ◌≤◌, ◌<◌, pos, ◌-ℤ◌, length, get_or};
 ghost use Rattle.journal.specs.Record.{length_of};
 ghost use Rattle.journal_balance.specs.Parts.{amount_in, Named, Earlier, CountsOne};
@@ -11,14 +13,14 @@ use journal_read::Tail;
 // The tree's slots: one for each kind, and two for each 21 bytes.
 const SLOTS: usize = 6240;
 
-#[derive(Drop)]
+#[derive(Clone, Copy)]
 pub enum Balanced {
     Amount { balance: i64, tail: Tail },
     Refused(Refusal),
 }
 
 // The amounts that count so far, and whether the card is closed.
-#[derive(Drop)]
+#[derive(Clone, Copy)]
 struct Sums {
     ups: u64,
     downs: u64,

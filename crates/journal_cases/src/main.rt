@@ -1,4 +1,6 @@
 // Worked examples of the journal, through the code. It prints what the code answered; what that should be stands in the file `stdout` alone.
+#![tactic(auto)]
+
 mod say;
 
 use journal::Record;

@@ -1,17 +1,19 @@
 // All of the switch's journal: how many records it has, and where an incomplete tail starts. Nothing of slatedb's: added.
+#![tactic(auto)]
+
 ghost use Rattle.journal_read.specs.Promise.{ReadsAll};
 
 use journal::Refusal;
 
 // Where an incomplete record starts, if the journal ends inside one.
-#[derive(Drop)]
+#[derive(Clone, Copy)]
 pub enum Tail {
     Nothing,
     From(usize),
 }
 
 // How many complete records there are.
-#[derive(Drop)]
+#[derive(Clone, Copy)]
 pub enum Reading {
     Complete { records: usize, tail: Tail },
     Refused(Refusal),

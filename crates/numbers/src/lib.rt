@@ -1,5 +1,7 @@
 // Numbers: how many bytes stand from a place on, the lesser of two, and a signed number's bits in two's complement.
 // Follows slatedb 0.16.0, whose fixed numbers are those of the `bytes` crate (Apache License 2.0), and is changed: no cast wraps.
+#![tactic(auto)]
+
 ghost use Rattle.numbers.specs.Promise.{Rests, TakesLeast, ToBits, FromBits};
 
 // How many of `len` bytes stand from `at` on. A test against it needs no `at + n`, which may wrap.

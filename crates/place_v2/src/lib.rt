@@ -1,6 +1,8 @@
 // A cursor's numbers, without the bytes of its key: a block opened, and whether a row is left.
 // Follows slatedb 0.16.0, src/block_iterator_v2.rs (Apache License 2.0), and is changed: a cursor is numbers that come back by value, every call tests the block
 // for itself, and what its bytes can break is a refusal.
+#![tactic(auto)]
+
 ghost use Rattle.std.specs.Prelude.{◌≡◌};
 ghost use Rattle.layout.specs.Res.{ok};
 ghost use Rattle.layout.specs.Trailer.{trailer_of};
@@ -16,7 +18,7 @@ use whole_regions_v2::CountRead;
 // A cursor without the bytes of its key: those stay where they are. `number` is how many rows of its region end at or before its position. The numbers that
 // change from step to step do not stand side by side, so that none is loaded in one with another that was stored apart; the region's changes with the region
 // alone.
-#[derive(Drop)]
+#[derive(Clone, Copy)]
 pub struct Place {
     pub number: usize,
     pub order: IterationOrder,
@@ -27,13 +29,13 @@ pub struct Place {
 }
 
 // Beside a refusal stands a cursor at 0 in region 0.
-#[derive(Drop)]
+#[derive(Clone, Copy)]
 pub struct OpenedPlace {
     pub place: Place,
     pub answer: Verdict,
 }
 
-#[derive(Drop)]
+#[derive(Clone, Copy)]
 pub enum EmptyRead {
     Is(bool),
     Refused(Refusal),

@@ -1,5 +1,7 @@
 // What the loops over the rows of a region share: the region in which a cursor stands, its bounds read once.
 // Follows slatedb 0.16.0, src/block_iterator_v2.rs (Apache License 2.0), and is changed: plain rows of one region are stepped over with no test of the block between them.
+#![tactic(auto)]
+
 ghost use Rattle.std.specs.Prelude.{◌≡◌};
 ghost use Rattle.region_rows_v2.specs.Bounds.{no_stretch, stretch_from};
 ghost use Rattle.region_rows_v2.specs.Promise.{BoundsOf};
@@ -9,7 +11,7 @@ use place_v2::Place;
 use trailer::Region;
 
 // How many bytes of rows a block has, and the bounds of one of its regions.
-#[derive(Drop)]
+#[derive(Clone, Copy)]
 pub struct Bounds {
     pub size: usize,
     pub region: Region,

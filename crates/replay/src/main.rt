@@ -2,6 +2,8 @@
 // so a run that writes the same is a comparison with the Rust where no Rust is at hand.
 // These are the commands on rows, numbers and builders; `replay_blocks` has those on blocks and their iterators.
 // Bytes are written in hexadecimal digits; `-` is none of them, or a time that is absent. A row is KEY:KIND:VALUE:SEQ:EXPIRE:CREATE, its kind v, t or m.
+#![tactic(auto)]
+
 mod answer;
 mod lines;
 mod single;

@@ -1,4 +1,6 @@
 // The night desk's report: reads one block from standard input and writes its four counts, a line for each, or the number of the refusal.
+#![tactic(auto)]
+
 mod show;
 
 use libc::STDIN_FILENO;

@@ -3,6 +3,8 @@
 // The blocks are one with a row of each kind and two restarts, and for each refusal of the check a block that is refused for it and for nothing that is tested before. The
 // file `stdout` was made from docs/RULES.md without this code, by a script that lays each row's varints, bytes, number and flags one after another, sums what it has laid,
 // and writes beside each refused block the number that the rules give for what was put wrong in it.
+#![tactic(auto)]
+
 mod show;
 
 use libc::STDIN_FILENO;

@@ -1,6 +1,8 @@
 // The read of a V0 row, whole or its key only, with every test in its order.
 // Follows slatedb 0.16.0, src/format/row.rs (Apache License 2.0), and is changed: rows are read from lent slices, an answer names places in them and copies
 // nothing, what the input can break is a refusal, and a tombstone's expire time is given as it is written.
+#![tactic(auto)]
+
 ghost use Rattle.std.specs.Prelude.{◌≡◌, ◌≤◌, length};
 ghost use Rattle.layout.specs.Limits.{max_key};
 ghost use Rattle.layout.specs.Plain.{not_plain};
@@ -163,14 +165,14 @@ fn row_at(s: &[u8], at: usize, most: usize) -> RowRead
 }
 
 // The two lengths of a key that is allowed, and where its suffix starts.
-#[derive(Drop)]
+#[derive(Clone, Copy)]
 struct Head {
     shared: usize,
     unshared: usize,
     suffix_at: usize,
 }
 
-#[derive(Drop)]
+#[derive(Clone, Copy)]
 enum HeadRead {
     Read(Head),
     Refused(Refusal),
@@ -214,14 +216,14 @@ fn head_at(s: &[u8], at: usize, most: usize) -> HeadRead
 }
 
 // What stands after the suffix, to the flags, and where the times start.
-#[derive(Drop)]
+#[derive(Clone, Copy)]
 struct Body {
     seq: u64,
     flags: RowFlags,
     next: usize,
 }
 
-#[derive(Drop)]
+#[derive(Clone, Copy)]
 enum BodyRead {
     Read(Body),
     Refused(Refusal),
@@ -254,13 +256,13 @@ fn body_at(s: &[u8], head: Head) -> BodyRead
 }
 
 // What the row holds, and the place after it.
-#[derive(Drop)]
+#[derive(Clone, Copy)]
 struct HeldAt {
     held: ValueDeletable,
     next: usize,
 }
 
-#[derive(Drop)]
+#[derive(Clone, Copy)]
 enum HeldRead {
     Read(HeldAt),
     Refused(Refusal),

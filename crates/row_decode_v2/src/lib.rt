@@ -1,6 +1,8 @@
 // The read of a V2 row, whole or its key only, with every test in its order.
 // Follows slatedb 0.16.0, src/format/row_codec_v2.rs (Apache License 2.0), and is changed: rows are read from lent slices, an answer names places in them
 // and copies nothing, and what the input can break is a refusal.
+#![tactic(auto)]
+
 ghost use Rattle.std.specs.Prelude.{◌≡◌, ◌≤◌, length};
 ghost use Rattle.layout.specs.Limits.{max_key};
 ghost use Rattle.layout.specs.RowRead.{lengths_at, may_share, head_at, body_at, row_is};
@@ -15,7 +17,7 @@ use row_flags_decode::{FlagsRead, RowFlags, Times, TimesRead};
 use utils_decode::VarintRead;
 
 // Where a row, its key's suffix and its value stand, and its other fields.
-#[derive(Drop)]
+#[derive(Clone, Copy)]
 pub struct Row {
     pub start: usize,
     pub next: usize,
@@ -28,20 +30,20 @@ pub struct Row {
     pub create: Time,
 }
 
-#[derive(Drop)]
+#[derive(Clone, Copy)]
 pub enum RowRead {
     Read(Row),
     Refused(Refusal),
 }
 
-#[derive(Drop)]
+#[derive(Clone, Copy)]
 pub struct KeyPlace {
     pub shared: usize,
     pub suffix_at: usize,
     pub suffix_len: usize,
 }
 
-#[derive(Drop)]
+#[derive(Clone, Copy)]
 pub enum KeyRead {
     Read(KeyPlace),
     Refused(Refusal),
@@ -113,7 +115,7 @@ pub fn decode_key_only(
 }
 
 // The three lengths as they are written, and where the suffix starts. No sum of two 32-bit numbers wraps a usize.
-#[derive(Drop)]
+#[derive(Clone, Copy)]
 enum LengthsRead {
     Read {
         shared: u32,
@@ -167,7 +169,7 @@ fn may_share(restart: bool, previous_len: usize) -> usize
 }
 
 // The lengths of a row whose key is allowed.
-#[derive(Drop)]
+#[derive(Clone, Copy)]
 struct Head {
     shared: usize,
     unshared: usize,
@@ -175,7 +177,7 @@ struct Head {
     suffix_at: usize,
 }
 
-#[derive(Drop)]
+#[derive(Clone, Copy)]
 enum HeadRead {
     Read(Head),
     Refused(Refusal),
@@ -226,7 +228,7 @@ pub fn held_as(kind: Kind, start: usize, len: usize) -> ValueDeletable
 }
 
 // What stands from the value to the flags, and where the times start.
-#[derive(Drop)]
+#[derive(Clone, Copy)]
 struct Body {
     held: ValueDeletable,
     seq: u64,
@@ -234,7 +236,7 @@ struct Body {
     next: usize,
 }
 
-#[derive(Drop)]
+#[derive(Clone, Copy)]
 enum BodyRead {
     Read(Body),
     Refused(Refusal),

@@ -1,6 +1,8 @@
 // The bytes of a V0 row, written after the block's first key, with every test in its order.
 // Follows slatedb 0.16.0, src/format/row.rs (Apache License 2.0), and is changed: rows are written to lent slices, and what the lengths or the room can
 // break is a refusal.
+#![tactic(auto)]
+
 ghost use Rattle.std.specs.Prelude.{◌≤◌, ◌<◌, ◌+◌, ◌^◌, length};
 ghost use Rattle.layout.specs.Row.{kept_length};
 ghost use Rattle.layout.specs.Laws.Splice.{Wrote};

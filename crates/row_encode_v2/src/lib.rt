@@ -1,6 +1,8 @@
 // The bytes of a V2 row, written after a previous key, with every test in its order.
 // Follows slatedb 0.16.0, src/format/row_codec_v2.rs (Apache License 2.0), and is changed: rows are written to lent slices, and what the lengths or the
 // room can break is a refusal.
+#![tactic(auto)]
+
 ghost use Rattle.std.specs.Prelude.{◌≤◌, ◌<◌, ◌+◌, ◌^◌, length};
 ghost use Rattle.layout.specs.Row.{kept_length, row_bytes};
 ghost use Rattle.layout.specs.Laws.Splice.{Wrote};
@@ -59,7 +61,7 @@ fn write_row(
     buf_mut::place_after(row_flags::write_marks(output, b, row))
 }
 
-#[derive(Drop)]
+#[derive(Clone, Copy)]
 pub enum Encoded {
     Bytes(usize),
     Refused(Refusal),

@@ -1,6 +1,8 @@
 // What a row holds beside its key, as every block format has it: its flags and times, written.
 // Follows slatedb 0.16.0, src/format/row.rs (Apache License 2.0), and is changed: times are written to a lent slice at a place, and too
 // little room is a refusal.
+#![tactic(auto)]
+
 ghost use Rattle.std.specs.Prelude.{◌≡◌, ◌≤◌};
 ghost use Rattle.layout.specs.Row.{kind_bits, if_so, present, time_bytes};
 ghost use Rattle.basics.specs.Says.{says_kind, says_time};
@@ -12,7 +14,7 @@ use basics::{Kind, Refusal, Time};
 use buf_mut::Put;
 
 // What a row holds beside its key and its value's bytes, as it is offered.
-#[derive(Drop)]
+#[derive(Clone, Copy)]
 pub struct RowFields {
     pub kind: Kind,
     pub seq: u64,

@@ -1,6 +1,8 @@
 // A row's flags and times, as every block format has them, read.
 // Follows slatedb 0.16.0, src/format/row.rs (Apache License 2.0), and is changed: times are read from a lent slice at a place, and what the input can break is a
 // refusal.
+#![tactic(auto)]
+
 ghost use Rattle.std.specs.Prelude.{◌≡◌};
 ghost use Rattle.layout.specs.RowRead.{time_at};
 ghost use Rattle.row_flags_decode.specs.Says.{says_flags};
@@ -13,14 +15,14 @@ use buf::SignedRead;
 // ---- flags
 
 // What a flags byte says: the kind, and which times stand after it.
-#[derive(Drop)]
+#[derive(Clone, Copy)]
 pub struct RowFlags {
     pub kind: Kind,
     pub expire: bool,
     pub create: bool,
 }
 
-#[derive(Drop)]
+#[derive(Clone, Copy)]
 pub enum FlagsRead {
     Read(RowFlags),
     Refused(Refusal),
@@ -60,7 +62,7 @@ pub fn decode_flags(flags: u8) -> FlagsRead
 
 // ---- times
 
-#[derive(Drop)]
+#[derive(Clone, Copy)]
 enum TimeRead {
     Read { time: Time, next: usize },
     Refused(Refusal),
@@ -86,14 +88,14 @@ fn time_at(flagged: bool, s: &[u8], at: usize) -> TimeRead
 }
 
 // The two times that were read, and the place after them.
-#[derive(Drop)]
+#[derive(Clone, Copy)]
 pub struct Times {
     pub expire: Time,
     pub create: Time,
     pub next: usize,
 }
 
-#[derive(Drop)]
+#[derive(Clone, Copy)]
 pub enum TimesRead {
     Read(Times),
     Refused(Refusal),

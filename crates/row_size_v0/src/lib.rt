@@ -1,5 +1,7 @@
 // A V0 row's size, with every test in its order. The full key's length is tested, and restored, as a V2 row's is.
 // Follows slatedb 0.16.0, src/format/row.rs (Apache License 2.0), and is changed: the size is told from lengths alone, and what they can break is a refusal.
+#![tactic(auto)]
+
 ghost use Rattle.std.specs.Prelude.{◌≡◌, ◌≤◌};
 ghost use Rattle.basics.specs.Says.{says_kind};
 ghost use Rattle.row_size_v0.specs.Parts.{length_size};

@@ -1,6 +1,8 @@
 // A V2 row's full key and its size, with every test in its order.
 // Follows slatedb 0.16.0, src/format/row_codec_v2.rs (Apache License 2.0), and is changed: a key is restored to a lent slice, and what the lengths or the room
 // can break is a refusal.
+#![tactic(auto)]
+
 ghost use Rattle.std.specs.Prelude.{◌≡◌, ◌≤◌, ◌<◌, ◌^◌};
 ghost use Rattle.layout.specs.Varint.{varint_length};
 ghost use Rattle.row_size_v2.specs.Promise.{TestsKey, Sizes, SizeRefusal, Restores};
@@ -9,7 +11,7 @@ use basics::{Kind, Refusal, Time};
 
 // ---- a full key
 
-#[derive(Drop)]
+#[derive(Clone, Copy)]
 pub enum Sized {
     Bytes(usize),
     Refused(Refusal),
@@ -45,7 +47,7 @@ pub fn key_len(shared: usize, suffix_len: usize) -> Sized
     Sized::Bytes(len)
 }
 
-#[derive(Drop)]
+#[derive(Clone, Copy)]
 pub enum Restored {
     Bytes(usize),
     Refused(Refusal),

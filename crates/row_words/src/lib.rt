@@ -1,5 +1,7 @@
 // What crosses the C interface as lent words, below cursors and builders: whether something is so, a row's fields and a row, loaded from words and stored to them.
 // Words that are not as many as they must be are neither loaded nor stored to.
+#![tactic(auto)]
+
 ghost use Rattle.std.specs.Prelude.{◌≡◌};
 ghost use Rattle.row_words.specs.Words.{kind_in, time_in};
 ghost use Rattle.row_words.specs.Says.{says_kind_read, says_time_read, held_from, time_words_of};
@@ -17,32 +19,32 @@ pub const SINGLE_WORDS: usize = 13;
 // a row of a block
 pub const ROW_WORDS: usize = 15;
 
-#[derive(Drop)]
+#[derive(Clone, Copy)]
 pub enum TruthRead {
     Is(bool),
     Bad,
 }
 
-#[derive(Drop)]
+#[derive(Clone, Copy)]
 enum KindRead {
     Is(Kind),
     Bad,
 }
 
-#[derive(Drop)]
+#[derive(Clone, Copy)]
 enum TimeRead {
     Is(Time),
     Bad,
 }
 
-#[derive(Drop)]
+#[derive(Clone, Copy)]
 pub enum FieldsRead {
     Is(RowFields),
     Bad,
 }
 
 // A value's kind and place, as words.
-#[derive(Drop)]
+#[derive(Clone, Copy)]
 struct HeldWords {
     kind: u64,
     start: u64,
@@ -50,7 +52,7 @@ struct HeldWords {
 }
 
 // Whether there is a time, and its bits.
-#[derive(Drop)]
+#[derive(Clone, Copy)]
 struct TimeWords {
     has: u64,
     bits: u64,

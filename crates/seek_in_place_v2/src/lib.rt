@@ -2,6 +2,8 @@
 // carries is lent. The search and the walks work with numbers alone; only where a walk up lands is a key put together, in the lent bytes.
 // Follows slatedb 0.16.0, src/block_iterator_v2.rs (Apache License 2.0), and is changed: no region is cached, every call tests the block for itself, and what
 // its bytes can break is a refusal that writes nothing.
+#![tactic(auto)]
+
 ghost use Rattle.std.specs.Prelude.{◌≡◌, List, ℕ, suc, ◌-◌, length};
 ghost use Rattle.layout.specs.Res.{ok, bind};
 ghost use Rattle.layout.specs.Cursor.{ascending, descending};
@@ -21,7 +23,7 @@ use trailer::Trailer;
 use whole_regions_v2::LastRead;
 
 // What a seek answers, with the place where it left the cursor, and how many restart keys the search read. A refusal moves nothing.
-#[derive(Drop)]
+#[derive(Clone, Copy)]
 pub enum Found {
     Landed { place: Place, reads: usize },
     Done { place: Place, reads: usize },

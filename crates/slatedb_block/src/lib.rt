@@ -1,6 +1,8 @@
 // The C interface: flat functions over numbers and lent slices, for C and Rust to link. State is lent as words and key bytes, so that a step copies no key.
 // Follows the methods of slatedb 0.16.0's SstRowCodecV2, BlockBuilderV2 and BlockIteratorV2 (Apache License 2.0), and is changed: each answers a code, 0 for good,
 // the number of a refusal, 254 for words that mean nothing, which is tested first, and 255 for "done"; what else it answers goes to lent words.
+#![tactic(auto)]
+
 ghost use Rattle.block_rows_v2.specs.Promise.{RowsFlat};
 ghost use Rattle.builder_words.specs.Exports.{AddsFlat};
 ghost use Rattle.block_words.specs.Exports.{StepsFlat};

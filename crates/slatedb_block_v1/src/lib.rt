@@ -1,6 +1,8 @@
 // The C interface of the earlier format: flat functions over numbers and lent slices, for C and Rust to link. State is lent as words and key bytes.
 // Follows the methods of slatedb 0.16.0's SstRowCodecV0, BlockBuilderV1 and BlockIterator (Apache License 2.0), and is changed: each answers a code, 0 for good,
 // the number of a refusal, 254 for words that mean nothing, which is tested first, and 255 for "done"; what else it answers goes to lent words.
+#![tactic(auto)]
+
 ghost use Rattle.std.specs.Prelude.{◌≡◌, cond, length};
 ghost use Rattle.layout_v1.specs.Seek.{sought_is};
 ghost use Rattle.block_iterator.specs.Says.{view_of};

@@ -1,6 +1,8 @@
 // The journal's C interface: flat functions over numbers and lent slices. Each answers a code: 0 for good, the number of a refusal, 253 for a record that the journal ends
 // inside, 254 for lent words or a kind offered that mean nothing, which is tested first, and 255 at the journal's end; what else it answers goes to lent words. A refusal
 // leaves them, but for the position that 31 tells. Nothing of slatedb's: added.
+#![tactic(auto)]
+
 ghost use Rattle.std.specs.Prelude.{◌≡◌, length};
 ghost use Rattle.slatedb_journal.specs.Flat.{record_count, five_words, record_words, place_told, tail_place, offered_by};
 ghost use Rattle.slatedb_journal.specs.Promise.{FindsFlat, ReadsFlat, BalancesFlat, AppendsFlat};
@@ -145,7 +147,7 @@ pub extern "C" fn slatedb_journal_balance(
 // ---- the writer
 
 // What is offered to be appended.
-#[derive(Drop)]
+#[derive(Clone, Copy)]
 enum Offered {
     Is(Record),
     Unknown,

@@ -1,6 +1,8 @@
 // A V1 block builder's numbers, without the bytes of its first key: a new one, and whether it has no row.
 // Follows slatedb 0.16.0, src/format/block.rs (Apache License 2.0), and is changed: a builder is numbers that come back by value, its rows and their offsets lie in lent
 // buffers, and a block size outside its limits is a refusal.
+#![tactic(auto)]
+
 ghost use Rattle.std.specs.Prelude.{◌≡◌};
 ghost use Rattle.layout_v1.specs.Builder.{fresh};
 ghost use Rattle.state_v1.specs.Says.{state_from};
@@ -9,7 +11,7 @@ ghost use Rattle.state_v1.specs.Promise.{MakesState, TellsStateEmpty};
 use basics::{Refusal, Verdict};
 
 // A builder without the bytes of its first key: those stay where they are, to compute the shared prefix. Bytes past the key's length tell nothing.
-#[derive(Drop)]
+#[derive(Clone, Copy)]
 pub struct State {
     pub block_size: usize,
     // How much of the data buffer is used.
@@ -20,7 +22,7 @@ pub struct State {
 }
 
 // A refused constructor gives the numbers of a builder of size 0, with nothing used, beside its refusal.
-#[derive(Drop)]
+#[derive(Clone, Copy)]
 pub struct NewState {
     pub state: State,
     pub answer: Verdict,

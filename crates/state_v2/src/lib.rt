@@ -1,6 +1,8 @@
 // A builder's numbers, without the bytes of its last key: a new one, and whether it has no row.
 // Follows slatedb 0.16.0, src/format/block_v2.rs (Apache License 2.0), and is changed: a builder is numbers that come back by value, its rows and restarts lie in lent
 // buffers, and settings outside their limits are a refusal.
+#![tactic(auto)]
+
 ghost use Rattle.std.specs.Prelude.{◌≡◌};
 ghost use Rattle.layout.specs.Builder.{fresh};
 ghost use Rattle.state_v2.specs.Says.{state_from};
@@ -9,7 +11,7 @@ ghost use Rattle.state_v2.specs.Promise.{MakesState, TellsStateEmpty};
 use basics::{Refusal, Verdict};
 
 // A builder without the bytes of its last key: those stay where they are, to compute the shared prefix. Bytes past the key's length tell nothing.
-#[derive(Drop)]
+#[derive(Clone, Copy)]
 pub struct State {
     pub block_size: usize,
     pub restart_interval: usize,
@@ -22,7 +24,7 @@ pub struct State {
 }
 
 // A refused constructor gives the numbers of a builder of size 0 and interval 1, with nothing used, beside its refusal.
-#[derive(Drop)]
+#[derive(Clone, Copy)]
 pub struct NewState {
     pub state: State,
     pub answer: Verdict,

@@ -2,6 +2,8 @@
 // a step and worked on in place.
 // Follows slatedb 0.16.0, src/block_iterator_v2.rs (Apache License 2.0), and is changed: no region is cached, a step back reads its region again, every call
 // tests block and cursor for itself, and what they can break is a refusal that writes nothing.
+#![tactic(auto)]
+
 ghost use Rattle.std.specs.Prelude.{◌≡◌, List, ℕ, ◌≤◌, ◌<◌, ◌+◌, length, take};
 ghost use Rattle.layout.specs.Res.{ok};
 ghost use Rattle.layout.specs.Cursor.{ascending, descending, step_up, step_down, step_back_in};
@@ -25,7 +27,7 @@ use row_decode_v2::{Row, RowRead};
 use trailer::{Region, Trailer};
 
 // What a step answers: the row, its region and its number there, with the place past it. A refusal moves nothing.
-#[derive(Drop)]
+#[derive(Clone, Copy)]
 pub enum Moved {
     Found {
         place: Place,
@@ -38,7 +40,7 @@ pub enum Moved {
 }
 
 // What a step finds before its direction matters: the trailer that it goes on with, or that the cursor is marked.
-#[derive(Drop)]
+#[derive(Clone, Copy)]
 enum Standing {
     Goes(Trailer),
     Over,
@@ -46,7 +48,7 @@ enum Standing {
 }
 
 // The row that an ascending cursor stands before, with its region; or the end of the last one.
-#[derive(Drop)]
+#[derive(Clone, Copy)]
 enum Ahead {
     At { row: Row, region: Region },
     End,
@@ -55,7 +57,7 @@ enum Ahead {
 
 // The region, with its index, whose row before the position of a descending cursor comes next, and how many of its rows are said to end there; or the start of
 // the first one.
-#[derive(Drop)]
+#[derive(Clone, Copy)]
 enum Behind {
     In {
         index: usize,

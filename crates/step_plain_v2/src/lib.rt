@@ -2,6 +2,8 @@
 // the block to where it is carried and to the lent buffer at once. What is not plain is not stepped past
 // here, and nothing is written then. Follows slatedb 0.16.0, src/block_iterator_v2.rs (Apache License 2.0),
 // for the rows that most rows are.
+#![tactic(auto)]
+
 ghost use Rattle.std.specs.Prelude.{cond, ◌≡◌, ◌≤◌, ◌+◌, length, take, drop};
 ghost use Rattle.layout.specs.Number.{wrong_after};
 ghost use Rattle.layout.specs.Place.{splice};
@@ -10,7 +12,7 @@ ghost use Rattle.step_plain_v2.specs.Promise.{StepsPlain};
 
 // A step that was made: where the cursor stands then, and the row's numbers. `next` is 0, as all are, where
 // none was.
-#[derive(Drop)]
+#[derive(Clone, Copy)]
 pub struct Stepped {
     pub region: usize,
     pub number: usize,
@@ -24,7 +26,7 @@ pub struct Stepped {
 
 // The plain row that a cursor stands before, and the last position in its region; all 0 where it is not
 // plain.
-#[derive(Drop)]
+#[derive(Clone, Copy)]
 struct Ahead {
     next: usize,
     reach: usize,

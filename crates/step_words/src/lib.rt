@@ -1,4 +1,6 @@
 // One step over lent words: the cursor is its words and the bytes of its key, and the answer a code.
+#![tactic(auto)]
+
 ghost use Rattle.std.specs.Prelude.{◌≡◌, length};
 ghost use Rattle.row_words.specs.Words.{cursor_count, row_count};
 ghost use Rattle.block_words.specs.Exports.{StepsFlat};

@@ -1,4 +1,6 @@
 // The tally of a block for the night desk: how many rows, tombstones and merges it has, and how many bytes of values they carry. Nothing of slatedb's: added.
+#![tactic(auto)]
+
 ghost use Rattle.std.specs.Prelude.{◌≡◌};
 ghost use Rattle.tally.specs.Parts.{OpensRows, PassesRow};
 ghost use Rattle.tally.specs.Tally.{added};
@@ -10,7 +12,7 @@ use block_iterator_v2::BlockIteratorV2;
 use place_v2::Place;
 use step_in_place_v2::Moved;
 
-#[derive(Drop)]
+#[derive(Clone, Copy)]
 pub struct Tally {
     pub rows: u64,
     pub tombstones: u64,
@@ -19,14 +21,14 @@ pub struct Tally {
 }
 
 // The tally after a block: the one that came, where the block is refused.
-#[derive(Drop)]
+#[derive(Clone, Copy)]
 pub struct TalliedBlock {
     pub tally: Tally,
     pub answer: Verdict,
 }
 
 // A block that is opened for counting: the place before its first row, how many rows there are to count, which are none in a refused block, and the answer.
-#[derive(Drop)]
+#[derive(Clone, Copy)]
 struct Opening {
     start: Place,
     rows: usize,
@@ -34,7 +36,7 @@ struct Opening {
 }
 
 // What a step passes: the place past the row, and what the row holds.
-#[derive(Drop)]
+#[derive(Clone, Copy)]
 struct Passed {
     place: Place,
     held: ValueDeletable,

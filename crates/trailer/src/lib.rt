@@ -1,6 +1,8 @@
 // The trailer of a block, read: the restarts' offsets and their count; and the restart regions that the offsets bound.
 // Follows slatedb 0.16.0, src/format/block.rs, and `restart_region_end` of src/block_iterator_v2.rs (Apache License 2.0), and is
 // changed: offsets are read where they stand, each when it is used, and what a block's bytes can break is a refusal.
+#![tactic(auto)]
+
 ghost use Rattle.std.specs.Prelude.{cond, ◌≡◌, ◌≤◌, ◌<◌, ◌+◌, ◌*◌, length};
 ghost use Rattle.layout.specs.Trailer.{short_at, first_of, region_of, all_offsets};
 ghost use Rattle.basics.specs.Answers.{says_verdict};
@@ -11,13 +13,13 @@ ghost use Rattle.trailer.specs.Promise.{PlainTrailer, ReadsTrailer, TestsTrailer
 use basics::{Refusal, Verdict};
 
 // How many restarts there are, and how many bytes of rows.
-#[derive(Drop)]
+#[derive(Clone, Copy)]
 pub struct Trailer {
     pub count: usize,
     pub size: usize,
 }
 
-#[derive(Drop)]
+#[derive(Clone, Copy)]
 pub enum TrailerRead {
     Good(Trailer),
     Refused(Refusal),
@@ -25,7 +27,7 @@ pub enum TrailerRead {
 
 // A restart region runs from `start` to before `end`. `reach` is the last position that an ascending cursor may have in it:
 // before its end, and in the last region also at the end.
-#[derive(Drop)]
+#[derive(Clone, Copy)]
 pub struct Region {
     pub start: usize,
     pub end: usize,

@@ -1,5 +1,7 @@
 // The trailer of a block, written: the restarts' offsets and their count.
 // Follows slatedb 0.16.0, src/format/block.rs, `encode` (Apache License 2.0), and is changed: it writes into a lent buffer, and too little room is a refusal.
+#![tactic(auto)]
+
 ghost use Rattle.std.specs.Prelude.{◌≡◌, ◌%◌};
 ghost use Rattle.trailer_encode.specs.Promise.{PutsTrailer};
 

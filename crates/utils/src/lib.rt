@@ -1,6 +1,8 @@
 // Varints at a place of a lent slice: their length, and written.
 // Follows slatedb 0.16.0, src/utils.rs (Apache License 2.0), and is changed: a buffer is a lent slice with a place in it, the writer answers the place after
 // what it wrote, and too little room is a refusal.
+#![tactic(auto)]
+
 ghost use Rattle.std.specs.Prelude.{[], ◌∷◌};
 ghost use Rattle.layout.specs.Varint.{varint};
 ghost use Rattle.buf_mut.specs.Promise.{Puts};

@@ -1,13 +1,15 @@
 // Varints read from a place of a lent slice.
 // Follows slatedb 0.16.0, src/utils.rs (Apache License 2.0), and is changed: a buffer is a lent slice with a place in it, what the input can break is a refusal, and
 // so is a spelling longer than its number needs.
+#![tactic(auto)]
+
 ghost use Rattle.std.specs.Prelude.{◌≡◌, ◌<◌, ◌≤◌, ◌+◌, ◌*◌, ◌^◌, length, get_or};
 ghost use Rattle.utils_decode.specs.Parts.{ended_by};
 ghost use Rattle.utils_decode.specs.Promise.{ReadsVarint, VarintRefusal};
 
 use basics::Refusal;
 
-#[derive(Drop)]
+#[derive(Clone, Copy)]
 pub enum VarintRead {
     Number { value: u32, next: usize },
     Refused(Refusal),

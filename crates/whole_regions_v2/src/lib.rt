@@ -2,19 +2,21 @@
 // key: the read for a target carries how many bytes the key before begins with in common with it.
 // Follows slatedb 0.16.0, src/block_iterator_v2.rs (Apache License 2.0), and is changed: no rows are cached, and what the bytes or the numbers handed in can
 // break is a refusal.
+#![tactic(auto)]
+
 ghost use Rattle.std.specs.Prelude.{◌≡◌, cond};
 ghost use Rattle.whole_regions_v2.specs.Promise.{EndsLast, CountsRows};
 
 use basics::Refusal;
 use trailer::Region;
 
-#[derive(Drop)]
+#[derive(Clone, Copy)]
 pub enum LastRead {
     Ends { at: usize, number: usize },
     Refused(Refusal),
 }
 
-#[derive(Drop)]
+#[derive(Clone, Copy)]
 pub enum CountRead {
     Rows(usize),
     Refused(Refusal),

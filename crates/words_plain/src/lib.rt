@@ -1,5 +1,7 @@
 // A step past a plain row over lent words: what most steps of `slatedb_next` are. Where it is none, nothing
 // is written, and the step of any row follows.
+#![tactic(auto)]
+
 ghost use Rattle.std.specs.Prelude.{◌≡◌};
 ghost use Rattle.words_plain.specs.Promise.{StepsFlatPlain};
 
