@@ -1,0 +1,136 @@
+use Prim.Native.Nat.{◌+◌, ◌-◌, ◌*◌, ◌^◌, ◌≤◌, ◌<◌}
+use mathlib.Core.Path.{◌≡◌, refl, ap, sym, ◌∙◌}
+use native.Mathlib.Omega.{arith}
+use lib.Dec.{eqb}
+use lib.ListN.{length, length-take}
+use lib.Seq.{length-take-le}
+use borrow.Author.Rules.{rules}
+use borrow.Author.Tests.{not-true, not-false}
+use Rattle.layout.specs.Res.{ok}
+use Rattle.layout.specs.Trailer.{data_of, region_of, row_in}
+use Rattle.layout.specs.Laws.Splice.{length-splice}
+use Rattle.layout.specs.Laws.Tells.{RowEnds, read_row-ends, row-shares}
+use Rattle.layout.specs.Laws.Trailer.{trailer_of-tells}
+use Rattle.buf_mut.proofs.Laws.{copied}
+use Rattle.trailer.specs.Plain.{known_is_lem, known-not}
+use Rattle.trailer.specs.Says.{trailer_from, region_from}
+use Rattle.row_span_v2.specs.Laws.{numbered, numbered-known, span-refusal}
+use Rattle.row_span_v2.specs.Promise.{numbered_from}
+use Rattle.block_check_v2.specs.Laws.{Walks, stands-no, stands-inside, stands-walks, walks-over, walks-no, walks-room, walks-falls, walks-narrow, walks_more, may-told, the_trailer}
+use Rattle.block_check_v2.proofs.check_region.Goals.{At-loop-at, Else-g-eq0, Else-row-eq0, Start}
+use Rattle.block_check_v2.proofs.check_region.Goals as goal
+
+-- a length fits a word
+short : (s : Start) → length s.args.block.now < 2 ^ 64
+short s = search rules
+
+-- the region's number is one of the trailer's
+inside : (s : Start) → s.args.p.region < s.args.t.count
+inside s = (s.requires.1.1.starts s.requires.1.0).0
+
+-- and its numbers are the block's
+its : (s : Start) → (s.args.t.size + (2 + 2 * s.args.t.count) ≡ length s.args.block.now) × (s.args.p.region < s.args.t.count)
+its s = ((trailer_of-tells _ _ s.requires.0).0, ((s.requires.1.1.starts s.requires.1.0).0))
+
+-- the region that was read
+used : (k : Else-g-eq0) → let a = k.args in region_of a.block.now (trailer_from a.t) a.p.region ≡ ok (region_from k.plain_region-g.result)
+used k =
+    known_is_lem _ _ _ (((trailer_of-tells _ _ k.requires.0).0, ((k.requires.1.1.starts k.requires.1.0).0))) _ k.plain_region-g.ensures k.if-g-eq0.false
+
+walk : (l : At-loop-at) → Walks l.args.block.now (trailer_from l.args.t) l.args.p.region (region_from (l.plain_region-g.result)) l.loop-at.at l.loop-at.rows l.loop-at.seq l.loop-at.key l.loop-at.key_len
+walk l = l.loop-at.invariant.1 _ l.requires.0
+
+read : (n : Else-row-eq0) → row_in (data_of n.args.block.now (trailer_from n.args.t)) (region_from (n.plain_region-g.result)) n.loop-at.at n.loop-at.key_len ≡ ok (numbered (numbered-known _ _ _ _ _ (numbered_from n.numbered_in-row.result) n.numbered_in-row.ensures.0 n.if-row-eq0.false n.numbered_in-row.ensures.1).0 (numbered_from n.numbered_in-row.result) n.numbered_in-row.result.seq)
+read n = (numbered-known _ _ _ _ _ (numbered_from n.numbered_in-row.result) n.numbered_in-row.ensures.0 n.if-row-eq0.false n.numbered_in-row.ensures.1).1
+
+told : (n : Else-row-eq0) → RowEnds (data_of n.args.block.now (trailer_from n.args.t)) n.loop-at.at (n.plain_region-g.result).end n.loop-at.key_len (eqb n.loop-at.at (n.plain_region-g.result).start) (numbered (numbered-known _ _ _ _ _ (numbered_from n.numbered_in-row.result) n.numbered_in-row.ensures.0 n.if-row-eq0.false n.numbered_in-row.ensures.1).0 (numbered_from n.numbered_in-row.result) n.numbered_in-row.result.seq)
+told n = read_row-ends _ _ _ _ _ _ ((numbered-known _ _ _ _ _ (numbered_from n.numbered_in-row.result) n.numbered_in-row.ensures.0 n.if-row-eq0.false n.numbered_in-row.ensures.1).1)
+
+shares : (n : Else-row-eq0) → (numbered (numbered-known _ _ _ _ _ (numbered_from n.numbered_in-row.result) n.numbered_in-row.ensures.0 n.if-row-eq0.false n.numbered_in-row.ensures.1).0 (numbered_from n.numbered_in-row.result) n.numbered_in-row.result.seq).shared ≤ n.loop-at.key_len
+shares n = row-shares _ _ _ _ _ _ (read_row-ends _ _ _ _ _ _ ((numbered-known _ _ _ _ _ (numbered_from n.numbered_in-row.result) n.numbered_in-row.ensures.0 n.if-row-eq0.false n.numbered_in-row.ensures.1).1))
+
+pub returns-then-g-eq0 : goal.returns-then-g-eq0
+returns-then-g-eq0 c =
+    stands-no _ _ _ _ c.requires.1.1 c.requires.1.0
+    (known-not _ _ _ (its (goal.at.returns-then-g-eq0 c).Start) _ c.plain_region-g.ensures c.if-g-eq0.true)
+
+pub slice_bounds-data-end : goal.slice_bounds-data-end
+slice_bounds-data-end c = sym (length-take-le _ _ (omega (arith, (trailer_of-tells _ _ c.requires.0).0)))
+
+pub loop-at-init : goal.loop-at-init
+loop-at-init c =
+    (refl, the_trailer _ _ _ c.requires.0 (stands-walks _ _ _ _ c.requires.1.1 c.requires.1.0 _ (used (goal.at.loop-at-init c).Else-g-eq0)))
+
+pub shape_of-key-then-row-eq0 : goal.shape_of-key-then-row-eq0
+shape_of-key-then-row-eq0 c = c.loop-at.invariant.0
+
+pub returns-then-row-eq0 : goal.returns-then-row-eq0
+returns-then-row-eq0 c =
+    walks-no _ _ _ _ (used (goal.at.returns-then-row-eq0 c).Else-g-eq0) _ _ _ _ _ (walk (goal.at.returns-then-row-eq0 c).At-loop-at) c.loop-at-test.true
+    (span-refusal _ _ _ _ _ (numbered_from c.numbered_in-row.result) c.numbered_in-row.ensures.0 c.if-row-eq0.true c.refusal_in-refusal.ensures)
+
+pub overflow_add-to : goal.overflow_add-to
+overflow_add-to c =
+    omega (arith, (told (goal.at.overflow_add-to c).Else-row-eq0).suffix, length-take c.args.t.size c.args.block.now, short (goal.at.overflow_add-to c).Start)
+
+pub slice_bounds-compare-end : goal.slice_bounds-compare-end
+slice_bounds-compare-end c = (told (goal.at.slice_bounds-compare-end c).Else-row-eq0).suffix
+
+pub slice_bounds-compare-count-in-loop-at : goal.slice_bounds-compare-count-in-loop-at
+slice_bounds-compare-count-in-loop-at c = shares (goal.at.slice_bounds-compare-count-in-loop-at c).Else-row-eq0
+
+pub slice_bounds-compare-start-in-loop-at : goal.slice_bounds-compare-start-in-loop-at
+slice_bounds-compare-start-in-loop-at c = shares (goal.at.slice_bounds-compare-start-in-loop-at c).Else-row-eq0
+
+pub slice_bounds-compare-end-in-loop-at : goal.slice_bounds-compare-end-in-loop-at
+slice_bounds-compare-end-in-loop-at c = (walk (goal.at.slice_bounds-compare-end-in-loop-at c).At-loop-at).goes.room
+
+pub shape_of-key-then-not-may_follow : goal.shape_of-key-then-not-may_follow
+shape_of-key-then-not-may_follow c = c.loop-at.invariant.0
+
+pub returns-then-not-may_follow : goal.returns-then-not-may_follow
+returns-then-not-may_follow c =
+    walks-falls _ _ _ _ (used (goal.at.returns-then-not-may_follow c).Else-g-eq0) _ _ _ _ _ (walk (goal.at.returns-then-not-may_follow c).At-loop-at) c.loop-at-test.true _ (read (goal.at.returns-then-not-may_follow c).Else-row-eq0) (may-told _ _ _ _ c.compare-order.ensures c.may_follow.ensures (not-true _ c.if-not-may_follow.true))
+
+pub overflow_add-key_len : goal.overflow_add-key_len
+overflow_add-key_len c = omega (arith, (told (goal.at.overflow_add-key_len c).Else-row-eq0).fits)
+
+pub shape_of-key-then-key-key_len : goal.shape_of-key-then-key-key_len
+shape_of-key-then-key-key_len c = c.loop-at.invariant.0
+
+pub returns-then-key-key_len : goal.returns-then-key-key_len
+returns-then-key-key_len c =
+    walks-narrow _ _ _ _ (used (goal.at.returns-then-key-key_len c).Else-g-eq0) _ _ _ _ _ (walk (goal.at.returns-then-key-key_len c).At-loop-at) c.loop-at-test.true _ (read (goal.at.returns-then-key-key_len c).Else-row-eq0) c.if-key-key_len.true
+
+pub slice_bounds-copy_in-end : goal.slice_bounds-copy_in-end
+slice_bounds-copy_in-end c = (told (goal.at.slice_bounds-copy_in-end c).Else-row-eq0).suffix
+
+pub overflow_add-rows : goal.overflow_add-rows
+overflow_add-rows c = let f = (walk (goal.at.overflow_add-rows c).At-loop-at).goes.few in omega (arith, (told (goal.at.overflow_add-rows c).Else-row-eq0).least)
+
+pub loop-at-smaller : goal.loop-at-smaller
+loop-at-smaller c = let w = told (goal.at.loop-at-smaller c).Else-row-eq0 in omega (arith, w.least, w.within)
+
+pub loop-at-preserved : goal.loop-at-preserved
+loop-at-preserved c =
+    let u = used (goal.at.loop-at-preserved c).Else-g-eq0 in
+    let t = c.loop-at-test.true in
+    let k = c.if-key-key_len.false in
+    let r = walks-room _ _ _ _ u _ _ _ _ _ (walk (goal.at.loop-at-preserved c).At-loop-at) t _ (read (goal.at.loop-at-preserved c).Else-row-eq0) k in
+    let q = copied r c.copy_in.ensures in (
+      ap length q ∙ length-splice _ _ _ r ∙ c.loop-at.invariant.0,
+      the_trailer _ _ _ c.requires.0
+          (walks_more _ _ _ _ u _ _ _ _ _ (walk (goal.at.loop-at-preserved c).At-loop-at) t _ (read (goal.at.loop-at-preserved c).Else-row-eq0) k (may-told _ _ _ _ c.compare-order.ensures c.may_follow.ensures (not-false _ c.if-not-may_follow.false)) _ q),
+    )
+
+pub overflow_add-result : goal.overflow_add-result
+overflow_add-result c = omega (arith, inside (goal.at.overflow_add-result c).Start, (trailer_of-tells _ _ c.requires.0).0)
+
+pub shape_of-key : goal.shape_of-key
+shape_of-key c = c.loop-at.invariant.0
+
+pub returns : goal.returns
+returns c =
+    let u = used (goal.at.returns c).Else-g-eq0 in
+    let over = c.loop-at-test.false in
+    (omega (arith, stands-inside _ _ _ _ c.requires.1.1 c.requires.1.0 _ u), walks-over _ _ _ _ u _ _ _ _ _ (walk (goal.at.returns c).At-loop-at) over)

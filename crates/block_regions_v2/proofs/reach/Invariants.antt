@@ -1,0 +1,14 @@
+-- `reach` keeps its promise.
+-- The loop's invariant: the rows from `at` on, read after a key of `len` bytes, answer what all of the region do; what is known of where that key stands; and
+-- `number` rows were read.
+use Prim.Native.Nat.{◌-◌}
+use Rattle.layout.specs.Laws.Number.{Counting}
+use Rattle.trailer.specs.Says.{region_from}
+use Rattle.block_regions_v2.specs.Parts.{Reaching}
+use Rattle.block_regions_v2.proofs.reach.Given as goal
+
+abbrev pub invariant-loop-region : goal.invariant-loop-region
+invariant-loop-region l = Reaching «data» (region_from l.region) l.stop l.at l.len l.known × Counting «data» (region_from l.region) l.at l.len l.number
+
+abbrev pub decreases-loop-region : goal.decreases-loop-region
+decreases-loop-region l = l.stop - l.at

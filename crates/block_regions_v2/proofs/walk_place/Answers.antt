@@ -1,0 +1,47 @@
+use Prim.Native.Nat.{◌-◌}
+use native.Mathlib.Omega.{arith}
+use Rattle.layout.specs.Laws.MatchWalk.{SpanTells, span-tells}
+use Rattle.layout.specs.Laws.Number.{counting-start}
+use Rattle.row_span_v2.specs.Promise.{span_from}
+use Rattle.block_regions_v2.specs.Climb.{climbing_start, climbing_over, climbing_stop, climbing_more}
+use Rattle.block_regions_v2.specs.Count.{counting-span}
+use Rattle.block_regions_v2.specs.Laws.{halts_no, halts_there}
+use Rattle.block_regions_v2.proofs.walk_place.Goals.{Else-row-eq0}
+use Rattle.block_regions_v2.proofs.walk_place.Goals as goal
+
+-- what the row that a turn read tells
+tells : (k : Else-row-eq0) → let a = k.args in
+    SpanTells a.data.now k.loop-at.at a.region.end k.loop-at.len (span_from k.span_in-row.result)
+tells k = span-tells _ _ _ _ _ _ k.span_in-row.ensures k.if-row-eq0.false
+
+pub loop-at-init : goal.loop-at-init
+loop-at-init c = (climbing_start _ _ _ _ c.requires, counting-start _ _)
+
+pub returns-then-row-eq0 : goal.returns-then-row-eq0
+returns-then-row-eq0 c = let v = c.loop-at.invariant in halts_no _ _ _ _ _ _ _ _ _ v.0 v.1 c.loop-at-test.true (span_from c.span_in-row.result) c.span_in-row.ensures c.if-row-eq0.true c.halt.ensures
+
+pub overflow_add-end : goal.overflow_add-end
+overflow_add-end c = omega (arith, (tells (goal.at.overflow_add-end c).Else-row-eq0).suffix)
+
+pub slice_bounds-match_up-end : goal.slice_bounds-match_up-end
+slice_bounds-match_up-end c = (tells (goal.at.slice_bounds-match_up-end c).Else-row-eq0).suffix
+
+pub returns-then-not-now : goal.returns-then-not-now
+returns-then-not-now c = let v = c.loop-at.invariant in halts_there _ _ _ _ _ _ _ _ _ v.0 v.1 (climbing_stop _ _ _ _ _ _ _ _ _ v.0 c.loop-at-test.true (span_from c.span_in-row.result) c.span_in-row.ensures c.if-row-eq0.false c.match_up-now.ensures.below-is c.if-not-now.true) c.halt-then-not-now.ensures
+
+pub overflow_add-len : goal.overflow_add-len
+overflow_add-len c = omega (arith, (tells (goal.at.overflow_add-len c).Else-row-eq0).few)
+
+pub overflow_add-number : goal.overflow_add-number
+overflow_add-number c = omega (arith, (tells (goal.at.overflow_add-number c).Else-row-eq0).least, (tells (goal.at.overflow_add-number c).Else-row-eq0).inside, c.loop-at.invariant.1.far)
+
+pub loop-at-smaller : goal.loop-at-smaller
+loop-at-smaller c = let w = tells (goal.at.loop-at-smaller c).Else-row-eq0 in omega (arith, w.least, w.within)
+
+pub loop-at-preserved : goal.loop-at-preserved
+loop-at-preserved c =
+    let v = c.loop-at.invariant in
+    (climbing_more _ _ _ _ _ _ _ _ _ v.0 c.loop-at-test.true (span_from c.span_in-row.result) c.span_in-row.ensures c.if-row-eq0.false c.match_up-now.ensures.below-is c.if-not-now.false c.match_up-now.ensures.len_is c.latest-from.ensures c.latest-from_len.ensures, counting-span _ _ _ _ _ v.1 (span_from c.span_in-row.result) c.span_in-row.ensures c.if-row-eq0.false)
+
+pub returns : goal.returns
+returns c = let v = c.loop-at.invariant in halts_there _ _ _ _ _ _ _ _ _ v.0 v.1 (climbing_over _ _ _ _ _ _ _ _ _ v.0 c.loop-at-test.false) c.halt-2.ensures

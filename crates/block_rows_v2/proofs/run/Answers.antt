@@ -1,0 +1,168 @@
+use Prim.Native.Nat.{◌+◌, ◌-◌, ◌^◌, ◌<◌}
+use mathlib.Core.Path.{◌≡◌, refl, sym, ◌∙◌}
+use mathlib.Core.Logic.{⊎_elim}
+use native.Mathlib.Omega.{arith}
+use lib.Dec.{eqb}
+use lib.ListN.{length, take}
+use borrow.Rule.Slice.PartMut.{put_mid, mid_len}
+use Rattle.layout.specs.Plain.{plain_read}
+use Rattle.layout.specs.RowRead.{may_share, key_of}
+use Rattle.layout.specs.Laws.Splice.{Wrote, wrote-length}
+use Rattle.layout.specs.Laws.Trailer.{trailer_of-tells}
+use Rattle.row_decode_v2.specs.Says.{row_from}
+use Rattle.row_plain_v2.specs.Promise.{plain_from}
+use Rattle.trailer.specs.Says.{region_from}
+use Rattle.place_v2.specs.Says.{view_in}
+use Rattle.region_rows_v2.specs.Region.{PlainFits, here-fits, inside-long, inside-region, inside-counts, share-none, share-key}
+use Rattle.block_rows_v2.proofs.Plain.{runs_to, given-key, given-over, given_stays, given_inside}
+use Rattle.block_rows_v2.proofs.run.Goals.{After-put_nth, Else-row-eq0, Joined-at-g}
+use Rattle.block_rows_v2.proofs.run.Goals as goal
+
+share-is : (j : Joined-at-g)
+    → j.if-at-g.share ≡ may_share (eqb j.loop-n.p.at j.args.b.region.start) j.loop-n.p.key_len
+share-is j =
+    let p = j.loop-n.p in
+    let g = j.args.b.region in
+    ⊎_elim (λ w. w.1 ∙ share-none p.at g.start p.key_len w.0.taken) (λ w. w.1 ∙ share-key p.at g.start p.key_len w.0.left) j.if-at-g.branch
+
+-- a plain row that was met
+fits : (k : Else-row-eq0) → PlainFits (length (take k.args.b.size k.args.block.now)) k.loop-n.p.at k.plain_at-row.result
+fits k =
+    let l = k.loop-n in
+    here-fits k.args.block.now k.args.b.size (region_from k.args.b.region) l.p l.key l.invariant.1 (plain_from k.plain_at-row.result) (let p = k.loop-n.p in let g = k.args.b.region in ⊎_elim (λ w. w.1 ∙ share-none p.at g.start p.key_len w.0.taken) (λ w. w.1 ∙ share-key p.at g.start p.key_len w.0.left) k.if-at-g.branch) k.plain_at-row.ensures k.if-row-eq0.false k.plain_at-row.result refl
+
+data_long : (k : Else-row-eq0) → length (take k.args.b.size k.args.block.now) ≡ k.args.b.size
+data_long k =
+    let l = k.loop-n in
+    inside-long k.args.block.now k.args.b.size (region_from k.args.b.region) (view_in l.p l.key) l.invariant.1
+
+-- it was given: its key, and its words
+row_is_lem : (w : After-put_nth) → row_from w.row_of.result ≡ plain_read (take w.args.b.size w.args.block.now) w.loop-n.p.at (plain_from w.plain_at-row.result)
+row_is_lem w = w.row_of.ensures
+
+key-given : (w : After-put_nth) → let l = w.loop-n in
+    Wrote l.keys l.used (key_of (take w.args.b.size w.args.block.now) (take l.p.key_len l.key) (plain_read (take w.args.b.size w.args.block.now) l.p.at (plain_from w.plain_at-row.result)))
+    (put_mid l.used (length l.keys - l.used) l.keys w.carry.last.1.0) (l.used + (w.plain_at-row.result.shared + w.plain_at-row.result.unshared))
+key-given w =
+    let l = w.loop-n in
+    given-key w.args.block.now w.args.b.size (region_from w.args.b.region) l.p l.key l.invariant.1 l.invariant.2 w.plain_at-row.result (let p = w.loop-n.p in let g = w.args.b.region in ⊎_elim (λ w. w.1 ∙ share-none p.at g.start p.key_len w.0.taken) (λ w. w.1 ∙ share-key p.at g.start p.key_len w.0.left) w.if-at-g.branch) w.plain_at-row.ensures w.if-row-eq0.false l.keys l.used l.n l.invariant.3 w.if-keys-used.false w.carry.ensures (w.row_of.ensures) w.put_nth.ensures
+
+pub loop-n-init : goal.loop-n-init
+loop-n-init c =
+    let t = c.requires.0 in
+    ((λ ks rs c₀ g. g), c.requires.1, t.whole, t.inside, refl, refl, omega arith, t.few, (λ z. refl), t.words)
+
+pub slice_bounds-plain_at-end : goal.slice_bounds-plain_at-end
+slice_bounds-plain_at-end c =
+    let l = c.loop-n in
+    sym (inside-long c.args.block.now c.args.b.size (region_from c.args.b.region) (view_in l.p l.key) l.invariant.1)
+
+pub returns-then-row-eq0 : goal.returns-then-row-eq0
+returns-then-row-eq0 c =
+    let l = c.loop-n in
+    runs_to c.args.block.now c.args.most c.args.came c.args.key.now c.args.keys.now c.args.rows.now l.p l.used l.n l.key l.keys l.rows c.ran_to.ensures l.invariant.6 l.invariant.7 l.invariant.0 (l.invariant.2 ∙ sym c.requires.0.whole) l.invariant.8
+
+pub overflow_add-whole : goal.overflow_add-whole
+overflow_add-whole c =
+    let f = fits (goal.at.overflow_add-whole c).Else-row-eq0 in
+    omega (arith, f.shared-small, f.unshared-small)
+
+pub overflow_sub-keys : goal.overflow_sub-keys
+overflow_sub-keys c = c.loop-n.invariant.3
+
+pub shape_of-key-then-keys-used : goal.shape_of-key-then-keys-used
+shape_of-key-then-keys-used c =
+    c.loop-n.invariant.2 ∙ sym c.requires.0.whole
+
+pub returns-then-keys-used : goal.returns-then-keys-used
+returns-then-keys-used c =
+    let l = c.loop-n in
+    runs_to c.args.block.now c.args.most c.args.came c.args.key.now c.args.keys.now c.args.rows.now l.p l.used l.n l.key l.keys l.rows c.ran_to-then-keys-used.ensures l.invariant.6 l.invariant.7 l.invariant.0 (l.invariant.2 ∙ sym c.requires.0.whole) l.invariant.8
+
+pub slice_bounds-carry-end-in-loop-n : goal.slice_bounds-carry-end-in-loop-n
+slice_bounds-carry-end-in-loop-n c = sym (data_long (goal.at.slice_bounds-carry-end-in-loop-n c).Else-row-eq0)
+
+pub carry-requires : goal.carry-requires
+carry-requires c =
+    let l = c.loop-n in
+    (l.invariant.2, fits (goal.at.carry-requires c).Else-row-eq0, omega (arith, mid_len l.used (length l.keys) l.keys (omega arith), c.if-keys-used.false))
+
+pub slice_bounds-row_of-end : goal.slice_bounds-row_of-end
+slice_bounds-row_of-end c = sym (data_long (goal.at.slice_bounds-row_of-end c).Else-row-eq0)
+
+pub row_of-requires : goal.row_of-requires
+row_of-requires c = fits (goal.at.row_of-requires c).Else-row-eq0
+
+pub put_nth-requires : goal.put_nth-requires
+put_nth-requires c =
+    let l = c.loop-n in
+    omega (arith, l.invariant.9, c.loop-n-test.true)
+
+pub overflow_add-n : goal.overflow_add-n
+overflow_add-n c =
+    let l = c.loop-n in
+    omega (arith, c.loop-n-test.true, c.ranges.most.fits)
+
+pub overflow_add-used : goal.overflow_add-used
+overflow_add-used c =
+    let l = c.loop-n in
+    let long : length c.args.keys.now < 2 ^ 64 = c.well_formed.1.1.1.0.0 in
+    let same : length l.keys ≡ length c.args.keys.now = l.invariant.4 in
+    omega (arith, c.if-keys-used.false, l.invariant.3)
+
+pub overflow_add-p : goal.overflow_add-p
+overflow_add-p c =
+    let l = c.loop-n in
+    let long : length c.args.block.now < 2 ^ 64 = c.well_formed.0.0 in
+    omega (arith, inside-region c.args.block.now c.args.b.size (region_from c.args.b.region) (view_in l.p l.key) l.invariant.1)
+
+pub shape_of-key-then-g-row : goal.shape_of-key-then-g-row
+shape_of-key-then-g-row c =
+    c.carry.ensures.long ∙ c.loop-n.invariant.2 ∙ sym c.requires.0.whole
+
+pub shape_of-keys-then-g-row : goal.shape_of-keys-then-g-row
+shape_of-keys-then-g-row c =
+    wrote-length (key-given (goal.at.shape_of-keys-then-g-row c).After-put_nth) ∙ c.loop-n.invariant.4
+
+pub shape_of-rows-then-g-row : goal.shape_of-rows-then-g-row
+shape_of-rows-then-g-row c =
+    wrote-length c.put_nth.ensures ∙ c.loop-n.invariant.5
+
+pub returns-then-g-row : goal.returns-then-g-row
+returns-then-g-row c =
+    let l = c.loop-n in
+    runs_to c.args.block.now c.args.most c.args.came c.args.key.now c.args.keys.now c.args.rows.now _ _ _ _ _ _ c.ran_to-then-g-row.ensures (omega (arith, l.invariant.6)) (omega (arith, c.loop-n-test.true))
+    (λ ks rs c₀ g. given-over c.args.block.now c.args.b.size (region_from c.args.b.region) l.p l.key l.invariant.1 l.invariant.2 c.plain_at-row.result (share-is (goal.at.returns-then-g-row c).Joined-at-g) c.plain_at-row.ensures c.if-row-eq0.false l.keys l.used l.n l.invariant.3 c.if-keys-used.false c.carry.ensures (row_is_lem (goal.at.returns-then-g-row c).After-put_nth) c.put_nth.ensures ks rs c₀ c.if-g-row.true (l.invariant.0 ks rs c₀ g))
+    (c.carry.ensures.long ∙ l.invariant.2 ∙ sym c.requires.0.whole) (λ z. absurd (omega (arith, l.invariant.6)))
+
+-- one row more is still a number
+pub overflow_add-p-in-loop-n : goal.overflow_add-p-in-loop-n
+overflow_add-p-in-loop-n c =
+    let l = c.loop-n in
+    let long : length c.args.block.now < 2 ^ 64 = c.well_formed.0.0 in
+    let f = fits (goal.at.overflow_add-p-in-loop-n c).Else-row-eq0 in
+    omega (arith, inside-counts c.args.block.now c.args.b.size (region_from c.args.b.region) (view_in l.p l.key) l.invariant.1, f.ends, f.inside, data_long (goal.at.overflow_add-p-in-loop-n c).Else-row-eq0, (trailer_of-tells c.args.block.now _ l.invariant.1.read).0)
+
+pub loop-n-smaller : goal.loop-n-smaller
+loop-n-smaller c = omega (arith, c.loop-n-test.true)
+
+pub loop-n-preserved : goal.loop-n-preserved
+loop-n-preserved c =
+    let l = c.loop-n in
+    let rest = mid_len l.used (length l.keys) l.keys (omega arith) in (
+      (λ ks rs c₀ g. given_stays c.args.block.now c.args.b.size (region_from c.args.b.region) l.p l.key l.invariant.1 l.invariant.2 c.plain_at-row.result (share-is (goal.at.loop-n-preserved c).Joined-at-g) c.plain_at-row.ensures c.if-row-eq0.false l.keys l.used l.n l.invariant.3 c.if-keys-used.false c.carry.ensures (row_is_lem (goal.at.loop-n-preserved c).After-put_nth) c.put_nth.ensures c.if-g-row.false ks rs c₀ (l.invariant.0 ks rs c₀ g)),
+      given_inside c.args.block.now c.args.b.size (region_from c.args.b.region) l.p l.key l.invariant.1 l.invariant.2 c.plain_at-row.result (share-is (goal.at.loop-n-preserved c).Joined-at-g) c.plain_at-row.ensures c.if-row-eq0.false l.keys l.used l.n l.invariant.3 c.if-keys-used.false c.carry.ensures (row_is_lem (goal.at.loop-n-preserved c).After-put_nth) c.put_nth.ensures c.if-g-row.false,
+      c.carry.ensures.long ∙ l.invariant.2,
+      omega (arith, (key-given (goal.at.loop-n-preserved c).After-put_nth).room, wrote-length (key-given (goal.at.loop-n-preserved c).After-put_nth)),
+      wrote-length (key-given (goal.at.loop-n-preserved c).After-put_nth) ∙ l.invariant.4,
+      wrote-length c.put_nth.ensures ∙ l.invariant.5,
+      omega (arith, l.invariant.6),
+      omega (arith, c.loop-n-test.true),
+      (λ z. absurd (omega (arith, l.invariant.6))),
+      omega (arith, wrote-length c.put_nth.ensures, l.invariant.9),
+    )
+
+pub returns : goal.returns
+returns c =
+    let l = c.loop-n in
+    runs_to c.args.block.now c.args.most c.args.came c.args.key.now c.args.keys.now c.args.rows.now l.p l.used l.n l.key l.keys l.rows c.ran_to-2.ensures l.invariant.6 l.invariant.7 l.invariant.0 (l.invariant.2 ∙ sym c.requires.0.whole) l.invariant.8

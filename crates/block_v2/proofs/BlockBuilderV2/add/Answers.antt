@@ -1,0 +1,18 @@
+-- `add` keeps its promise: its array has as many bytes as the longest key, and `add_in_place` works on them where they lie. An accepted row's numbers go into the builder given
+-- back; a refused one left the key as it was, and so the builder.
+use mathlib.Core.Path.{◌≡◌}
+use lib.ListN.{length}
+use Rattle.layout.specs.Limits.{max_key}
+use borrow.Author.Rules.{rules}
+use Rattle.block_v2.proofs.Writes.{adds-not, adds-good}
+use Rattle.block_v2.proofs.BlockBuilderV2.add.Goals.{Start}
+use Rattle.block_v2.proofs.BlockBuilderV2.add.Goals as goal
+
+long : (c : Start) → length c.args.t1.last_key ≡ max_key
+long c = search rules
+
+pub returns-in-Row : goal.returns-in-Row
+returns-in-Row c = adds-good _ _ _ _ _ (long (goal.at.returns-in-Row c).Start) c.add_in_array-grown.ensures c.in-Row.is
+
+pub returns-in-Refused : goal.returns-in-Refused
+returns-in-Refused c = adds-not _ _ _ _ _ (long (goal.at.returns-in-Refused c).Start) c.add_in_array-grown.ensures c.in-Refused.is

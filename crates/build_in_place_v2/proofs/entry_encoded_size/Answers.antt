@@ -1,0 +1,6 @@
+-- `entry_encoded_size` answers the size of a row with this share, or 1, 2, 3.
+-- `encoded_size` is given the key's length less the share; the share is no longer than the key, so nothing wraps.
+use Rattle.build_in_place_v2.proofs.entry_encoded_size.Goals as goal
+
+pub returns : goal.returns
+returns c = c.encoded_size.ensures

@@ -1,0 +1,15 @@
+-- `is_over` keeps its promise: a cursor that goes on in a region, and stands at the end that it may reach there, has no row left.
+use Rattle.layout.specs.Laws.Res.{clash}
+use Rattle.layout.specs.Limits.{max_key}
+use Rattle.trailer.specs.Says.{region_from}
+use Rattle.region_rows_v2.specs.Region.{bounds-inside, ends-here}
+use Rattle.std.proofs.Common.{refl}
+use Rattle.compare_walks.proofs.is_over.Goals as goal
+
+pub returns-then-g-eq0 : goal.returns-then-g-eq0
+returns-then-g-eq0 c = λ e. absurd (clash e refl)
+
+pub returns : goal.returns
+returns c =
+    let b = c.bounds_of-b in
+    λ e key. ends-here c.args.block.now b.result.size (region_from b.result.region) c.args.p key (bounds-inside c.args.p key c.args.block.now b.ensures c.if-g-eq0.false) e max_key

@@ -1,0 +1,80 @@
+use Rattle.std.proofs.Common.{◌≡◌, ◌-◌, ◌<◌, length, refl, ◌∙◌, arith}
+use Rattle.compare_walks.specs.Loop.{RunsOn, Goes}
+use Rattle.compare_walks.proofs.Laws.{walking_whole, runs_then, went_on, went_over, one_more}
+use Rattle.compare_walks.proofs.walk_rows.Goals.{After-run_here-here, After-step_row-went, Then-here-before}
+use Rattle.compare_walks.proofs.walk_rows.Goals as goal
+
+-- past the plain rows of a region
+so_far : (h : After-run_here-here) → RunsOn h.args.block.now h.args.limit h.args.came h.args.carried.now h.run_here-here.result h.run_here-here.last.1.0
+so_far h = runs_then h.loop-here.invariant.0 h.run_here-here.ensures
+
+whole : (h : After-run_here-here) → length h.run_here-here.last.1.0 ≡ length h.args.carried.now
+whole h = h.run_here-here.kept.1.0 ∙ h.loop-here.invariant.1
+
+-- before a step
+few : (n : Then-here-before) → n.run_here-here.result.rows < n.args.limit
+few n = omega (arith, n.if-here-before.true, n.loop-here-test.true)
+
+-- past it
+made : (t : After-step_row-went) → Goes t.args.block.now t.args.limit t.run_here-here.result t.run_here-here.last.1.0 t.step_row-went.result t.step_row-went.last.1.0
+made t = t.step_row-went.ensures.0 t.args.limit (omega (arith, t.if-here-before.true, t.loop-here-test.true))
+
+carried-kept : (t : After-step_row-went) → length t.step_row-went.last.1.0 ≡ length t.args.carried.now
+carried-kept t = t.step_row-went.kept.1.0 ∙ (t.run_here-here.kept.1.0 ∙ t.loop-here.invariant.1)
+
+out-kept : (t : After-step_row-went) → length t.step_row-went.last.1.1.0 ≡ length t.args.out.now
+out-kept t = t.step_row-went.kept.1.1.0 ∙ t.loop-here.invariant.2
+
+pub loop-here-init : goal.loop-here-init
+loop-here-init c = (record { most = omega arith; on = λ want w. w }, refl, refl)
+
+pub run_here-here-requires : goal.run_here-here-requires
+run_here-here-requires c = c.loop-here.invariant.1 ∙ c.requires
+
+pub shape_of-carried-then-out-ne-MAX_KEY : goal.shape_of-carried-then-out-ne-MAX_KEY
+shape_of-carried-then-out-ne-MAX_KEY c = whole (goal.at.shape_of-carried-then-out-ne-MAX_KEY c).After-run_here-here
+
+pub shape_of-out-then-out-ne-MAX_KEY : goal.shape_of-out-then-out-ne-MAX_KEY
+shape_of-out-then-out-ne-MAX_KEY c = c.loop-here.invariant.2
+
+pub returns-then-out-ne-MAX_KEY : goal.returns-then-out-ne-MAX_KEY
+returns-then-out-ne-MAX_KEY c = (so_far (goal.at.returns-then-out-ne-MAX_KEY c).After-run_here-here, (few (goal.at.returns-then-out-ne-MAX_KEY c).Then-here-before, λ e. c.if-out-ne-MAX_KEY.true (c.loop-here.invariant.2 ∙ e)))
+
+pub step_row-went-requires : goal.step_row-went-requires
+step_row-went-requires c =
+    (whole (goal.at.step_row-went-requires c).After-run_here-here ∙ c.requires, c.if-out-ne-MAX_KEY.false, omega (arith, few (goal.at.step_row-went-requires c).Then-here-before, c.well_formed.1.1.1.1.0))
+
+pub shape_of-carried-in_default : goal.shape_of-carried-in_default
+shape_of-carried-in_default c = carried-kept (goal.at.shape_of-carried-in_default c).After-step_row-went
+
+pub shape_of-out-in_default : goal.shape_of-out-in_default
+shape_of-out-in_default c = out-kept (goal.at.shape_of-out-in_default c).After-step_row-went
+
+pub returns-in_default : goal.returns-in_default
+returns-in_default c =
+    went_over (so_far (goal.at.returns-in_default c).After-run_here-here) _ _ (made (goal.at.returns-in_default c).After-step_row-went) _ c.in_default.is
+
+pub loop-here-smaller-then-here-before : goal.loop-here-smaller-then-here-before
+loop-here-smaller-then-here-before c =
+    omega (arith, one_more _ c.step_row-went.ensures.1 c.in-On.is, few (goal.at.loop-here-smaller-then-here-before c).Then-here-before, c.if-here-before.true)
+
+pub loop-here-preserved-then-here-before : goal.loop-here-preserved-then-here-before
+loop-here-preserved-then-here-before c =
+    (went_on (so_far (goal.at.loop-here-preserved-then-here-before c).After-run_here-here) _ _ (made (goal.at.loop-here-preserved-then-here-before c).After-step_row-went) c.in-On.is, carried-kept (goal.at.loop-here-preserved-then-here-before c).After-step_row-went, out-kept (goal.at.loop-here-preserved-then-here-before c).After-step_row-went)
+
+pub loop-here-smaller : goal.loop-here-smaller
+loop-here-smaller c =
+    omega (arith, c.run_here-here.ensures.most, c.if-here-before.false, c.loop-here-test.true)
+
+pub loop-here-preserved : goal.loop-here-preserved
+loop-here-preserved c =
+    (so_far (goal.at.loop-here-preserved c).After-run_here-here, whole (goal.at.loop-here-preserved c).After-run_here-here, c.loop-here.invariant.2)
+
+pub shape_of-carried : goal.shape_of-carried
+shape_of-carried c = c.loop-here.invariant.1
+
+pub shape_of-out : goal.shape_of-out
+shape_of-out c = c.loop-here.invariant.2
+
+pub returns : goal.returns
+returns c = ((λ want w. walking_whole _ _ _ _ _ (c.loop-here.invariant.0.on want w) c.loop-here-test.false), tt)

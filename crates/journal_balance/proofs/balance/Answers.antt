@@ -1,0 +1,74 @@
+use Prim.Native.Nat.{◌+◌, ◌-◌, ◌≤◌, ◌<◌}
+use mathlib.Core.Path.{◌≡◌, refl, sym, ◌∙◌}
+use native.Mathlib.Omega.{arith}
+use lib.ListN.{length}
+use mir.Syntax.{w64}
+use mir.Facts.{to_z-of_z}
+use Rattle.journal_read.specs.declared.Tail.TheVariants.{Nothing, From}
+use Rattle.journal.specs.Record.{length_of, kind_at, body_at}
+use Rattle.journal_balance.specs.Balance.{balance_in}
+use Rattle.journal_balance.specs.Parts.{settled_from}
+use Rattle.journal.specs.Laws.Found.{found-whole}
+use Rattle.journal_read.specs.Laws.Going.{going_end, going_unknown, going-tail}
+use Rattle.journal_read.specs.Laws.Read.{tail_from, tail_none}
+use Rattle.journal_balance.specs.Laws.Loops.{balance_long, balancing_start, balancing_more, balancing_last}
+use Rattle.journal_balance.specs.Laws.Tree.{tree-start}
+use Rattle.journal_balance.proofs.balance.Goals as goal
+
+pub returns-then-journal-gt-MAX_JOURNAL : goal.returns-then-journal-gt-MAX_JOURNAL
+returns-then-journal-gt-MAX_JOURNAL c = sym (balance_long _ _ c.if-journal-gt-MAX_JOURNAL.true)
+
+pub loop-at-init : goal.loop-at-init
+loop-at-init c = (omega arith, omega arith, balancing_start _ _ _ refl (omega arith), λ f. tree-start _ _ 6240 refl)
+
+pub returns-then-n-eq0 : goal.returns-then-n-eq0
+returns-then-n-eq0 c =
+    let b = c.loop-at.invariant.2 in
+    let d = c.args.journal.now in
+    going_unknown d (settled_from c.args.card (length d) b.before c.loop-at.s.ups c.loop-at.s.downs) (balance_in d c.args.card) c.loop-at.at b.going c.loop-at-test.true
+    (sym c.length_of-n.ensures ∙ c.if-n-eq0.true)
+
+pub less-requires : goal.less-requires
+less-requires c = omega (arith, c.loop-at.invariant.2.small)
+
+pub returns-then-journal-at : goal.returns-then-journal-at
+returns-then-journal-at c =
+    let b = c.loop-at.invariant.2 in
+    let d = c.args.journal.now in
+    let h : c.loop-at.at < length d = c.loop-at-test.true in
+    sym (balancing_last d c.args.card c.loop-at.s c.loop-at.at b _ (From c.loop-at.at) (to_z-of_z {w = w64} (record { sfits = c.less.type-inv }) ∙ c.less.ensures) (tail_from c.loop-at.at (length d) h))
+    ∙ going-tail d (settled_from c.args.card (length d) b.before c.loop-at.s.ups c.loop-at.s.downs) (balance_in d c.args.card) c.loop-at.at b.going h
+    (λ e. c.if-n-eq0.false (c.length_of-n.ensures ∙ e)) (omega arith)
+
+pub counted-s-requires : goal.counted-s-requires
+counted-s-requires c =
+    (
+      (refl, omega (arith, c.length_of-n.ensures), omega (arith, c.length_of-n.ensures), omega arith, omega (arith, c.loop-at.invariant.2.small)),
+      c.loop-at.invariant.3,
+    )
+
+pub loop-at-preserved : goal.loop-at-preserved
+loop-at-preserved c =
+    let b = c.loop-at.invariant.2 in
+    let d = c.args.journal.now in
+    let at = c.loop-at.at in
+    let h : at < length d = c.loop-at-test.true in
+    let some : length_of (kind_at d at) ≡ 0 → ⊥ = λ e. c.if-n-eq0.false (c.length_of-n.ensures ∙ e) in
+    let fits : at + length_of (kind_at d at) ≤ length d = omega (arith, c.length_of-n.ensures) in (
+      omega arith,
+      omega arith,
+      rw c.length_of-n.ensures
+          (balancing_more d c.args.card c.loop-at.s at b _ h some fits
+          (c.counted-s.ensures.0.sums b.before (body_at (kind_at d at) d at) (at + length_of (kind_at d at)) b.passed (found-whole d at h some fits) b.closed) c.counted-s.ensures.0.small),
+      rw c.length_of-n.ensures c.counted-s.ensures.1,
+    )
+
+pub less-requires-2 : goal.less-requires-2
+less-requires-2 c = omega (arith, c.loop-at.invariant.2.small)
+
+pub returns : goal.returns
+returns c =
+    let b = c.loop-at.invariant.2 in
+    let d = c.args.journal.now in
+    sym (balancing_last d c.args.card c.loop-at.s c.loop-at.at b _ Nothing (to_z-of_z {w = w64} (record { sfits = c.less-2.type-inv }) ∙ c.less-2.ensures) (tail_none c.loop-at.at (length d) c.loop-at-test.false))
+    ∙ going_end d (settled_from c.args.card (length d) b.before c.loop-at.s.ups c.loop-at.s.downs) (balance_in d c.args.card) c.loop-at.at b.going c.loop-at-test.false

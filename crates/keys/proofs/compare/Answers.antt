@@ -1,0 +1,28 @@
+use Prim.Native.Nat.{◌-◌}
+use mathlib.Core.Path.{refl, sym, ◌∙◌}
+use Rattle.layout.specs.Laws.Key.{compare-ended, compare-short, compare-long, compare-less, compare_greater, compare-more}
+use Rattle.keys.proofs.compare.Goals as goal
+
+pub loop-i-init : goal.loop-i-init
+loop-i-init c = refl
+
+pub returns-then-b-i : goal.returns-then-b-i
+returns-then-b-i c = sym (compare-long _ _ _ c.loop-i-test.true c.if-b-i.true) ∙ c.loop-i.invariant
+
+pub returns-then-a-i : goal.returns-then-a-i
+returns-then-a-i c =
+    sym (compare-less _ _ _ c.loop-i-test.true c.if-b-i.false c.if-a-i.true) ∙ c.loop-i.invariant
+
+pub returns-then-b-i-2 : goal.returns-then-b-i-2
+returns-then-b-i-2 c =
+    sym (compare_greater _ _ _ c.loop-i-test.true c.if-b-i.false c.if-b-i-2.true) ∙ c.loop-i.invariant
+
+pub loop-i-preserved : goal.loop-i-preserved
+loop-i-preserved c =
+    sym (compare-more _ _ _ c.loop-i-test.true c.if-b-i.false c.if-a-i.false c.if-b-i-2.false) ∙ c.loop-i.invariant
+
+pub returns-then-i-b : goal.returns-then-i-b
+returns-then-i-b c = sym (compare-short _ _ _ c.loop-i-test.false c.if-i-b.true) ∙ c.loop-i.invariant
+
+pub returns-else-i-b : goal.returns-else-i-b
+returns-else-i-b c = sym (compare-ended _ _ _ c.loop-i-test.false c.if-i-b.false) ∙ c.loop-i.invariant

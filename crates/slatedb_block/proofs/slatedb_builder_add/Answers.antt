@@ -1,0 +1,6 @@
+-- `slatedb_builder_add` hands on to `add` of `add_words`, which keeps its promise. It is written out, though it would be found, so that a wrong answer is refused with
+-- no search for a proof of it.
+use Rattle.slatedb_block.proofs.slatedb_builder_add.Goals as goal
+
+pub returns : goal.returns
+returns c = c.add.ensures

@@ -1,0 +1,6 @@
+-- `slatedb_next` hands on to `next` of `step_words`, which keeps its promise. It is written out, though it would be found, so that a wrong answer is refused with
+-- no search for a proof of it.
+use Rattle.slatedb_block.proofs.slatedb_next.Goals as goal
+
+pub returns : goal.returns
+returns c = c.next.ensures

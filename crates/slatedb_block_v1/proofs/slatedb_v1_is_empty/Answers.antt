@@ -1,0 +1,17 @@
+-- `slatedb_v1_is_empty` keeps its promise: 254 for words that are no cursor, 14, or 0 and whether no row is left.
+-- Each exit is one law of `Laws`, from what `cursor_in` and `is_empty` promised.
+use Rattle.basics.specs.Answers.{yes}
+use Rattle.cursor_words_v1.specs.Says.{says_cursor}
+use Rattle.slatedb_block_v1.proofs.Laws.{empty-no-cursor, empty-told, empty-refused}
+use Rattle.slatedb_block_v1.proofs.slatedb_v1_is_empty.Goals as goal
+
+pub returns-in_default : goal.returns-in_default
+returns-in_default c = empty-no-cursor _ _ _ (yes says_cursor c.cursor_in-loaded.ensures c.in_default.is)
+
+pub returns-in-Is-read : goal.returns-in-Is-read
+returns-in-Is-read c =
+    empty-told _ _ _ c.in-Is.c _ (yes says_cursor c.cursor_in-loaded.ensures c.in-Is.is) c.is_empty-read.ensures c.in-Is-read.is c.truth_word.ensures
+
+pub returns-in-Refused : goal.returns-in-Refused
+returns-in-Refused c =
+    empty-refused _ _ _ c.in-Is.c _ (yes says_cursor c.cursor_in-loaded.ensures c.in-Is.is) c.is_empty-read.ensures c.in-Refused.is c.number.ensures

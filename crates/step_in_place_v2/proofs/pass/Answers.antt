@@ -1,0 +1,40 @@
+-- `pass` keeps the promise of a step past the row: the suffix goes over the carried key, the key to the lent buffer, and a finished region hands over.
+-- The row was read after the carried key, so there is room for both writes; each exit is then a law over what they left.
+use Prim.Native.Nat.{◌-◌}
+use mathlib.Core.Path.{sym}
+use native.Mathlib.Omega.{arith}
+use lib.Seq.{length-take-le}
+use Rattle.layout.specs.Laws.Number.{right-tells}
+use Rattle.layout.specs.Laws.Tells.{read_row-ends}
+use Rattle.layout.specs.Laws.Trailer.{trailer_of-tells}
+use Rattle.step_in_place_v2.proofs.Laws.{key-held, pass-over, pass-stay}
+use Rattle.step_in_place_v2.proofs.pass.Goals as goal
+
+pub slice_bounds-put_suffix-end : goal.slice_bounds-put_suffix-end
+slice_bounds-put_suffix-end c =
+    sym (length-take-le _ _ (omega (arith, (trailer_of-tells _ _ c.requires.1.0.read).0)))
+
+pub put_suffix-requires : goal.put_suffix-requires
+put_suffix-requires c =
+    let ends = read_row-ends _ _ _ _ _ _ c.requires.1.1.read in
+    (omega (arith, c.requires.0, ends.fits), ends.suffix)
+
+pub give_key-requires : goal.give_key-requires
+give_key-requires c =
+    (key-held c.args.p c.args.key.now _ _ _ c.args.row c.args.out.now _ c.requires.0 c.requires.1.0 c.requires.1.1 c.put_suffix.ensures, c.requires.1.1.held)
+
+pub overflow_add-place : goal.overflow_add-place
+overflow_add-place c =
+    omega (arith, c.requires.1.0.inside, (trailer_of-tells _ _ c.requires.1.0.read).0)
+
+pub overflow_add-place-2 : goal.overflow_add-place-2
+overflow_add-place-2 c =
+    omega (arith, right-tells (c.args.p.at - c.args.region.start) c.args.p.number c.requires.1.1.right)
+
+pub returns-then-region-row : goal.returns-then-region-row
+returns-then-region-row c =
+    pass-over c.args.p _ _ _ _ _ _ _ c.requires.0 c.requires.1.0 c.requires.1.1 c.put_suffix.ensures _ c.give_key.ensures c.if-region-row.true c.found.ensures
+
+pub returns : goal.returns
+returns c =
+    pass-stay c.args.p _ _ _ _ _ _ _ c.requires.0 c.requires.1.0 c.requires.1.1 c.put_suffix.ensures _ c.give_key.ensures c.if-region-row.false c.found-2.ensures

@@ -1,0 +1,7 @@
+-- `copy_8` keeps its promise: the parts that are lent have eight bytes, so that all are copied (`part-copied`).
+use Rattle.copies.proofs.Copies.{part-copied}
+use Rattle.step_plain_v2.proofs.copy_8.Goals as goal
+
+pub returns : goal.returns
+returns c =
+    part-copied 8 c.args.buf.now c.args.src.now c.args.at c.args.from c.requires.0 c.requires.1 c.copy_8.ensures

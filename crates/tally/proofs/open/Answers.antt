@@ -1,0 +1,12 @@
+-- `open` answers the check's verdict, how many rows there are to count, and the place before the first, which is the cursor that `new` promised.
+use mathlib.Core.Path.{refl}
+use Rattle.tally.proofs.Laws.{opened-good, opened-refused}
+use Rattle.tally.proofs.open.Goals as goal
+
+pub returns-in-Rows : goal.returns-in-Rows
+returns-in-Rows c =
+    opened-good _ _ c.check-checked.ensures _ c.new-opened.ensures refl c.in-Rows.is
+
+pub returns-in-Refused : goal.returns-in-Refused
+returns-in-Refused c =
+    opened-refused _ _ c.check-checked.ensures _ c.new-opened.ensures refl c.in-Refused.is

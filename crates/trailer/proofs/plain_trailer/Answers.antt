@@ -1,0 +1,18 @@
+-- `plain_trailer` keeps its promise: all 0 where the definition refuses, else its numbers.
+-- The joined test is the definition's two once the count that was read is the definition's.
+use mathlib.Core.Path.{ap, ◌∙◌}
+use Rattle.layout.specs.Laws.Trailer.{trailer-short}
+use Rattle.trailer.specs.Plain.{trailer_or, trailer_bad, trailer-fine, trailer-fits}
+use Rattle.trailer.proofs.plain_trailer.Goals as goal
+
+pub returns-then-len-lt2 : goal.returns-then-len-lt2
+returns-then-len-lt2 c = c.no_trailer.ensures ∙ ap trailer_or (trailer-short _ c.if-len-lt2.true)
+
+pub returns-then-count-len : goal.returns-then-count-len
+returns-then-count-len c = c.no_trailer-then-count-len.ensures ∙ ap trailer_or (trailer_bad _ c.if-len-lt2.false (rw c.short_at-count.ensures.0 at c.if-count-len.true))
+
+pub overflow_sub-result : goal.overflow_sub-result
+overflow_sub-result c = trailer-fits c.short_at-count.result _ c.if-count-len.false
+
+pub returns : goal.returns
+returns c = rw c.short_at-count.ensures.0 (ap trailer_or (trailer-fine _ c.if-len-lt2.false (rw c.short_at-count.ensures.0 at c.if-count-len.false)))

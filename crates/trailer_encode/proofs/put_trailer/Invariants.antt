@@ -1,0 +1,11 @@
+-- `put_trailer` keeps its promise: the trailer's bytes, or 6 and an untouched buffer.
+-- The loop's invariant: the first `i` offsets are written, and `next` is the place after them. Writes that follow one another are one write; the room
+-- was tested, so none is refused.
+use Prim.Native.Nat.{◌-◌}
+use Rattle.trailer_encode.proofs.put_trailer.Given as goal
+
+abbrev pub invariant-loop-i : goal.invariant-loop-i
+invariant-loop-i l = Laying l.offsets l.initial.buf l.at l.n l.buf l.next l.i
+
+abbrev pub decreases-loop-i : goal.decreases-loop-i
+decreases-loop-i l = l.n - l.i

@@ -1,0 +1,54 @@
+use Prim.Native.Nat.{◌-◌}
+use mathlib.Core.Path.{sym, ◌∙◌}
+use native.Mathlib.Omega.{arith}
+use Rattle.layout.specs.Laws.Res.{handed}
+use Rattle.layout.specs.Laws.Number.{counting-start, counting-here}
+use Rattle.layout.specs.Laws.MatchWalk.{down-start, down-over, down-no, SpanTells, span-tells}
+use Rattle.row_span_v2.specs.Promise.{span_from}
+use Rattle.block_regions_v2.specs.Count.{counting-span}
+use Rattle.whole_regions_v2.specs.Count.{counting-best}
+use Rattle.whole_regions_v2.specs.Laws.{last_strange, last-there, last-is, turn-down}
+use Rattle.row_span_v2.specs.Laws.{span-refusal}
+use Rattle.whole_regions_v2.proofs.last_at_or_below.Goals.{Else-row-eq0}
+use Rattle.whole_regions_v2.proofs.last_at_or_below.Goals as goal
+
+-- what the row that a turn read tells
+tells : (k : Else-row-eq0) → let a = k.args in
+    SpanTells a.data.now k.loop-at.at a.region.end k.loop-at.len (span_from k.span_in-row.result)
+tells k = span-tells _ _ _ _ _ _ k.span_in-row.ensures k.if-row-eq0.false
+
+pub returns-then-data-region : goal.returns-then-data-region
+returns-then-data-region c = handed _ (sym (last_strange _ _ _ c.if-data-region.true))
+
+pub loop-at-init : goal.loop-at-init
+loop-at-init c = (down-start _ _ _ _ c.if-data-region.false, counting-start _ _, counting-here _ _ _ _ _ (counting-start _ _))
+
+pub returns-then-row-eq0 : goal.returns-then-row-eq0
+returns-then-row-eq0 c =
+    handed _
+    (sym
+    (down-no _ _ _ _ _ _ _ _ _ c.loop-at.invariant.0 c.loop-at-test.true (span-refusal _ _ _ _ _ (span_from c.span_in-row.result) c.span_in-row.ensures c.if-row-eq0.true c.refusal_in-refusal.ensures)
+    ∙ last-there _ _ _ c.if-data-region.false))
+
+pub overflow_add-to : goal.overflow_add-to
+overflow_add-to c = omega (arith, (tells (goal.at.overflow_add-to c).Else-row-eq0).suffix)
+
+pub slice_bounds-match_down-end : goal.slice_bounds-match_down-end
+slice_bounds-match_down-end c = (tells (goal.at.slice_bounds-match_down-end c).Else-row-eq0).suffix
+
+pub overflow_add-len : goal.overflow_add-len
+overflow_add-len c = omega (arith, (tells (goal.at.overflow_add-len c).Else-row-eq0).few)
+
+pub overflow_add-number : goal.overflow_add-number
+overflow_add-number c = omega (arith, (tells (goal.at.overflow_add-number c).Else-row-eq0).least, (tells (goal.at.overflow_add-number c).Else-row-eq0).inside, c.loop-at.invariant.1.far)
+
+pub loop-at-smaller : goal.loop-at-smaller
+loop-at-smaller c = let w = tells (goal.at.loop-at-smaller c).Else-row-eq0 in omega (arith, w.least, w.within)
+
+pub loop-at-preserved : goal.loop-at-preserved
+loop-at-preserved c =
+    let v = c.loop-at.invariant in
+    (turn-down _ _ _ _ _ _ _ _ _ v.0 c.loop-at-test.true (span_from c.span_in-row.result) c.span_in-row.ensures c.if-row-eq0.false c.match_down-now.ensures.len_is c.match_down-now.ensures.below-is c.later-best.ensures, counting-span _ _ _ _ _ v.1 (span_from c.span_in-row.result) c.span_in-row.ensures c.if-row-eq0.false, counting-best _ _ _ _ _ v.1 (span_from c.span_in-row.result) c.span_in-row.ensures c.if-row-eq0.false c.match_down-now.result.below _ _ v.2 c.later-best.ensures c.later-best_number.ensures)
+
+pub returns : goal.returns
+returns c = last-is _ _ _ (down-over _ _ _ _ _ _ _ _ _ c.loop-at.invariant.0 c.loop-at-test.false ∙ last-there _ _ _ c.if-data-region.false) c.loop-at.invariant.2
