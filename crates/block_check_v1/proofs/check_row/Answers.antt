@@ -1,7 +1,7 @@
 -- `check_row` leaves the walk before the next row, or the check's refusal.
 -- Each exit is a law of the walk, over the region and the row that were read on the way to it.
 use Prim.Native.Nat.{◌+◌, ◌*◌, ◌<◌}
-use mathlib.Core.Path.{◌≡◌, refl, sym}
+use mathlib.Core.Path.{◌≡◌, refl, sym, ap}
 use native.Mathlib.Omega.{arith}
 use lib.ListN.{length, length-take}
 use lib.Seq.{length-take-le}
@@ -15,6 +15,7 @@ use Rattle.trailer.specs.Plain.{known_is_lem, known-not}
 use Rattle.trailer.specs.Says.{trailer_from, region_from}
 use Rattle.row_decode_v2.specs.Says.{row_from, says_row, refusal_of_row}
 use Rattle.block_check_v1.proofs.Laws.{walk-region, walk_no, walk-suffix, walk-shares, walk-falls, walk-on}
+use mathlib.Core.Bool.{not}
 use Rattle.block_check_v1.proofs.check_row.Goals.{Else-g-eq0, In-Read, Start}
 use Rattle.block_check_v1.proofs.check_row.Goals as goal
 
@@ -66,7 +67,7 @@ order_of-order-requires c =
 pub returns-then-not-may_follow : goal.returns-then-not-may_follow
 returns-then-not-may_follow c =
     walk-falls c.args.block.now (trailer_from c.args.t) c.args.p c.requires.1.1.1 (its (goal.at.returns-then-not-may_follow c).Start).1 _ (used (goal.at.returns-then-not-may_follow c).Else-g-eq0) _ (read (goal.at.returns-then-not-may_follow c).In-Read)
-    c.order_of-order.ensures c.may_follow.ensures (not-true _ c.if-not-may_follow.true)
+    c.order_of-order.ensures c.may_follow.ensures (not-true _ (ap not c.if-not-may_follow.true))
 
 pub overflow_add-result : goal.overflow_add-result
 overflow_add-result c = omega (arith, (its (goal.at.overflow_add-result c).Start).1, (its (goal.at.overflow_add-result c).Start).0)
@@ -76,5 +77,5 @@ returns c =
     (
       omega arith,
       walk-on c.args.block.now (trailer_from c.args.t) c.args.p c.requires.1.1.1 (its (goal.at.returns c).Start).1 _ (used (goal.at.returns c).Else-g-eq0) _ (read (goal.at.returns c).In-Read)
-          c.order_of-order.ensures c.may_follow.ensures (not-false _ c.if-not-may_follow.false) c.requires.1.0 _ c.first_after.ensures,
+          c.order_of-order.ensures c.may_follow.ensures (not-false _ (ap not c.if-not-may_follow.false)) c.requires.1.0 _ c.first_after.ensures,
     )

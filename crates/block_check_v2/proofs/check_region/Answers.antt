@@ -17,6 +17,7 @@ use Rattle.trailer.specs.Says.{trailer_from, region_from}
 use Rattle.row_span_v2.specs.Laws.{numbered, numbered-known, span-refusal}
 use Rattle.row_span_v2.specs.Promise.{numbered_from}
 use Rattle.block_check_v2.specs.Laws.{Walks, stands-no, stands-inside, stands-walks, walks-over, walks-no, walks-room, walks-falls, walks-narrow, walks_more, may-told, the_trailer}
+use mathlib.Core.Bool.{not}
 use Rattle.block_check_v2.proofs.check_region.Goals.{At-loop-at, Else-g-eq0, Else-row-eq0, Start}
 use Rattle.block_check_v2.proofs.check_region.Goals as goal
 
@@ -90,7 +91,7 @@ shape_of-key-then-not-may_follow c = c.loop-at.invariant.0
 
 pub returns-then-not-may_follow : goal.returns-then-not-may_follow
 returns-then-not-may_follow c =
-    walks-falls _ _ _ _ (used (goal.at.returns-then-not-may_follow c).Else-g-eq0) _ _ _ _ _ (walk (goal.at.returns-then-not-may_follow c).At-loop-at) c.loop-at-test.true _ (read (goal.at.returns-then-not-may_follow c).Else-row-eq0) (may-told _ _ _ _ c.compare-order.ensures c.may_follow.ensures (not-true _ c.if-not-may_follow.true))
+    walks-falls _ _ _ _ (used (goal.at.returns-then-not-may_follow c).Else-g-eq0) _ _ _ _ _ (walk (goal.at.returns-then-not-may_follow c).At-loop-at) c.loop-at-test.true _ (read (goal.at.returns-then-not-may_follow c).Else-row-eq0) (may-told _ _ _ _ c.compare-order.ensures c.may_follow.ensures (not-true _ (ap not c.if-not-may_follow.true)))
 
 pub overflow_add-key_len : goal.overflow_add-key_len
 overflow_add-key_len c = omega (arith, (told (goal.at.overflow_add-key_len c).Else-row-eq0).fits)
@@ -120,7 +121,7 @@ loop-at-preserved c =
     let q = copied r c.copy_in.ensures in (
       ap length q ∙ length-splice _ _ _ r ∙ c.loop-at.invariant.0,
       the_trailer _ _ _ c.requires.0
-          (walks_more _ _ _ _ u _ _ _ _ _ (walk (goal.at.loop-at-preserved c).At-loop-at) t _ (read (goal.at.loop-at-preserved c).Else-row-eq0) k (may-told _ _ _ _ c.compare-order.ensures c.may_follow.ensures (not-false _ c.if-not-may_follow.false)) _ q),
+          (walks_more _ _ _ _ u _ _ _ _ _ (walk (goal.at.loop-at-preserved c).At-loop-at) t _ (read (goal.at.loop-at-preserved c).Else-row-eq0) k (may-told _ _ _ _ c.compare-order.ensures c.may_follow.ensures (not-false _ (ap not c.if-not-may_follow.false))) _ q),
     )
 
 pub overflow_add-result : goal.overflow_add-result

@@ -1,5 +1,5 @@
 use Prim.Native.Nat.{◌+◌, ◌-◌}
-use mathlib.Core.Path.{◌≡◌, refl, sym, ◌∙◌}
+use mathlib.Core.Path.{◌≡◌, refl, sym, ◌∙◌, ap}
 use mathlib.Core.Bool.{Bool, true, false, not}
 use native.Mathlib.Omega.{arith}
 use Rattle.layout.specs.Res.{ok}
@@ -40,11 +40,11 @@ returns-in_default c =
 
 pub returns-then-not-is_equal : goal.returns-then-not-is_equal
 returns-then-not-is_equal c =
-    run_ends _ _ _ _ _ _ c.loop-last.invariant.0 c.loop-last-test.true (next-compared (goal.at.returns-then-not-is_equal c).In-Is) (sym c.is_equal.ensures ∙ was-not _ c.if-not-is_equal.true)
+    run_ends _ _ _ _ _ _ c.loop-last.invariant.0 c.loop-last-test.true (next-compared (goal.at.returns-then-not-is_equal c).In-Is) (sym c.is_equal.ensures ∙ was-not _ (ap not c.if-not-is_equal.true))
 
 pub loop-last-preserved : goal.loop-last-preserved
 loop-last-preserved c =
-    (run_more _ _ _ 0 _ _ c.loop-last.invariant.0 c.loop-last-test.true (next-compared (goal.at.loop-last-preserved c).In-Is) (sym c.is_equal.ensures ∙ was _ c.if-not-is_equal.false), c.loop-last-test.true)
+    (run_more _ _ _ 0 _ _ c.loop-last.invariant.0 c.loop-last-test.true (next-compared (goal.at.loop-last-preserved c).In-Is) (sym c.is_equal.ensures ∙ was _ (ap not c.if-not-is_equal.false)), c.loop-last-test.true)
 
 pub returns : goal.returns
 returns c = run-over _ _ _ _ _ _ c.loop-last.invariant.0 c.loop-last-test.false

@@ -25,4 +25,4 @@ returns-in_default c =
 pub returns : goal.returns
 returns c =
     let word = yes says_word c.get_u64-word.ensures c.in-Word.is in
-    signed-read _ _ _ _ _ word (to_z-of_z {w = w64} (record { sfits = c.from_bits-value.type-inv }) ∙ c.from_bits-value.ensures)
+    signed-read _ _ _ _ _ word (to_z-of_z {w = w64} (record { sfits = c.from_bits-value.type_inv }) ∙ c.from_bits-value.ensures)

@@ -63,7 +63,7 @@ returns-in-Debit c =
 
 pub shape_of-buffer-in-Debit : goal.shape_of-buffer-in-Debit
 shape_of-buffer-in-Debit c =
-    same c.args.buffer.now c.args.used c.kind_of.result c.args.record c.kind_of.ensures c.requires (returns c)
+    same c.args.buffer.now c.args.used c.kind_of.result c.args.record c.kind_of.ensures c.requires (returns-in-Debit c)
 
 pub returns-in-TopUp : goal.returns-in-TopUp
 returns-in-TopUp c =
@@ -71,7 +71,7 @@ returns-in-TopUp c =
 
 pub shape_of-buffer-in-TopUp : goal.shape_of-buffer-in-TopUp
 shape_of-buffer-in-TopUp c =
-    same c.args.buffer.now c.args.used c.kind_of.result c.args.record c.kind_of.ensures c.requires (returns-2 c)
+    same c.args.buffer.now c.args.used c.kind_of.result c.args.record c.kind_of.ensures c.requires (returns-in-TopUp c)
 
 put-card : (xs : List ℕ) (used k card : ℕ) (r : Record) {ys : List ℕ} {p : Put} → r ≡ Close card → used + length_of (kind_of r) ≤ length xs → Puts (big 8 card) (set xs used k) (used + 1) p ys
     → ys ≡ splice (set xs used k) (used + 1) (big 8 card)
@@ -85,4 +85,4 @@ returns-in-Close c =
 
 pub shape_of-buffer-in-Close : goal.shape_of-buffer-in-Close
 shape_of-buffer-in-Close c =
-    same c.args.buffer.now c.args.used c.kind_of.result c.args.record c.kind_of.ensures c.requires (returns-3 c)
+    same c.args.buffer.now c.args.used c.kind_of.result c.args.record c.kind_of.ensures c.requires (returns-in-Close c)

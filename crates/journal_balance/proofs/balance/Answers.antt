@@ -36,7 +36,7 @@ returns-then-journal-at c =
     let b = c.loop-at.invariant.2 in
     let d = c.args.journal.now in
     let h : c.loop-at.at < length d = c.loop-at-test.true in
-    sym (balancing_last d c.args.card c.loop-at.s c.loop-at.at b _ (From c.loop-at.at) (to_z-of_z {w = w64} (record { sfits = c.less.type-inv }) ∙ c.less.ensures) (tail_from c.loop-at.at (length d) h))
+    sym (balancing_last d c.args.card c.loop-at.s c.loop-at.at b _ (From c.loop-at.at) (to_z-of_z {w = w64} (record { sfits = c.less.type_inv }) ∙ c.less.ensures) (tail_from c.loop-at.at (length d) h))
     ∙ going-tail d (settled_from c.args.card (length d) b.before c.loop-at.s.ups c.loop-at.s.downs) (balance_in d c.args.card) c.loop-at.at b.going h
     (λ e. c.if-n-eq0.false (c.length_of-n.ensures ∙ e)) (omega arith)
 
@@ -70,5 +70,5 @@ pub returns : goal.returns
 returns c =
     let b = c.loop-at.invariant.2 in
     let d = c.args.journal.now in
-    sym (balancing_last d c.args.card c.loop-at.s c.loop-at.at b _ Nothing (to_z-of_z {w = w64} (record { sfits = c.less-2.type-inv }) ∙ c.less-2.ensures) (tail_none c.loop-at.at (length d) c.loop-at-test.false))
+    sym (balancing_last d c.args.card c.loop-at.s c.loop-at.at b _ Nothing (to_z-of_z {w = w64} (record { sfits = c.less-2.type_inv }) ∙ c.less-2.ensures) (tail_none c.loop-at.at (length d) c.loop-at-test.false))
     ∙ going_end d (settled_from c.args.card (length d) b.before c.loop-at.s.ups c.loop-at.s.downs) (balance_in d c.args.card) c.loop-at.at b.going c.loop-at-test.false

@@ -4,4 +4,4 @@ use Rattle.row_encode_v0.proofs.put_value.Goals as goal
 
 pub returns : goal.returns
 returns c =
-    put_two c.requires.1 c.put_u32.ensures c.place_after.ensures c.copy_in.ensures c.place_after.ensures
+    put_two c.requires.1 c.put_u32.ensures c.place_after-a.ensures c.copy_in.ensures c.place_after.ensures

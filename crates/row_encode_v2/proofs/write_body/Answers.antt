@@ -5,4 +5,4 @@ use Rattle.row_encode_v2.proofs.write_body.Goals as goal
 
 pub returns : goal.returns
 returns c =
-    put_three c.requires c.copy_in.ensures c.place_after.ensures c.copy_in-2.ensures c.place_after-b.ensures c.put_u64.ensures c.place_after.ensures
+    put_three c.requires c.copy_in.ensures c.place_after-a.ensures c.copy_in-2.ensures c.place_after-b.ensures c.put_u64.ensures c.place_after.ensures

@@ -47,4 +47,4 @@ returns c =
     marks-put a.row (omega (arith, marks-length a.row, c.if-rest_from-len.false)) c.flags.ensures c.write_time.ensures c.place_after-a.ensures c.write_time-2.ensures
 
 pub shape_of-output : goal.shape_of-output
-shape_of-output c = puts-length _ (returns-2 c)
+shape_of-output c = puts-length _ (returns c)

@@ -32,4 +32,4 @@ returns c =
     let shares = c.if-previous_key-shared.false in
     lays-wrote _ (restore_is _ _ _ _ shares k.0 (omega arith))
     (put_two (omega (arith, length-append (take a.shared a.previous_key.now) a.key_suffix.now, length-take-le a.shared a.previous_key.now shares))
-    c.copy_in.ensures c.place_after.ensures c.copy_in-2.ensures c.place_after.ensures)
+    c.copy_in.ensures c.place_after-at.ensures c.copy_in-2.ensures c.place_after.ensures)

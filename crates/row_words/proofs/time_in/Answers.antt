@@ -14,7 +14,7 @@ returns-in_default c = time_bad c.args.has c.args.bits (yes says_truth c.truth_i
 
 pub returns-then-b : goal.returns-then-b
 returns-then-b c =
-    time-at c.args.has c.args.bits (yes says_truth c.truth_in-there.ensures c.in-Is.is ∙ ap ok c.if-b.true) (to_z-of_z {w = w64} (record { sfits = c.from_bits.type-inv }) ∙ c.from_bits.ensures)
+    time-at c.args.has c.args.bits (yes says_truth c.truth_in-there.ensures c.in-Is.is ∙ ap ok c.if-b.true) (to_z-of_z {w = w64} (record { sfits = c.from_bits.type_inv }) ∙ c.from_bits.ensures)
 
 pub returns : goal.returns
 returns c =

@@ -15,14 +15,9 @@ use Rattle.buf_mut.specs.Promise.{Puts}
 use Rattle.buf_mut.specs.declared.Put.{Put}
 use Rattle.buf_mut.specs.declared.Put.TheVariants.{At, Refused}
 use Rattle.buf_mut.proofs.Laws.{puts-short, puts-wrote, puts-at, puts-fits}
+use Rattle.trailer_encode.proofs.put_trailer.Invariants.{Laying}
 use Rattle.trailer_encode.proofs.put_trailer.Goals.{In_default}
 use Rattle.trailer_encode.proofs.put_trailer.Goals as goal
-
--- i of n offsets are written
-record Laying (os start : List ℕ) (at n : ℕ) (buf : List ℕ) (next i : ℕ) : Type 0 where
-  few : i ≤ n
-  place : next ≡ at + 2 * i
-  wrote : Wrote start at (offset_bytes (take i os)) buf next
 
 none-laid : (os buf : List ℕ) (at n : ℕ) → at ≤ length buf → Laying os buf at n buf at 0
 none-laid os buf at n h = record { few = zero-le; place = omega arith; wrote = wrote_as (offsets-none os) (wrote_none buf at h) }

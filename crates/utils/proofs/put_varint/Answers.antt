@@ -11,16 +11,8 @@ use Rattle.layout.specs.Laws.Byte.{varint_in-last, varint_in-more, varint-whole}
 use Rattle.layout.specs.Laws.Splice.{sets-splice}
 use Rattle.layout.specs.Laws.Varint.{varint_in-few, varint-few}
 use Rattle.buf_mut.proofs.Laws.{puts-short, puts-wrote}
+use Rattle.utils.proofs.put_varint.Invariants.{Going}
 use Rattle.utils.proofs.put_varint.Goals as goal
-
--- `done` is the buffer that is wanted, `end` the place after the number, `size` the buffer's length; `more` bytes may follow the next one
-record Going (done : List ℕ) (end size : ℕ) (buf : List ℕ) (rest i : ℕ) : Type 0 where
-  more : ℕ
-  small : rest < 16 * 128 ^ more
-  makes : sets buf i (varint_in more rest) ≡ done
-  ends : i + length (varint_in more rest) ≡ end
-  same : length buf ≡ size
-  fits : end ≤ size
 
 start : (buf : List ℕ) (at v n : ℕ) → v < 2 ^ 32 → n ≡ length (varint v) → n ≤ length buf - at
     → Going (sets buf at (varint v)) (at + length (varint v)) (length buf) buf v at
