@@ -27,7 +27,7 @@ returns-in-Refused c =
     check-offsets _ _ e (sym (offsets-used _ _ e) ∙ yes says_verdict c.all_offsets-tested.ensures c.in-Refused.is)
 
 pub check_rows-requires : goal.check_rows-requires
-check_rows-requires c = (read (goal.at.check_rows-requires c).Else-t-eq0, rises (goal.at.check_rows-requires c).In_default)
+check_rows-requires c = record { block_value = read (goal.at.check_rows-requires c).Else-t-eq0; t_value = rises (goal.at.check_rows-requires c).In_default }
 
 pub returns : goal.returns
 returns c = check-rows _ _ (read (goal.at.returns c).Else-t-eq0) (rises (goal.at.returns c).In_default) c.check_rows.ensures

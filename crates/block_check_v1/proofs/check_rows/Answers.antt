@@ -12,7 +12,7 @@ pub loop-p-init : goal.loop-p-init
 loop-p-init c = checking-start _ _
 
 pub check_row-walked-requires : goal.check_row-walked-requires
-check_row-walked-requires c = (c.requires.0, (c.requires.1, (c.loop-p-test.true, c.loop-p.invariant)))
+check_row-walked-requires c = record { block_value = c.requires.block_value; t_value = c.requires.t_value; rows_lt_count = c.loop-p-test.true; stands = c.loop-p.invariant }
 
 -- what a row leaves
 left : (w : After-check_row-walked) → {x : Walked} → w.check_row-walked.result ≡ x → Leaves w.args.block.now (trailer_from w.args.t) w.loop-p.p x

@@ -28,10 +28,10 @@ returns-in-Refused c =
     check-offsets _ _ e (sym (offsets-used _ _ e) ∙ yes says_verdict c.all_offsets-tested.ensures c.in-Refused.is)
 
 pub check_rows-tried-requires : goal.check_rows-tried-requires
-check_rows-tried-requires c = (read (goal.at.check_rows-tried-requires c).Else-t-eq0, rises (goal.at.check_rows-tried-requires c).In_default)
+check_rows-tried-requires c = record { block_value = read (goal.at.check_rows-tried-requires c).Else-t-eq0; t_value = rises (goal.at.check_rows-tried-requires c).In_default }
 
 pub check_long-requires : goal.check_long-requires
-check_long-requires c = (read (goal.at.check_long-requires c).Else-t-eq0, rises (goal.at.check_long-requires c).In_default)
+check_long-requires c = record { block_value = read (goal.at.check_long-requires c).Else-t-eq0; t_value = rises (goal.at.check_long-requires c).In_default }
 
 pub returns-in_default-tried : goal.returns-in_default-tried
 returns-in_default-tried c = check-rows _ _ (read (goal.at.returns-in_default-tried c).Else-t-eq0) (rises (goal.at.returns-in_default-tried c).In_default) c.check_long.ensures

@@ -27,19 +27,19 @@ short s = search rules
 
 -- the region's number is one of the trailer's
 inside : (s : Start) → s.args.p.region < s.args.t.count
-inside s = (s.requires.1.1.starts s.requires.1.0).0
+inside s = (s.requires.stands.starts s.requires.at_lt_size).0
 
 -- and its numbers are the block's
 its : (s : Start) → (s.args.t.size + (2 + 2 * s.args.t.count) ≡ length s.args.block.now) × (s.args.p.region < s.args.t.count)
-its s = ((trailer_of-tells _ _ s.requires.0).0, ((s.requires.1.1.starts s.requires.1.0).0))
+its s = ((trailer_of-tells _ _ s.requires.block_value).0, ((s.requires.stands.starts s.requires.at_lt_size).0))
 
 -- the region that was read
 used : (k : Else-g-eq0) → let a = k.args in region_of a.block.now (trailer_from a.t) a.p.region ≡ ok (region_from k.plain_region-g.result)
 used k =
-    known_is_lem _ _ _ (((trailer_of-tells _ _ k.requires.0).0, ((k.requires.1.1.starts k.requires.1.0).0))) _ k.plain_region-g.ensures k.if-g-eq0.false
+    known_is_lem _ _ _ (((trailer_of-tells _ _ k.requires.block_value).0, ((k.requires.stands.starts k.requires.at_lt_size).0))) _ k.plain_region-g.ensures k.if-g-eq0.false
 
 walk : (l : At-loop-at) → Walks l.args.block.now (trailer_from l.args.t) l.args.p.region (region_from (l.plain_region-g.result)) l.loop-at.at l.loop-at.rows l.loop-at.seq l.loop-at.key l.loop-at.key_len
-walk l = l.loop-at.invariant.1 _ l.requires.0
+walk l = l.loop-at.invariant.1 _ l.requires.block_value
 
 read : (n : Else-row-eq0) → row_in (data_of n.args.block.now (trailer_from n.args.t)) (region_from (n.plain_region-g.result)) n.loop-at.at n.loop-at.key_len ≡ ok (numbered (numbered-known _ _ _ _ _ (numbered_from n.numbered_in-row.result) n.numbered_in-row.ensures.0 n.if-row-eq0.false n.numbered_in-row.ensures.1).0 (numbered_from n.numbered_in-row.result) n.numbered_in-row.result.seq)
 read n = (numbered-known _ _ _ _ _ (numbered_from n.numbered_in-row.result) n.numbered_in-row.ensures.0 n.if-row-eq0.false n.numbered_in-row.ensures.1).1
@@ -52,15 +52,15 @@ shares n = row-shares _ _ _ _ _ _ (read_row-ends _ _ _ _ _ _ ((numbered-known _ 
 
 pub returns-then-g-eq0 : goal.returns-then-g-eq0
 returns-then-g-eq0 c =
-    stands-no _ _ _ _ c.requires.1.1 c.requires.1.0
+    stands-no _ _ _ _ c.requires.stands c.requires.at_lt_size
     (known-not _ _ _ (its (goal.at.returns-then-g-eq0 c).Start) _ c.plain_region-g.ensures c.if-g-eq0.true)
 
 pub slice_bounds-data-end : goal.slice_bounds-data-end
-slice_bounds-data-end c = sym (length-take-le _ _ (omega (arith, (trailer_of-tells _ _ c.requires.0).0)))
+slice_bounds-data-end c = sym (length-take-le _ _ (omega (arith, (trailer_of-tells _ _ c.requires.block_value).0)))
 
 pub loop-at-init : goal.loop-at-init
 loop-at-init c =
-    (refl, the_trailer _ _ _ c.requires.0 (stands-walks _ _ _ _ c.requires.1.1 c.requires.1.0 _ (used (goal.at.loop-at-init c).Else-g-eq0)))
+    (refl, the_trailer _ _ _ c.requires.block_value (stands-walks _ _ _ _ c.requires.stands c.requires.at_lt_size _ (used (goal.at.loop-at-init c).Else-g-eq0)))
 
 pub shape_of-key-then-row-eq0 : goal.shape_of-key-then-row-eq0
 shape_of-key-then-row-eq0 c = c.loop-at.invariant.0
@@ -120,12 +120,12 @@ loop-at-preserved c =
     let r = walks-room _ _ _ _ u _ _ _ _ _ (walk (goal.at.loop-at-preserved c).At-loop-at) t _ (read (goal.at.loop-at-preserved c).Else-row-eq0) k in
     let q = copied r c.copy_in.ensures in (
       ap length q ∙ length-splice _ _ _ r ∙ c.loop-at.invariant.0,
-      the_trailer _ _ _ c.requires.0
+      the_trailer _ _ _ c.requires.block_value
           (walks_more _ _ _ _ u _ _ _ _ _ (walk (goal.at.loop-at-preserved c).At-loop-at) t _ (read (goal.at.loop-at-preserved c).Else-row-eq0) k (may-told _ _ _ _ c.compare-order.ensures c.may_follow.ensures (not-false _ (ap not c.if-not-may_follow.false))) _ q),
     )
 
 pub overflow_add-result : goal.overflow_add-result
-overflow_add-result c = omega (arith, inside (goal.at.overflow_add-result c).Start, (trailer_of-tells _ _ c.requires.0).0)
+overflow_add-result c = omega (arith, inside (goal.at.overflow_add-result c).Start, (trailer_of-tells _ _ c.requires.block_value).0)
 
 pub shape_of-key : goal.shape_of-key
 shape_of-key c = c.loop-at.invariant.0
@@ -134,4 +134,4 @@ pub returns : goal.returns
 returns c =
     let u = used (goal.at.returns c).Else-g-eq0 in
     let over = c.loop-at-test.false in
-    (omega (arith, stands-inside _ _ _ _ c.requires.1.1 c.requires.1.0 _ u), walks-over _ _ _ _ u _ _ _ _ _ (walk (goal.at.returns c).At-loop-at) over)
+    (omega (arith, stands-inside _ _ _ _ c.requires.stands c.requires.at_lt_size _ u), walks-over _ _ _ _ u _ _ _ _ _ (walk (goal.at.returns c).At-loop-at) over)

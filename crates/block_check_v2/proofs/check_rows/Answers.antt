@@ -10,16 +10,16 @@ use Rattle.block_check_v2.proofs.check_rows.Goals.{After-check_region-walked}
 use Rattle.block_check_v2.proofs.check_rows.Goals as goal
 
 pub loop-p-init : goal.loop-p-init
-loop-p-init c = (refl, stands-first _ _ c.requires.0 c.requires.1 _)
+loop-p-init c = (refl, stands-first _ _ c.requires.block_value c.requires.t_value _)
 
 pub check_region-walked-requires : goal.check_region-walked-requires
-check_region-walked-requires c = (c.requires.0, (c.loop-p-test.true, c.loop-p.invariant.1))
+check_region-walked-requires c = record { block_value = c.requires.block_value; at_lt_size = c.loop-p-test.true; stands = c.loop-p.invariant.1 }
 
 -- the walk of a region: what it leaves, and the lent bytes as many as before
-kept : (w : After-check_region-walked) → length w.check_region-walked.last.1.1.0 ≡ length w.args.key.now
-kept w = w.check_region-walked.kept.1.1.0 ∙ w.loop-p.invariant.0
+kept : (w : After-check_region-walked) → length w.check_region-walked.new.key ≡ length w.args.key.now
+kept w = w.check_region-walked.auto.key ∙ w.loop-p.invariant.0
 
-left : (w : After-check_region-walked) → {x : Walked} → w.check_region-walked.result ≡ x → Leaves w.args.block.now (trailer_from w.args.t) w.loop-p.p x w.check_region-walked.last.1.1.0
+left : (w : After-check_region-walked) → {x : Walked} → w.check_region-walked.result ≡ x → Leaves w.args.block.now (trailer_from w.args.t) w.loop-p.p x w.check_region-walked.new.key
 left w e = leaves_as _ _ _ _ w.check_region-walked.ensures e
 
 pub loop-p-smaller : goal.loop-p-smaller

@@ -34,7 +34,7 @@ pub slice_bounds-first-end : goal.slice_bounds-first-end
 slice_bounds-first-end c = first-lies _ _ _ (told (goal.at.slice_bounds-first-end c).In-Read).2
 
 pub search_rows-requires : goal.search_rows-requires
-search_rows-requires c = (((told (goal.at.search_rows-requires c).In-Read).0, omega arith), (omega arith, c.held_against-whole.ensures))
+search_rows-requires c = record { count_value = ((told (goal.at.search_rows-requires c).In-Read).0, omega arith); low_bound = omega arith; stands = c.held_against-whole.ensures }
 
 pub returns : goal.returns
 returns c =

@@ -20,7 +20,7 @@ use Rattle.block_keys_v1.proofs.keeps_above.Goals.{Else-region-eq0, Else-whole-s
 use Rattle.block_keys_v1.proofs.keeps_above.Goals as goal
 
 region-read : (k : Else-region-eq0) → let a = k.args in region_of a.block.now (trailer_from a.t) a.index ≡ ok (region_from k.plain_region-region.result)
-region-read k = known_is_lem _ _ _ k.requires.0 _ k.plain_region-region.ensures k.if-region-eq0.false
+region-read k = known_is_lem _ _ _ k.requires.count_value _ k.plain_region-region.ensures k.if-region-eq0.false
 
 key-read : (m : In-Read) → let a = m.args in let g = m.plain_region-region.result in
     read_key (data_of a.block.now (trailer_from a.t)) g.start g.end m.may_share-most.result ≡ ok (key_from m.in-Read.key)
@@ -28,29 +28,29 @@ key-read m = yes says_key m.decode_key_only-k.ensures m.in-Read.is
 
 pub returns-then-region-eq0 : goal.returns-then-region-eq0
 returns-then-region-eq0 c =
-    kept-region _ _ _ _ _ _ _ c.requires.1 (known-not _ _ _ c.requires.0 _ c.plain_region-region.ensures c.if-region-eq0.true)
+    kept-region _ _ _ _ _ _ _ c.requires.stands (known-not _ _ _ c.requires.count_value _ c.plain_region-region.ensures c.if-region-eq0.true)
 
 pub slice_bounds-rows-end : goal.slice_bounds-rows-end
-slice_bounds-rows-end c = sym (length-take-le _ _ (omega (arith, c.requires.0.0)))
+slice_bounds-rows-end c = sym (length-take-le _ _ (omega (arith, c.requires.count_value.0)))
 
 pub returns-in_default : goal.returns-in_default
 returns-in_default c =
-    kept-no _ _ _ _ _ _ _ c.requires.1 _ (region-read (goal.at.returns-in_default c).Else-region-eq0) c.may_share-most.ensures
+    kept-no _ _ _ _ _ _ _ c.requires.stands _ (region-read (goal.at.returns-in_default c).Else-region-eq0) c.may_share-most.ensures
     (no says_key refusal_of_key c.decode_key_only-k.ensures c.in_default.is refl c.key_refusal.ensures)
 
 pub returns-then-whole-shared : goal.returns-then-whole-shared
 returns-then-whole-shared c =
-    kept-past _ _ _ _ _ _ _ c.requires.1 _ (region-read (goal.at.returns-then-whole-shared c).Else-region-eq0) c.may_share-most.ensures _ (key-read (goal.at.returns-then-whole-shared c).In-Read) c.if-whole-shared.true
+    kept-past _ _ _ _ _ _ _ c.requires.stands _ (region-read (goal.at.returns-then-whole-shared c).Else-region-eq0) c.may_share-most.ensures _ (key-read (goal.at.returns-then-whole-shared c).In-Read) c.if-whole-shared.true
 
 pub overflow_add-to : goal.overflow_add-to
 overflow_add-to c =
-    omega (arith, (read_key-lies _ _ _ _ _ (key-read (goal.at.overflow_add-to c).In-Read)).inside, length-take-le c.args.t.size c.args.block.now (omega (arith, c.requires.0.0)), c.requires.0.0)
+    omega (arith, (read_key-lies _ _ _ _ _ (key-read (goal.at.overflow_add-to c).In-Read)).inside, length-take-le c.args.t.size c.args.block.now (omega (arith, c.requires.count_value.0)), c.requires.count_value.0)
 
 pub slice_bounds-held_against-end : goal.slice_bounds-held_against-end
 slice_bounds-held_against-end c = (read_key-lies _ _ _ _ _ (key-read (goal.at.slice_bounds-held_against-end c).In-Read)).inside
 
 share-short : (e : Else-whole-shared) → let a = e.args in e.in-Read.key.shared ≤ length a.target.now
-share-short e = omega (arith, e.if-whole-shared.false, e.requires.1.shares, common-right e.args.first.now e.args.target.now)
+share-short e = omega (arith, e.if-whole-shared.false, e.requires.stands.shares, common-right e.args.first.now e.args.target.now)
 
 pub slice_bounds-held_against-count-2 : goal.slice_bounds-held_against-count-2
 slice_bounds-held_against-count-2 c = share-short (goal.at.slice_bounds-held_against-count-2 c).Else-whole-shared
@@ -60,4 +60,4 @@ slice_bounds-held_against-start-2 c = share-short (goal.at.slice_bounds-held_aga
 
 pub returns : goal.returns
 returns c =
-    kept_on _ _ _ _ _ _ _ c.requires.1 _ (region-read (goal.at.returns c).Else-region-eq0) c.may_share-most.ensures _ (key-read (goal.at.returns c).In-Read) c.if-whole-shared.false _ c.held_against-rest.ensures
+    kept_on _ _ _ _ _ _ _ c.requires.stands _ (region-read (goal.at.returns c).Else-region-eq0) c.may_share-most.ensures _ (key-read (goal.at.returns c).In-Read) c.if-whole-shared.false _ c.held_against-rest.ensures

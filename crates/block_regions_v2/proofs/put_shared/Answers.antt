@@ -10,13 +10,13 @@ use Rattle.block_regions_v2.proofs.put_shared.Goals as goal
 
 pub slice_bounds-rebuild_key-end-then-k-shared : goal.slice_bounds-rebuild_key-end-then-k-shared
 slice_bounds-rebuild_key-end-then-k-shared c =
-    sym (length-take-le _ _ c.requires.0)
+    sym (length-take-le _ _ c.requires.shared_in_bounds)
 
 pub returns-then-k-shared : goal.returns-then-k-shared
 returns-then-k-shared c =
-    λ before st few. shared-read _ _ _ c.args.out.now _ c.requires.0 before st few (c.rebuild_key.ensures before (shared_filling _ _ _ c.args.out.now _ c.requires.0 before st few))
+    λ before st few. shared-read _ _ _ c.args.out.now _ c.requires.shared_in_bounds before st few (c.rebuild_key.ensures before (shared_filling _ _ _ c.args.out.now _ c.requires.shared_in_bounds before st few))
 
 pub returns : goal.returns
 returns c =
     let k = c.args.there.known in
-    λ before st few. shared-put _ _ _ c.args.out.now _ c.requires.0 before st few c.if-k-shared.false c.least-n.ensures (copied (omega (arith, part-most c.args.data.now k.first c.least-n.result)) c.copy_in.ensures) (copied (omega (arith, part-most c.args.data.now k.second (c.args.shared - c.least-n.result))) c.copy_in-2.ensures)
+    λ before st few. shared-put _ _ _ c.args.out.now _ c.requires.shared_in_bounds before st few c.if-k-shared.false c.least-n.ensures (copied (omega (arith, part-most c.args.data.now k.first c.least-n.result)) c.copy_in.ensures) (copied (omega (arith, part-most c.args.data.now k.second (c.args.shared - c.least-n.result))) c.copy_in-2.ensures)

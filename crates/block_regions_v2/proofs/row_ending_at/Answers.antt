@@ -56,4 +56,4 @@ returns c =
     let room = c.if-out-shared.false in
     let shares = ended-shares _ _ _ a.passed a.out.now h there.result there.ensures c.in-Read.row (read (goal.at.returns c).In-Read) in
     ended-put _ _ _ a.passed a.out.now h there.result there.ensures c.in-Read.row (read (goal.at.returns c).In-Read) c.if-stop-row.false c.other_than.ensures c.if-other_than.false room
-    (c.put_shared.ensures _ (stands _ _ _ a.passed a.out.now h there.result there.ensures) shares) (copied (omega (arith, part-most a.data.now c.in-Read.row.suffix_at c.in-Read.row.suffix_len, room, c.put_shared.auto.1.1.1.1.0)) c.copy_in.ensures)
+    (c.put_shared.ensures _ (stands _ _ _ a.passed a.out.now h there.result there.ensures) shares) (copied (omega (arith, part-most a.data.now c.in-Read.row.suffix_at c.in-Read.row.suffix_len, room, c.put_shared.auto.out)) c.copy_in.ensures)

@@ -17,7 +17,9 @@ pub returns-then-not-has_region : goal.returns-then-not-has_region
 returns-then-not-has_region c = handed_strange _ _ _ _ (rw c.has_region.ensures at (ap not c.if-not-has_region.true))
 
 pub binary_search_restarts-requires : goal.binary_search_restarts-requires
-binary_search_restarts-requires c = omega (arith, known (goal.at.binary_search_restarts-requires c).Else-not-has_region)
+binary_search_restarts-requires c =
+    let k = known (goal.at.binary_search_restarts-requires c).Else-not-has_region in
+    record { count_value = (k.0, omega arith); low_bound = omega arith }
 
 pub returns : goal.returns
 returns c = search-there _ _ _ (known (goal.at.returns c).Else-not-has_region) c.binary_search_restarts.ensures

@@ -18,8 +18,8 @@ wide k =
 pub slice_bounds-copy_in-end-then-whole-shared-2 : goal.slice_bounds-copy_in-end-then-whole-shared-2
 slice_bounds-copy_in-end-then-whole-shared-2 c =
     let f = c.requires.1 in
-    let same : length c.copy_in.new.0 ≡ max_key = search rules in
-    sym (length-take-le (c.args.row.shared + c.args.row.unshared) c.copy_in.new.0 (omega (arith, f.shared-small, f.unshared-small)))
+    let same : length c.copy_in.new.buf ≡ max_key = search rules in
+    sym (length-take-le (c.args.row.shared + c.args.row.unshared) c.copy_in.new.buf (omega (arith, f.shared-small, f.unshared-small)))
 
 pub returns-then-whole-shared : goal.returns-then-whole-shared
 returns-then-whole-shared c =

@@ -12,7 +12,7 @@ use Rattle.block_rows_v2.proofs.copy_16.Goals as goal
 pub returns : goal.returns
 returns c =
     let a = c.args in
-    let half = put_mid a.at (a.at + 8 - a.at) a.buf.now c.copy_8.new.0 in
+    let half = put_mid a.at (a.at + 8 - a.at) a.buf.now c.copy_8.new.buf in
     let long : length half ≡ length a.buf.now = search rules in
     sixteen a.buf.now a.at a.src.now a.from c.requires.0 c.requires.1
     (part-copied 8 a.buf.now a.src.now a.at a.from (omega (arith, c.requires)) (omega (arith, c.requires)) c.copy_8.ensures)

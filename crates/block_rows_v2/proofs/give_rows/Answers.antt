@@ -17,35 +17,40 @@ use Rattle.block_rows_v2.proofs.give_rows.Goals.{After-run_here-here, After-step
 use Rattle.block_rows_v2.proofs.give_rows.Goals as goal
 
 -- what the plain rows left
-gone : (h : After-run_here-here) → Gone h.args.block.now h.args.keys.now h.args.rows.now (view_in h.args.start h.args.key.now) (view_in h.run_here-here.result.place h.run_here-here.last.1.0) h.run_here-here.last.1.1.0 h.run_here-here.last.1.1.1.0 h.run_here-here.result.used h.run_here-here.result.count
+gone : (h : After-run_here-here) → Gone h.args.block.now h.args.keys.now h.args.rows.now (view_in h.args.start h.args.key.now) (view_in h.run_here-here.result.place h.run_here-here.new.key) h.run_here-here.new.keys h.run_here-here.new.rows h.run_here-here.result.used h.run_here-here.result.count
 gone h = h.run_here-here.ensures.on _ _ _ h.loop-here.invariant.0
 
-whole : (h : After-run_here-here) → length h.run_here-here.last.1.0 ≡ max_key
+whole : (h : After-run_here-here) → length h.run_here-here.new.key ≡ max_key
 whole h = h.run_here-here.ensures.long ∙ h.loop-here.invariant.2
+
+key-kept : (h : After-run_here-here) → h.run_here-here.result.count ≡ 0 → h.run_here-here.new.key ≡ h.args.key.now
+key-kept h z =
+    let l = h.loop-here in
+    h.run_here-here.ensures.kept (omega (arith, h.run_here-here.ensures.more)) ∙ l.invariant.3 (omega (arith, h.run_here-here.ensures.more))
 
 -- what one more step left
 few : (t : After-step_row-went) → t.run_here-here.result.count < length t.args.rows.now / row_count
 few t = omega (arith, t.if-here-before.true, t.loop-here-test.true)
 
 abbrev told : (t : After-step_row-went) → Went → Type 0
-told t w = StepsOn t.args.block.now t.run_here-here.result t.run_here-here.last.1.0 t.run_here-here.last.1.1.0 t.run_here-here.last.1.1.1.0 w t.step_row-went.last.1.0 t.step_row-went.last.1.1.0 t.step_row-went.last.1.1.1.0
+told t w = StepsOn t.args.block.now t.run_here-here.result t.run_here-here.new.key t.run_here-here.new.keys t.run_here-here.new.rows w t.step_row-went.new.key t.step_row-went.new.keys t.step_row-went.new.rows
 
 says : (t : After-step_row-went) → {w : Went} → t.step_row-went.result ≡ w → (told t) w
 says t e = subst (told t) e t.step_row-went.ensures
 
-key-same : (t : After-step_row-went) → length t.step_row-went.last.1.0 ≡ length t.args.key.now
+key-same : (t : After-step_row-went) → length t.step_row-went.new.key ≡ length t.args.key.now
 key-same t =
-    let same : length t.step_row-went.last.1.0 ≡ length t.run_here-here.last.1.0 = t.step_row-went.kept.1.0 in
+    let same : length t.step_row-went.new.key ≡ length t.run_here-here.new.key = t.step_row-went.auto.key in
     same ∙ (t.run_here-here.ensures.long ∙ t.loop-here.invariant.2) ∙ sym t.requires
 
-keys-same : (t : After-step_row-went) → length t.step_row-went.last.1.1.0 ≡ length t.args.keys.now
+keys-same : (t : After-step_row-went) → length t.step_row-went.new.keys ≡ length t.args.keys.now
 keys-same t =
-    let same : length t.step_row-went.last.1.1.0 ≡ length t.run_here-here.last.1.1.0 = t.step_row-went.kept.1.1.0 in
+    let same : length t.step_row-went.new.keys ≡ length t.run_here-here.new.keys = t.step_row-went.auto.keys in
     same ∙ wrote-length (t.run_here-here.ensures.on _ _ _ t.loop-here.invariant.0).keys-are
 
-rows_same : (t : After-step_row-went) → length t.step_row-went.last.1.1.1.0 ≡ length t.args.rows.now
+rows_same : (t : After-step_row-went) → length t.step_row-went.new.rows ≡ length t.args.rows.now
 rows_same t =
-    let same : length t.step_row-went.last.1.1.1.0 ≡ length t.run_here-here.last.1.1.1.0 = t.step_row-went.kept.1.1.1.0 in
+    let same : length t.step_row-went.new.rows ≡ length t.run_here-here.new.rows = t.step_row-went.auto.rows in
     same ∙ wrote-length (t.run_here-here.ensures.on _ _ _ t.loop-here.invariant.0).rows_are
 
 pub loop-here-init : goal.loop-here-init
@@ -55,19 +60,16 @@ pub run_here-here-requires : goal.run_here-here-requires
 run_here-here-requires c =
     let l = c.loop-here in
     let g = l.invariant.0 in
-    (record { whole = l.invariant.2; inside = omega (arith, g.keys-are.room, wrote-length g.keys-are); few = l.invariant.1; words = omega (arith, wrote-length g.rows_are) }, l.invariant.4)
+    record { roomy = record { whole = l.invariant.2; inside = omega (arith, g.keys-are.room, wrote-length g.keys-are); few = l.invariant.1; words = omega (arith, wrote-length g.rows_are) }; ended_value = l.invariant.4 }
 
 pub step_row-went-requires : goal.step_row-went-requires
 step_row-went-requires c =
-    let g = gone (goal.at.step_row-went-requires c).After-run_here-here in (
-      record {
+    let g = gone (goal.at.step_row-went-requires c).After-run_here-here in record { roomy = record {
         whole = whole (goal.at.step_row-went-requires c).After-run_here-here;
         inside = omega (arith, g.keys-are.room, wrote-length g.keys-are);
         few = omega arith;
         words = omega (arith, wrote-length g.rows_are, c.if-here-before.true, c.loop-here-test.true);
-      },
-      c.run_here-here.ensures.ends,
-    )
+      }; ended = c.run_here-here.ensures.ends }
 
 pub loop-here-smaller-in-On : goal.loop-here-smaller-in-On
 loop-here-smaller-in-On c =
@@ -89,7 +91,7 @@ shape_of-rows-in-Stopped c = rows_same (goal.at.shape_of-rows-in-Stopped c).Afte
 
 pub returns-in-Stopped : goal.returns-in-Stopped
 returns-in-Stopped c =
-    says (goal.at.returns-in-Stopped c).After-step_row-went c.in-Stopped.is _ _ _ _ _ (few (goal.at.returns-in-Stopped c).After-step_row-went) (key-kept c) (gone (goal.at.returns-in-Stopped c).After-run_here-here)
+    says (goal.at.returns-in-Stopped c).After-step_row-went c.in-Stopped.is _ _ _ _ _ (few (goal.at.returns-in-Stopped c).After-step_row-went) (key-kept (goal.at.returns-in-Stopped c).After-run_here-here) (gone (goal.at.returns-in-Stopped c).After-run_here-here)
 
 pub loop-here-smaller : goal.loop-here-smaller
 loop-here-smaller c =
@@ -97,7 +99,7 @@ loop-here-smaller c =
 
 pub loop-here-preserved : goal.loop-here-preserved
 loop-here-preserved c =
-    (gone (goal.at.loop-here-preserved c).After-run_here-here, c.run_here-here.ensures.few, whole (goal.at.loop-here-preserved c).After-run_here-here, key-kept c, ⊎_elim (λ e. absurd (c.if-here-before.false (c.run_here-here.ensures.still e))) (λ e. e) (bool_cases c.run_here-here.result.ended))
+    (gone (goal.at.loop-here-preserved c).After-run_here-here, c.run_here-here.ensures.few, whole (goal.at.loop-here-preserved c).After-run_here-here, key-kept (goal.at.loop-here-preserved c).After-run_here-here, ⊎_elim (λ e. absurd (c.if-here-before.false (c.run_here-here.ensures.still e))) (λ e. e) (bool_cases c.run_here-here.result.ended))
 
 pub shape_of-keys : goal.shape_of-keys
 shape_of-keys c = wrote-length c.loop-here.invariant.0.keys-are

@@ -12,7 +12,7 @@ use Rattle.block_rows_v2.proofs.put_gave.Goals as goal
 -- the arm of rows, by what "done" it says
 put-rows : (k : After-slice_known-in-Rows-1) → {o : Bool} → k.in-Rows.over ≡ o
     → PutsGave k.args.gave k.args.cursor.now
-    k.args.count.now (cond o done_code 0) k.put_cursor.new.0 k.in-Rows.n
+    k.args.count.now (cond o done_code 0) k.put_cursor.new.words k.in-Rows.n
 put-rows k {o} t =
     record {
       answer = sym (ap gave_code k.in-Rows.is ∙ ap (λ (x : Bool). cond x done_code 0) t);

@@ -5,4 +5,4 @@ use Rattle.block_rows_v2.proofs.put_nth.Goals as goal
 
 pub returns : goal.returns
 returns c =
-    put-words c.args.rows.now c.args.n c.args.region c.args.number (row_from c.args.row) c.put_row.new.0 c.requires c.put_row.ensures
+    put-words c.args.rows.now c.args.n c.args.region c.args.number (row_from c.args.row) c.put_row.new.words c.requires c.put_row.ensures

@@ -42,15 +42,15 @@ row_is_lem w = w.row_of.ensures
 
 key-given : (w : After-put_nth) → let l = w.loop-n in
     Wrote l.keys l.used (key_of (take w.args.b.size w.args.block.now) (take l.p.key_len l.key) (plain_read (take w.args.b.size w.args.block.now) l.p.at (plain_from w.plain_at-row.result)))
-    (put_mid l.used (length l.keys - l.used) l.keys w.carry.last.1.0) (l.used + (w.plain_at-row.result.shared + w.plain_at-row.result.unshared))
+    (put_mid l.used (length l.keys - l.used) l.keys w.carry.new.out) (l.used + (w.plain_at-row.result.shared + w.plain_at-row.result.unshared))
 key-given w =
     let l = w.loop-n in
     given-key w.args.block.now w.args.b.size (region_from w.args.b.region) l.p l.key l.invariant.1 l.invariant.2 w.plain_at-row.result (let p = w.loop-n.p in let g = w.args.b.region in ⊎_elim (λ w. w.1 ∙ share-none p.at g.start p.key_len w.0.taken) (λ w. w.1 ∙ share-key p.at g.start p.key_len w.0.left) w.if-at-g.branch) w.plain_at-row.ensures w.if-row-eq0.false l.keys l.used l.n l.invariant.3 w.if-keys-used.false w.carry.ensures (w.row_of.ensures) w.put_nth.ensures
 
 pub loop-n-init : goal.loop-n-init
 loop-n-init c =
-    let t = c.requires.0 in
-    ((λ ks rs c₀ g. g), c.requires.1, t.whole, t.inside, refl, refl, omega arith, t.few, (λ z. refl), t.words)
+    let t = c.requires.roomy in
+    ((λ ks rs c₀ g. g), c.requires.inside, t.whole, t.inside, refl, refl, omega arith, t.few, (λ z. refl), t.words)
 
 pub slice_bounds-plain_at-end : goal.slice_bounds-plain_at-end
 slice_bounds-plain_at-end c =
@@ -60,7 +60,7 @@ slice_bounds-plain_at-end c =
 pub returns-then-row-eq0 : goal.returns-then-row-eq0
 returns-then-row-eq0 c =
     let l = c.loop-n in
-    runs_to c.args.block.now c.args.most c.args.came c.args.key.now c.args.keys.now c.args.rows.now l.p l.used l.n l.key l.keys l.rows c.ran_to.ensures l.invariant.6 l.invariant.7 l.invariant.0 (l.invariant.2 ∙ sym c.requires.0.whole) l.invariant.8
+    runs_to c.args.block.now c.args.most c.args.came c.args.key.now c.args.keys.now c.args.rows.now l.p l.used l.n l.key l.keys l.rows c.ran_to.ensures l.invariant.6 l.invariant.7 l.invariant.0 (l.invariant.2 ∙ sym c.requires.roomy.whole) l.invariant.8
 
 pub overflow_add-whole : goal.overflow_add-whole
 overflow_add-whole c =
@@ -72,12 +72,12 @@ overflow_sub-keys c = c.loop-n.invariant.3
 
 pub shape_of-key-then-keys-used : goal.shape_of-key-then-keys-used
 shape_of-key-then-keys-used c =
-    c.loop-n.invariant.2 ∙ sym c.requires.0.whole
+    c.loop-n.invariant.2 ∙ sym c.requires.roomy.whole
 
 pub returns-then-keys-used : goal.returns-then-keys-used
 returns-then-keys-used c =
     let l = c.loop-n in
-    runs_to c.args.block.now c.args.most c.args.came c.args.key.now c.args.keys.now c.args.rows.now l.p l.used l.n l.key l.keys l.rows c.ran_to-then-keys-used.ensures l.invariant.6 l.invariant.7 l.invariant.0 (l.invariant.2 ∙ sym c.requires.0.whole) l.invariant.8
+    runs_to c.args.block.now c.args.most c.args.came c.args.key.now c.args.keys.now c.args.rows.now l.p l.used l.n l.key l.keys l.rows c.ran_to-then-keys-used.ensures l.invariant.6 l.invariant.7 l.invariant.0 (l.invariant.2 ∙ sym c.requires.roomy.whole) l.invariant.8
 
 pub slice_bounds-carry-end-in-loop-n : goal.slice_bounds-carry-end-in-loop-n
 slice_bounds-carry-end-in-loop-n c = sym (data_long (goal.at.slice_bounds-carry-end-in-loop-n c).Else-row-eq0)
@@ -118,7 +118,7 @@ overflow_add-p c =
 
 pub shape_of-key-then-g-row : goal.shape_of-key-then-g-row
 shape_of-key-then-g-row c =
-    c.carry.ensures.long ∙ c.loop-n.invariant.2 ∙ sym c.requires.0.whole
+    c.carry.ensures.long ∙ c.loop-n.invariant.2 ∙ sym c.requires.roomy.whole
 
 pub shape_of-keys-then-g-row : goal.shape_of-keys-then-g-row
 shape_of-keys-then-g-row c =
@@ -133,7 +133,7 @@ returns-then-g-row c =
     let l = c.loop-n in
     runs_to c.args.block.now c.args.most c.args.came c.args.key.now c.args.keys.now c.args.rows.now _ _ _ _ _ _ c.ran_to-then-g-row.ensures (omega (arith, l.invariant.6)) (omega (arith, c.loop-n-test.true))
     (λ ks rs c₀ g. given-over c.args.block.now c.args.b.size (region_from c.args.b.region) l.p l.key l.invariant.1 l.invariant.2 c.plain_at-row.result (share-is (goal.at.returns-then-g-row c).Joined-at-g) c.plain_at-row.ensures c.if-row-eq0.false l.keys l.used l.n l.invariant.3 c.if-keys-used.false c.carry.ensures (row_is_lem (goal.at.returns-then-g-row c).After-put_nth) c.put_nth.ensures ks rs c₀ c.if-g-row.true (l.invariant.0 ks rs c₀ g))
-    (c.carry.ensures.long ∙ l.invariant.2 ∙ sym c.requires.0.whole) (λ z. absurd (omega (arith, l.invariant.6)))
+    (c.carry.ensures.long ∙ l.invariant.2 ∙ sym c.requires.roomy.whole) (λ z. absurd (omega (arith, l.invariant.6)))
 
 -- one row more is still a number
 pub overflow_add-p-in-loop-n : goal.overflow_add-p-in-loop-n
@@ -165,4 +165,4 @@ loop-n-preserved c =
 pub returns : goal.returns
 returns c =
     let l = c.loop-n in
-    runs_to c.args.block.now c.args.most c.args.came c.args.key.now c.args.keys.now c.args.rows.now l.p l.used l.n l.key l.keys l.rows c.ran_to-2.ensures l.invariant.6 l.invariant.7 l.invariant.0 (l.invariant.2 ∙ sym c.requires.0.whole) l.invariant.8
+    runs_to c.args.block.now c.args.most c.args.came c.args.key.now c.args.keys.now c.args.rows.now l.p l.used l.n l.key l.keys l.rows c.ran_to-2.ensures l.invariant.6 l.invariant.7 l.invariant.0 (l.invariant.2 ∙ sym c.requires.roomy.whole) l.invariant.8

@@ -8,14 +8,14 @@ use Rattle.block_rows_v2.proofs.run_here.Goals as goal
 
 pub returns-then-g-eq0 : goal.returns-then-g-eq0
 returns-then-g-eq0 c =
-    record { more = omega arith; few = c.requires.0.few; on = λ ks rs c₀ g. g; long = refl; kept = λ z. refl; still = λ t. refl; ends = λ t room. absurd (clash t c.requires.1) }
+    record { more = omega arith; few = c.requires.roomy.few; on = λ ks rs c₀ g. g; long = refl; kept = λ z. refl; still = λ t. refl; ends = λ t room. absurd (clash t c.requires.ended_value) }
 
 pub returns-then-g-place : goal.returns-then-g-place
 returns-then-g-place c =
     let b = c.bounds_of-b in
     record {
       more = omega arith;
-      few = c.requires.0.few;
+      few = c.requires.roomy.few;
       on = λ ks rs c₀ g. g;
       long = refl;
       kept = λ z. refl;
@@ -25,4 +25,4 @@ returns-then-g-place c =
 
 pub run-requires : goal.run-requires
 run-requires c =
-    (c.requires.0, bounds-inside c.args.came.place _ c.args.block.now c.bounds_of-b.ensures c.if-g-eq0.false)
+    record { roomy = c.requires.roomy; inside = bounds-inside c.args.came.place _ c.args.block.now c.bounds_of-b.ensures c.if-g-eq0.false }

@@ -25,18 +25,18 @@ here n = n.args.here
 abbrev rest : (n : After-next_in_place-moved) → List ℕ
 rest n = mid_of (n.args.here).used (length n.args.keys.now - (n.args.here).used) n.args.keys.now
 
-row-found : (k : In-Found) → Finds k.args.block.now (view_in (k.args.here).place k.args.key.now) (view_in k.in-Found.place k.next_in_place-moved.new.0) k.in-Found.region k.in-Found.number (row_from k.in-Found.row) (mid_of (k.args.here).used (length k.args.keys.now - (k.args.here).used) k.args.keys.now) k.next_in_place-moved.new.1.1.1.0
-row-found k = moved-finds _ _ _ _ _ _ _ k.requires.0.whole k.next_in_place-moved.ensures k.in-Found.is
+row-found : (k : In-Found) → Finds k.args.block.now (view_in (k.args.here).place k.args.key.now) (view_in k.in-Found.place k.next_in_place-moved.new.key) k.in-Found.region k.in-Found.number (row_from k.in-Found.row) (mid_of (k.args.here).used (length k.args.keys.now - (k.args.here).used) k.args.keys.now) k.next_in_place-moved.new.out
+row-found k = moved-finds _ _ _ _ _ _ _ k.requires.roomy.whole k.next_in_place-moved.ensures k.in-Found.is
 
 pub returns-then-here : goal.returns-then-here
 returns-then-here c =
     let h = c.args.here in
     λ most key₀ keys₀ rows₀ c₀ few kept g.
-    gives-stop g (wrote-length g.keys-are) c.requires.0.inside most key₀ refl (omega arith) (omega arith) h.place c.marked.result c.args.key.now refl
-    (c.requires.1 c.if-here.true _ ∙ ap (λ (q : Place). ok (step_is (view_in q c.args.key.now) done)) (sym c.marked.ensures)) c.stop.ensures
+    gives-stop g (wrote-length g.keys-are) c.requires.roomy.inside most key₀ refl (omega arith) (omega arith) h.place c.marked.result c.args.key.now refl
+    (c.requires.ended c.if-here.true _ ∙ ap (λ (q : Place). ok (step_is (view_in q c.args.key.now) done)) (sym c.marked.ensures)) c.stop.ensures
 
 pub put_nth-requires : goal.put_nth-requires
-put_nth-requires c = c.requires.0.words
+put_nth-requires c = c.requires.roomy.words
 
 pub overflow_add-result : goal.overflow_add-result
 overflow_add-result c = omega (arith, (row-found (goal.at.overflow_add-result c).In-Found).well.fits)
@@ -44,33 +44,33 @@ overflow_add-result c = omega (arith, (row-found (goal.at.overflow_add-result c)
 pub overflow_add-result-in-Found : goal.overflow_add-result-in-Found
 overflow_add-result-in-Found c =
     let long : length c.args.keys.now < 2 ^ 64 = c.well_formed.1.1.0.0 in
-    omega (arith, key_fits c.args.here.used c.args.keys.now c.requires.0.inside (row-found (goal.at.overflow_add-result-in-Found c).In-Found))
+    omega (arith, key_fits c.args.here.used c.args.keys.now c.requires.roomy.inside (row-found (goal.at.overflow_add-result-in-Found c).In-Found))
 
 pub overflow_add-result-in-Found-2 : goal.overflow_add-result-in-Found-2
 overflow_add-result-in-Found-2 c =
     let long : length c.args.rows.now < 2 ^ 64 = c.well_formed.1.1.1.0.0 in
-    omega (arith, c.requires.0.words)
+    omega (arith, c.requires.roomy.words)
 
 pub returns-in-Found : goal.returns-in-Found
 returns-in-Found c =
-    let same : length c.next_in_place-moved.new.0 ≡ length c.args.key.now = c.next_in_place-moved.auto.0 in
-    let more : RunsOn c.args.block.now ((here (goal.at.returns-in-Found c).After-next_in_place-moved).count + 1) (here (goal.at.returns-in-Found c).After-next_in_place-moved) c.args.key.now c.args.keys.now c.args.rows.now (ran_to_of c.in-Found.place ((here (goal.at.returns-in-Found c).After-next_in_place-moved).used + (c.in-Found.row.shared + c.in-Found.row.suffix_len)) ((here (goal.at.returns-in-Found c).After-next_in_place-moved).count + 1)) c.next_in_place-moved.new.0 (put_mid (here (goal.at.returns-in-Found c).After-next_in_place-moved).used (length c.args.keys.now - (here (goal.at.returns-in-Found c).After-next_in_place-moved).used) c.args.keys.now c.next_in_place-moved.new.1.1.1.0) c.put_nth.new.0 =
+    let same : length c.next_in_place-moved.new.key ≡ length c.args.key.now = c.next_in_place-moved.auto.key in
+    let more : RunsOn c.args.block.now ((here (goal.at.returns-in-Found c).After-next_in_place-moved).count + 1) (here (goal.at.returns-in-Found c).After-next_in_place-moved) c.args.key.now c.args.keys.now c.args.rows.now (ran_to_of c.in-Found.place ((here (goal.at.returns-in-Found c).After-next_in_place-moved).used + (c.in-Found.row.shared + c.in-Found.row.suffix_len)) ((here (goal.at.returns-in-Found c).After-next_in_place-moved).count + 1)) c.next_in_place-moved.new.key (put_mid (here (goal.at.returns-in-Found c).After-next_in_place-moved).used (length c.args.keys.now - (here (goal.at.returns-in-Found c).After-next_in_place-moved).used) c.args.keys.now c.next_in_place-moved.new.out) c.put_nth.new.rows =
     runs_to c.args.block.now ((here (goal.at.returns-in-Found c).After-next_in_place-moved).count + 1) (here (goal.at.returns-in-Found c).After-next_in_place-moved) c.args.key.now c.args.keys.now c.args.rows.now _ _ _ _ _ _ refl (omega arith) (omega arith)
-    (λ ks rs c₀ g. turn g (wrote-length g.keys-are) c.requires.0.inside (row-found (goal.at.returns-in-Found c).In-Found) c.put_nth.ensures) same (λ z. absurd (omega arith)) in
+    (λ ks rs c₀ g. turn g (wrote-length g.keys-are) c.requires.roomy.inside (row-found (goal.at.returns-in-Found c).In-Found) c.put_nth.ensures) same (λ z. absurd (omega arith)) in
     (more, refl, refl)
 
 pub returns-in-Done : goal.returns-in-Done
 returns-in-Done c =
     let h = here (goal.at.returns-in-Done c).After-next_in_place-moved in
-    let e = moved_ends _ _ _ _ _ _ _ c.requires.0.whole c.next_in_place-moved.ensures c.in-Done.is in
+    let e = moved_ends _ _ _ _ _ _ _ c.requires.roomy.whole c.next_in_place-moved.ensures c.in-Done.is in
     λ most key₀ keys₀ rows₀ c₀ few kept g.
-    gives-stop g (wrote-length g.keys-are) c.requires.0.inside most key₀ (back g (wrote-length g.keys-are) c.requires.0.inside e.1) (omega arith) (omega arith) h.place c.in-Done.place c.next_in_place-moved.new.0
-    (done-stays c.args.block.now (length (rest (goal.at.returns-in-Done c).After-next_in_place-moved)) h.place c.in-Done.place c.args.key.now c.next_in_place-moved.new.0 c.requires.0.whole e.0) e.0 c.stop-in-Done.ensures
+    gives-stop g (wrote-length g.keys-are) c.requires.roomy.inside most key₀ (back g (wrote-length g.keys-are) c.requires.roomy.inside e.1) (omega arith) (omega arith) h.place c.in-Done.place c.next_in_place-moved.new.key
+    (done-stays c.args.block.now (length (rest (goal.at.returns-in-Done c).After-next_in_place-moved)) h.place c.in-Done.place c.args.key.now c.next_in_place-moved.new.key c.requires.roomy.whole e.0) e.0 c.stop-in-Done.ensures
 
 pub returns-in-Refused : goal.returns-in-Refused
 returns-in-Refused c =
     let h = here (goal.at.returns-in-Refused c).After-next_in_place-moved in
-    let e = moved-refuses _ _ _ _ _ _ _ c.requires.0.whole c.next_in_place-moved.ensures c.in-Refused.is in
+    let e = moved-refuses _ _ _ _ _ _ _ c.requires.roomy.whole c.next_in_place-moved.ensures c.in-Refused.is in
     λ most key₀ keys₀ rows₀ c₀ few kept g.
-    gives-refusal g (wrote-length g.keys-are) c.requires.0.inside most key₀ (back g (wrote-length g.keys-are) c.requires.0.inside e.2) (omega arith) (omega arith) h.place c.in-Refused.refusal c.next_in_place-moved.new.0
+    gives-refusal g (wrote-length g.keys-are) c.requires.roomy.inside most key₀ (back g (wrote-length g.keys-are) c.requires.roomy.inside e.2) (omega arith) (omega arith) h.place c.in-Refused.refusal c.next_in_place-moved.new.key
     (ap (view_in h.place) e.1) e.0 (λ z. e.1 ∙ kept z) c.refuse.ensures

@@ -9,7 +9,7 @@ pub returns-then-first_key-ne-MAX_KEY : goal.returns-then-first_key-ne-MAX_KEY
 returns-then-first_key-ne-MAX_KEY c = grows_strange _ _ _ _ _ _ c.if-first_key-ne-MAX_KEY.true
 
 pub grow-requires : goal.grow-requires
-grow-requires c = (c.if-first_key-ne-MAX_KEY.false, tested-is _ _ _ _ _ (rw c.in-Row.is at (c.accept_row-planned.ensures c.args.value.now refl)))
+grow-requires c = record { first_key_len = c.if-first_key-ne-MAX_KEY.false; tested = tested-is _ _ _ _ _ (rw c.in-Row.is at (c.accept_row-planned.ensures c.args.value.now refl)) }
 
 pub returns-in-Row : goal.returns-in-Row
 returns-in-Row c = grows _ _ _ _ _ _ c.if-first_key-ne-MAX_KEY.false (tested-is _ _ _ _ _ (rw c.in-Row.is at (c.accept_row-planned.ensures c.args.value.now refl))) c.grow.ensures

@@ -13,7 +13,7 @@ use Rattle.build_in_place_v1.proofs.grow.Goals as goal
 accepted : (c : Start)
     → let a = c.args in Accepted (view_from a.s a.first_key.now) (length a.data.now) (length a.offsets.now) a.key.now (fields_from a.row a.value.now)
     (grown (view_from a.s a.first_key.now) a.key.now (fields_from a.row a.value.now))
-accepted c = let a = c.args in tells a.s a.first_key.now a.data.now a.offsets.now a.key.now (fields_from a.row a.value.now) c.requires.1
+accepted c = let a = c.args in tells a.s a.first_key.now a.data.now a.offsets.now a.key.now (fields_from a.row a.value.now) c.requires.tested
 
 pub overflow_cast-offsets : goal.overflow_cast-offsets
 overflow_cast-offsets c = omega (arith, (accepted (goal.at.overflow_cast-offsets c).Start).near)
@@ -25,13 +25,13 @@ pub bounds-offsets-rows : goal.bounds-offsets-rows
 bounds-offsets-rows c = (accepted (goal.at.bounds-offsets-rows c).Start).place
 
 pub write_row-used-requires : goal.write_row-used-requires
-write_row-used-requires c = let a = c.args in tested-fits a.s a.first_key.now a.data.now a.offsets.now a.key.now (fields_from a.row a.value.now) c.requires.1
+write_row-used-requires c = let a = c.args in tested-fits a.s a.first_key.now a.data.now a.offsets.now a.key.now (fields_from a.row a.value.now) c.requires.tested
 
 pub keep_first-first_key_len-requires : goal.keep_first-first_key_len-requires
-keep_first-first_key_len-requires c = omega (arith, (accepted (goal.at.keep_first-first_key_len-requires c).Start).key_fits, c.requires.0)
+keep_first-first_key_len-requires c = omega (arith, (accepted (goal.at.keep_first-first_key_len-requires c).Start).key_fits, c.requires.first_key_len)
 
 pub overflow_add-result : goal.overflow_add-result
 overflow_add-result c = omega (arith, (accepted (goal.at.overflow_add-result c).Start).state.allowed)
 
 pub returns : goal.returns
-returns c = let a = c.args in grew a.s a.first_key.now a.data.now a.offsets.now a.key.now (fields_from a.row a.value.now) c.requires.1 c.write_row-used.ensures c.keep_first-first_key_len.ensures
+returns c = let a = c.args in grew a.s a.first_key.now a.data.now a.offsets.now a.key.now (fields_from a.row a.value.now) c.requires.tested c.write_row-used.ensures c.keep_first-first_key_len.ensures

@@ -6,7 +6,7 @@ use mathlib.Core.List.{List}
 use native.Mathlib.Omega.{arith}
 use lib.ListN.{length, replicate, length-drop, length-replicate}
 use Rattle.layout.specs.Res.{ok}
-use Rattle.layout_v1.specs.Builder.{Builder, state_tests}
+use Rattle.layout_v1.specs.Builder.{state_tests}
 use Rattle.layout_v1.specs.Laws.Builder.{state-tells, fit-by}
 use Rattle.basics.specs.Answers.{no}
 use Rattle.row_flags.specs.Says.{fields_from}
@@ -14,19 +14,16 @@ use Rattle.row_size_v2.specs.Says.{says_sized, sized_refusal}
 use Rattle.state_v1.specs.Says.{view_from}
 use Rattle.finish_in_place_v2.proofs.Ends.{state-refused, state-taken}
 use Rattle.build_in_place_v1.proofs.Tests.{Measured, share-whole, plan_unsized, plan_past, plan_first, plan_fits, plan_over, size_small, most_row}
-use Rattle.build_in_place_v1.proofs.plan_row.Goals.{After-encoded_size-entry_size, Else-is_bad_state, Start}
+use Rattle.build_in_place_v1.proofs.plan_row.Goals.{After-encoded_size-entry_size, Else-is_bad_state}
 use Rattle.build_in_place_v1.proofs.plan_row.Goals as goal
-
-abbrev view : Start → Builder
-view s = view_from s.args.s s.args.first_key.now
 
 state : (c : Else-is_bad_state) → state_tests (view_from c.args.s c.args.first_key.now) c.args.data_len c.args.places_len ≡ ok tt
 state c = state-taken _ (c.is_bad_state.ensures c.args.first_key.now) c.if-is_bad_state.false
 
 -- for a value of this length, whatever its bytes are
-measured : (c : After-encoded_size-entry_size) (v : List ℕ) (long : length v ≡ c.args.value_len) → Measured (view (start (c v long))) (start (c v long)).args.data-len (start (c v long)).args.places-len (start (c v long)).args.key.now (fields_from (start (c v long)).args.row v)
+measured : (c : After-encoded_size-entry_size) (v : List ℕ) (long : length v ≡ c.args.value_len) → Measured (view_from c.args.s c.args.first_key.now) c.args.data_len c.args.places_len c.args.key.now (fields_from c.args.row v)
     c.compute_prefix-shared.result (says_sized c.encoded_size-entry_size.result)
-measured c v long = record { state = state (c v long); share = c.compute_prefix-shared.ensures; size_is = rw (length-drop, long) (sym c.encoded_size-entry_size.ensures) }
+measured c v long = record { state = (state-taken _ (c.is_bad_state.ensures c.args.first_key.now) c.if-is_bad_state.false); share = c.compute_prefix-shared.ensures; size_is = rw (length-drop, long) (sym c.encoded_size-entry_size.ensures) }
 
 -- no sum with its size wraps: some value has this length
 small : (c : After-encoded_size-entry_size) {n : ℕ} → says_sized c.encoded_size-entry_size.result ≡ ok n → n ≤ most_row

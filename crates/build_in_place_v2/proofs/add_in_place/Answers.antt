@@ -21,7 +21,7 @@ returns-then-found-eq0 c =
     (refusal-told c.accept_row-planned.result (c.accept_row-planned.ensures _ refl) ((c.find_row-found.ensures _ refl).refused c.if-found-eq0.true) c.planned_refusal.ensures)
 
 pub grow-requires : goal.grow-requires
-grow-requires c = (c.if-last_key-ne-MAX_KEY.false, tested-is _ _ _ _ _ ((c.find_row-found.ensures _ refl).good c.if-found-eq0.false))
+grow-requires c = record { last_key_len = c.if-last_key-ne-MAX_KEY.false; tested = tested-is _ _ _ _ _ ((c.find_row-found.ensures _ refl).good c.if-found-eq0.false) }
 
 pub returns : goal.returns
 returns c = grows _ _ _ _ _ _ c.if-last_key-ne-MAX_KEY.false (tested-is _ _ _ _ _ ((c.find_row-found.ensures _ refl).good c.if-found-eq0.false)) c.grow.ensures

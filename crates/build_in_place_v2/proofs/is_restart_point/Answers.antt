@@ -4,7 +4,7 @@ use Rattle.finish_in_place_v2.proofs.Counts.{product_small, at-restart}
 use Rattle.build_in_place_v2.proofs.is_restart_point.Goals as goal
 
 pub overflow_mul-result : goal.overflow_mul-result
-overflow_mul-result c = omega (arith, product_small c.requires.0.2 c.requires.0.1)
+overflow_mul-result c = omega (arith, product_small c.requires.le_restart_interval.2 c.requires.le_restart_interval.1)
 
 pub returns : goal.returns
-returns c = at-restart _ _ c.requires.0.0 _ c.requires.1
+returns c = at-restart _ _ c.requires.le_restart_interval.0 _ c.requires.restarts_value

@@ -6,7 +6,7 @@ use mathlib.Core.List.{List}
 use native.Mathlib.Omega.{arith}
 use lib.ListN.{length, replicate, length-drop, length-replicate}
 use Rattle.layout.specs.Res.{ok}
-use Rattle.layout.specs.Builder.{Builder, state_tests}
+use Rattle.layout.specs.Builder.{state_tests}
 use Rattle.layout.specs.Laws.Builder.{state-tells}
 use Rattle.basics.specs.Answers.{no}
 use Rattle.row_flags.specs.Says.{fields_from}
@@ -14,21 +14,18 @@ use Rattle.row_size_v2.specs.Says.{says_sized, sized_refusal}
 use Rattle.state_v2.specs.Says.{view_from}
 use Rattle.finish_in_place_v2.proofs.Ends.{state-refused, state-taken}
 use Rattle.build_in_place_v2.proofs.Tests.{Measured, share-fits, plan_state, plan_unsized, plan_past, plan_fits, plan_over, size_small, most_row}
-use Rattle.build_in_place_v2.proofs.plan_row.Goals.{After-entry_encoded_size-entry_size, Else-is_bad_state, Start}
+use Rattle.build_in_place_v2.proofs.plan_row.Goals.{After-entry_encoded_size-entry_size, Else-is_bad_state}
 use Rattle.build_in_place_v2.proofs.plan_row.Goals as goal
-
-abbrev view : Start → Builder
-view s = view_from s.args.s s.args.last_key.now
 
 state : (c : Else-is_bad_state) → state_tests (view_from c.args.s c.args.last_key.now) c.args.data_len c.args.places_len ≡ ok tt
 state c = state-taken _ (c.is_bad_state.ensures c.args.last_key.now) c.if-is_bad_state.false
 
 -- for a value of this length, whatever its bytes are
-measured : (c : After-entry_encoded_size-entry_size) (v : List ℕ) (long : length v ≡ c.args.value_len) → Measured (view (start (c v long))) (start (c v long)).args.data-len (start (c v long)).args.places-len (start (c v long)).args.key.now (fields_from (start (c v long)).args.row v) c.shared_bytes-shared.result
+measured : (c : After-entry_encoded_size-entry_size) (v : List ℕ) (long : length v ≡ c.args.value_len) → Measured (view_from c.args.s c.args.last_key.now) c.args.data_len c.args.places_len c.args.key.now (fields_from c.args.row v) c.shared_bytes-shared.result
     c.is_restart_point-restart.result (says_sized c.entry_encoded_size-entry_size.result)
 measured c v long =
     record {
-      state = state (c v long);
+      state = (state-taken _ (c.is_bad_state.ensures c.args.last_key.now) c.if-is_bad_state.false);
       mark = c.is_restart_point-restart.ensures;
       share = c.shared_bytes-shared.ensures;
       size_is = rw (length-drop, long) (sym c.entry_encoded_size-entry_size.ensures);
@@ -44,7 +41,7 @@ pub returns-then-is_bad_state : goal.returns-then-is_bad_state
 returns-then-is_bad_state c v long = plan_state _ _ _ _ _ (state-refused _ (c.is_bad_state.ensures _) c.if-is_bad_state.true)
 
 pub is_restart_point-restart-requires : goal.is_restart_point-restart-requires
-is_restart_point-restart-requires c = let o = state-tells _ _ _ tt (state (goal.at.is_restart_point-restart-requires c).Else-is_bad_state) in ((o.some, o.few, o.allowed), o.counted)
+is_restart_point-restart-requires c = let o = state-tells _ _ _ tt (state (goal.at.is_restart_point-restart-requires c).Else-is_bad_state) in record { le_restart_interval = (o.some, o.few, o.allowed); restarts_value = o.counted }
 
 pub shared_bytes-shared-requires : goal.shared_bytes-shared-requires
 shared_bytes-shared-requires c = omega (arith, (state-tells _ _ _ tt (state (goal.at.shared_bytes-shared-requires c).Else-is_bad_state)).last_fits, c.requires)

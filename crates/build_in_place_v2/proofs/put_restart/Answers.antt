@@ -13,12 +13,12 @@ use Rattle.build_in_place_v2.proofs.put_restart.Goals as goal
 
 place : (c : Then-restart) → c.args.count < length c.args.restarts.now
 place c =
-    let h : leb (length c.args.restarts.now) c.args.count ≡ false = rw c.if-restart.true at c.requires.1 in
+    let h : leb (length c.args.restarts.now) c.args.count ≡ false = rw c.if-restart.true at c.requires.count_value in
     leb-false (length c.args.restarts.now) c.args.count h
 
 pub overflow_cast-restarts : goal.overflow_cast-restarts
 overflow_cast-restarts c =
-    let h : ltb max_offset c.args.used ≡ false = rw c.if-restart.true at c.requires.0 in
+    let h : ltb max_offset c.args.used ≡ false = rw c.if-restart.true at c.requires.used_value in
     omega (arith, ltb-false max_offset c.args.used h)
 
 pub offset_bounds-restarts-count : goal.offset_bounds-restarts-count

@@ -14,7 +14,7 @@ whole n = search rules
 
 -- the row that a turn finds
 row-found : (k : In-Found) → let l = k.loop-rows in
-    Finds k.args.block.now (view_of l.c) (view_of k.next-next.result.iterator) k.in-Found.region k.in-Found.number (row_from k.in-Found.row) k.next-next.new.1.1.0
+    Finds k.args.block.now (view_of l.c) (view_of k.next-next.result.iterator) k.in-Found.region k.in-Found.number (row_from k.in-Found.row) k.next-next.new.out
 row-found k =
     let l = k.loop-rows in
     let n = k.next-next in

@@ -25,7 +25,7 @@ fits k =
 
 pub loop-rows-init : goal.loop-rows-init
 loop-rows-init c =
-    ((λ want w. w), c.requires.1, c.requires.0, omega arith)
+    ((λ want w. w), c.requires.inside, c.requires.key_len, omega arith)
 
 pub slice_bounds-plain_at-end : goal.slice_bounds-plain_at-end
 slice_bounds-plain_at-end c =
@@ -54,7 +54,7 @@ overflow_add-p c =
 pub returns-then-g-row : goal.returns-then-g-row
 returns-then-g-row c =
     let l = c.loop-rows in
-    let on : (want : Res Walk) → Walking want c.args.block.now c.args.limit (view_in c.args.came.place c.args.key.now) c.args.came.rows c.args.came.sum → Walking want c.args.block.now c.args.limit (view_in (moved_to l.p (l.p.region + 1) c.plain_at-row.result.next 0 0) c.pass_plain-sum.new.0) (l.rows + 1) c.pass_plain-sum.result =
+    let on : (want : Res Walk) → Walking want c.args.block.now c.args.limit (view_in c.args.came.place c.args.key.now) c.args.came.rows c.args.came.sum → Walking want c.args.block.now c.args.limit (view_in (moved_to l.p (l.p.region + 1) c.plain_at-row.result.next 0 0) c.pass_plain-sum.new.key) (l.rows + 1) c.pass_plain-sum.result =
     λ want w. plain_over c.args.block.now c.args.b.size (region_from c.args.b.region) l.p l.key l.invariant.1 l.invariant.2 c.plain_at-row.result (share-is (goal.at.returns-then-g-row c).Joined-at-g) c.plain_at-row.ensures c.if-row-eq0.false
     c.loop-rows-test.true c.pass_plain-sum.ensures c.if-g-row.true (l.invariant.0 want w) in
     record { most = omega (arith, l.invariant.3); on = on }

@@ -8,4 +8,4 @@ returns-then-g-eq0 c = record { most = omega arith; on = λ want w. w }
 
 pub run-requires : goal.run-requires
 run-requires c =
-    (search rules, bounds-inside c.args.came.place _ c.args.block.now c.bounds_of-b.ensures c.if-g-eq0.false)
+    record { key_len = search rules; inside = bounds-inside c.args.came.place _ c.args.block.now c.bounds_of-b.ensures c.if-g-eq0.false }

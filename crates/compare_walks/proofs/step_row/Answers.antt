@@ -9,11 +9,11 @@ use Rattle.compare_walks.proofs.step_row.Goals.{In-Found}
 use Rattle.compare_walks.proofs.step_row.Goals as goal
 
 -- the row that was found, and the bytes that its key went to
-row-found : (k : In-Found) → Finds k.args.block.now (view_in k.args.here.place k.args.carried.now) (view_in k.in-Found.place k.next_in_place-moved.last.0) k.in-Found.region k.in-Found.number (row_from k.in-Found.row) k.next_in_place-moved.last.1.1.1.0
+row-found : (k : In-Found) → Finds k.args.block.now (view_in k.args.here.place k.args.carried.now) (view_in k.in-Found.place k.next_in_place-moved.new.key) k.in-Found.region k.in-Found.number (row_from k.in-Found.row) k.next_in_place-moved.new.out
 row-found k = moved-finds _ _ _ _ _ _ _ k.requires.0 k.requires.1 k.next_in_place-moved.ensures k.in-Found.is
 
-long : (k : In-Found) → length k.next_in_place-moved.last.1.1.1.0 ≡ max_key
-long k = k.next_in_place-moved.kept.1.1.1.0 ∙ k.requires.1
+long : (k : In-Found) → length k.next_in_place-moved.new.out ≡ max_key
+long k = k.next_in_place-moved.auto.out ∙ k.requires.1
 
 pub with_row-requires : goal.with_row-requires
 with_row-requires c =

@@ -5,25 +5,25 @@ use Rattle.compare_walks.proofs.walk_rows.Goals.{After-run_here-here, After-step
 use Rattle.compare_walks.proofs.walk_rows.Goals as goal
 
 -- past the plain rows of a region
-so_far : (h : After-run_here-here) → RunsOn h.args.block.now h.args.limit h.args.came h.args.carried.now h.run_here-here.result h.run_here-here.last.1.0
+so_far : (h : After-run_here-here) → RunsOn h.args.block.now h.args.limit h.args.came h.args.carried.now h.run_here-here.result h.run_here-here.new.key
 so_far h = runs_then h.loop-here.invariant.0 h.run_here-here.ensures
 
-whole : (h : After-run_here-here) → length h.run_here-here.last.1.0 ≡ length h.args.carried.now
-whole h = h.run_here-here.kept.1.0 ∙ h.loop-here.invariant.1
+whole : (h : After-run_here-here) → length h.run_here-here.new.key ≡ length h.args.carried.now
+whole h = h.run_here-here.auto.key ∙ h.loop-here.invariant.1
 
 -- before a step
 few : (n : Then-here-before) → n.run_here-here.result.rows < n.args.limit
 few n = omega (arith, n.if-here-before.true, n.loop-here-test.true)
 
 -- past it
-made : (t : After-step_row-went) → Goes t.args.block.now t.args.limit t.run_here-here.result t.run_here-here.last.1.0 t.step_row-went.result t.step_row-went.last.1.0
+made : (t : After-step_row-went) → Goes t.args.block.now t.args.limit t.run_here-here.result t.run_here-here.new.key t.step_row-went.result t.step_row-went.new.carried
 made t = t.step_row-went.ensures.0 t.args.limit (omega (arith, t.if-here-before.true, t.loop-here-test.true))
 
-carried-kept : (t : After-step_row-went) → length t.step_row-went.last.1.0 ≡ length t.args.carried.now
-carried-kept t = t.step_row-went.kept.1.0 ∙ (t.run_here-here.kept.1.0 ∙ t.loop-here.invariant.1)
+carried-kept : (t : After-step_row-went) → length t.step_row-went.new.carried ≡ length t.args.carried.now
+carried-kept t = t.step_row-went.auto.carried ∙ (t.run_here-here.auto.key ∙ t.loop-here.invariant.1)
 
-out-kept : (t : After-step_row-went) → length t.step_row-went.last.1.1.0 ≡ length t.args.out.now
-out-kept t = t.step_row-went.kept.1.1.0 ∙ t.loop-here.invariant.2
+out-kept : (t : After-step_row-went) → length t.step_row-went.new.out ≡ length t.args.out.now
+out-kept t = t.step_row-went.auto.out ∙ t.loop-here.invariant.2
 
 pub loop-here-init : goal.loop-here-init
 loop-here-init c = (record { most = omega arith; on = λ want w. w }, refl, refl)

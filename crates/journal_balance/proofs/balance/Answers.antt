@@ -42,10 +42,7 @@ returns-then-journal-at c =
 
 pub counted-s-requires : goal.counted-s-requires
 counted-s-requires c =
-    (
-      (refl, omega (arith, c.length_of-n.ensures), omega (arith, c.length_of-n.ensures), omega arith, omega (arith, c.loop-at.invariant.2.small)),
-      c.loop-at.invariant.3,
-    )
+    record { kind_value = (refl, omega (arith, c.length_of-n.ensures), omega (arith, c.length_of-n.ensures), omega arith, omega (arith, c.loop-at.invariant.2.small)); keeps = c.loop-at.invariant.3 }
 
 pub loop-at-preserved : goal.loop-at-preserved
 loop-at-preserved c =
@@ -59,8 +56,8 @@ loop-at-preserved c =
       omega arith,
       rw c.length_of-n.ensures
           (balancing_more d c.args.card c.loop-at.s at b _ h some fits
-          (c.counted-s.ensures.0.sums b.before (body_at (kind_at d at) d at) (at + length_of (kind_at d at)) b.passed (found-whole d at h some fits) b.closed) c.counted-s.ensures.0.small),
-      rw c.length_of-n.ensures c.counted-s.ensures.1,
+          (c.counted-s.ensures.counts_one.sums b.before (body_at (kind_at d at) d at) (at + length_of (kind_at d at)) b.passed (found-whole d at h some fits) b.closed) c.counted-s.ensures.counts_one.small),
+      rw c.length_of-n.ensures c.counted-s.ensures.keeps_2,
     )
 
 pub less-requires-2 : goal.less-requires-2

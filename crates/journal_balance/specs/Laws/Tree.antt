@@ -15,9 +15,9 @@ use Rattle.journal_balance.specs.Laws.Walk.{walk-le, walk_more, walk-over, walk-
 
 -- ---- what was passed is one list
 
-passed-one : {d : List ℕ} {end at : ℕ} {all all' before : List Record} → Walk d end all at before → Walk d end all' at before → all ≡ all'
+passed-one : {d : List ℕ} {end : ℕ} {all : List Record} {at : ℕ} {all' before : List Record} → Walk d end all at before → Walk d end all' at before → all ≡ all'
 passed-one walk_here v = sym (walk-over v (omega arith))
-passed-one {d} {end} {at} {all} {all'} {before} (step {next} {r} e w) v =
+passed-one {d} {end} {all} {at} {all'} {before} (step {next} {r} e w) v =
     let l : at < end = let m = found-moves d at r next e in omega (arith, walk-le w) in
     walk-rest v l λ q next' f u.
     let same : q ≡ r = cc in

@@ -15,16 +15,16 @@ starts : (e : Else-end-at) → let a = e.args in a.at + 17 ≤ length a.s.now
 starts e = let a = e.args in plain-starts a.s.now a.at a.end 0 e.if-end-s.false e.if-end-at.false
 
 shared-is : (k : After-two-unshared) → k.two-shared.result ≡ spelt 2 k.args.s.now k.args.at
-shared-is k = let h = starts k in bytes-spelt 2 _ _ k.two-shared.ensures (omega arith)
+shared-is k = let h = (let a = k.args in plain-starts a.s.now a.at a.end 0 k.if-end-s.false k.if-end-at.false) in bytes-spelt 2 _ _ k.two-shared.ensures (omega arith)
 
 unshared-is : (k : After-two-unshared) → k.two-unshared.result ≡ spelt 2 k.args.s.now (k.args.at + 2)
-unshared-is k = let h = starts k in bytes-spelt 2 _ _ k.two-unshared.ensures (omega arith)
+unshared-is k = let h = (let a = k.args in plain-starts a.s.now a.at a.end 0 k.if-end-s.false k.if-end-at.false) in bytes-spelt 2 _ _ k.two-unshared.ensures (omega arith)
 
 room : (e : Else-most-shared) → let a = e.args in (plain_value a.at e.two-unshared.result ≤ a.end) × (a.end ≤ length a.s.now)
-room e = plain-room _ _ _ _ e.if-end-s.false e.if-end-at.false _ _ (shared-is e) (unshared-is e) e.if-most-shared.false
+room e = plain-room _ _ _ _ e.if-end-s.false e.if-end-at.false _ _ (let h = (let a = e.args in plain-starts a.s.now a.at a.end 0 e.if-end-s.false e.if-end-at.false) in bytes-spelt 2 _ _ e.two-shared.ensures (omega arith)) (let h = (let a = e.args in plain-starts a.s.now a.at a.end 0 e.if-end-s.false e.if-end-at.false) in bytes-spelt 2 _ _ e.two-unshared.ensures (omega arith)) e.if-most-shared.false
 
 written_is : (k : After-four-written) → let a = k.args in k.four-written.result ≡ spelt 4 a.s.now (plain_value a.at k.two-unshared.result - 4)
-written_is k = let h = room k in bytes-spelt 4 _ _ k.four-written.ensures (omega (arith, h.0, h.1))
+written_is k = let h = (plain-room _ _ _ _ k.if-end-s.false k.if-end-at.false _ _ (let h = (let a = k.args in plain-starts a.s.now a.at a.end 0 k.if-end-s.false k.if-end-at.false) in bytes-spelt 2 _ _ k.two-shared.ensures (omega arith)) (let h = (let a = k.args in plain-starts a.s.now a.at a.end 0 k.if-end-s.false k.if-end-at.false) in bytes-spelt 2 _ _ k.two-unshared.ensures (omega arith)) k.if-most-shared.false) in bytes-spelt 4 _ _ k.four-written.ensures (omega (arith, h.0, h.1))
 
 pub returns-then-end-s : goal.returns-then-end-s
 returns-then-end-s c = c.not_plain.ensures ∙ plain-short _ _ _ _ c.if-end-s.true

@@ -3,20 +3,17 @@
 use Prim.Native.Nat.{◌≤◌}
 use mathlib.Core.Path.{◌≡◌, refl}
 use Rattle.layout.specs.Res.{ok}
-use Rattle.layout.specs.RowRead.{Lengths, lengths_is, lengths_at, may_share}
+use Rattle.layout.specs.RowRead.{lengths_is, lengths_at, may_share}
 use Rattle.layout.specs.Laws.RowExits.{head-no, head-share, head-empty, head-long, head-good}
 use Rattle.basics.specs.Answers.{yes, no}
 use Rattle.row_decode_v2.specs.Reading.{says_lengths, refusal_of_lengths}
 use Rattle.row_decode_v2.proofs.head_at.Goals.{Else-most-shared, In-Read}
 use Rattle.row_decode_v2.proofs.head_at.Goals as goal
 
-abbrev lengths : In-Read → Lengths
-lengths k = lengths_is k.in-Read.shared k.in-Read.unshared k.in-Read.value_len k.in-Read.suffix_at
-
-lengths_read : (k : In-Read) → let a = k.args in lengths_at a.s.now a.at ≡ ok (lengths k)
+lengths_read : (k : In-Read) → let a = k.args in lengths_at a.s.now a.at ≡ ok (lengths_is k.in-Read.shared k.in-Read.unshared k.in-Read.value_len k.in-Read.suffix_at)
 lengths_read k = yes says_lengths k.lengths_at-lengths.ensures k.in-Read.is
 
-shares : (e : Else-most-shared) → let a = e.args in (lengths e).shared ≤ may_share a.restart a.previous_len
+shares : (e : Else-most-shared) → let a = e.args in (lengths_is e.in-Read.shared e.in-Read.unshared e.in-Read.value_len e.in-Read.suffix_at).shared ≤ may_share a.restart a.previous_len
 shares e = rw e.may_share-most.ensures at e.if-most-shared.false
 
 pub returns-in_default : goal.returns-in_default

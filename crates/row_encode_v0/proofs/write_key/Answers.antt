@@ -14,7 +14,7 @@ rest suffix seq = big 2 (length suffix) ++ (suffix ++ big 8 seq)
 pub returns : goal.returns
 returns c =
     let after : List ℕ = rest c.args.key_suffix.now c.args.seq in
-    let first = put_one (room-first 0 (big 2 c.args.shared) after c.requires.1) c.put_u16.ensures c.place_after-a.ensures in
+    let first = put_one (room-first 0 (big 2 c.args.shared) after c.requires.seq_in_bounds) c.put_u16.ensures c.place_after-a.ensures in
     wrote_then first
-    (put_three (room_next after first c.requires.1) c.put_u16-2.ensures c.place_after-b.ensures c.copy_in.ensures c.place_after-c.ensures
+    (put_three (room_next after first c.requires.seq_in_bounds) c.put_u16-2.ensures c.place_after-b.ensures c.copy_in.ensures c.place_after-c.ensures
     c.put_u64.ensures c.place_after.ensures)

@@ -9,16 +9,13 @@ use Rattle.row_encode_v0.proofs.write_row.Goals as goal
 pub write_key-a-requires : goal.write_key-a-requires
 write_key-a-requires c =
     let a = c.args in
-    ((c.requires.0.0, c.requires.0.1), key-room a.shared a.key_suffix.now a.value.now a.row c.requires.1)
+    record { shared_bound = (c.requires.shared_bound.0, c.requires.shared_bound.1); seq_in_bounds = key-room a.shared a.key_suffix.now a.value.now a.row c.requires.value_in_bounds }
 
 pub write_value-requires : goal.write_value-requires
 write_value-requires c =
     let a = c.args in
-    let first = c.write_key-a.ensures in (
-      c.requires.0.2,
-      value_room a.shared a.key_suffix.now a.value.now a.row c.requires.1 first
-          (put_one (marks-room a.shared a.key_suffix.now a.value.now a.row c.requires.1 first) c.write_marks.ensures c.place_after-b.ensures),
-    )
+    let first = c.write_key-a.ensures in record { value_bound = c.requires.shared_bound.2; value_in_bounds = value_room a.shared a.key_suffix.now a.value.now a.row c.requires.value_in_bounds first
+          (put_one (marks-room a.shared a.key_suffix.now a.value.now a.row c.requires.value_in_bounds first) c.write_marks.ensures c.place_after-b.ensures) }
 
 pub returns : goal.returns
 returns c =
@@ -26,4 +23,4 @@ returns c =
     let first = c.write_key-a.ensures in
     wrote_as (sym (row-parts a.shared a.key_suffix.now a.value.now a.row))
     (wrote_then first
-    (wrote_then (put_one (marks-room a.shared a.key_suffix.now a.value.now a.row c.requires.1 first) c.write_marks.ensures c.place_after-b.ensures) c.write_value.ensures))
+    (wrote_then (put_one (marks-room a.shared a.key_suffix.now a.value.now a.row c.requires.value_in_bounds first) c.write_marks.ensures c.place_after-b.ensures) c.write_value.ensures))

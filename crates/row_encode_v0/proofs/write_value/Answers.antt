@@ -14,11 +14,11 @@ bytes_of v e = sym (ap (λ (k : Kind). value_bytes_of (says_kind k) v) e)
 
 pub put_value-requires : goal.put_value-requires
 put_value-requires c =
-    (rw c.in-Value.is at c.requires.0, rw c.in-Value.is at c.requires.1)
+    (rw c.in-Value.is at c.requires.value_bound, rw c.in-Value.is at c.requires.value_in_bounds)
 
 pub put_value-requires-in-Merge : goal.put_value-requires-in-Merge
 put_value-requires-in-Merge c =
-    (rw c.in-Merge.is at c.requires.0, rw c.in-Merge.is at c.requires.1)
+    (rw c.in-Merge.is at c.requires.value_bound, rw c.in-Merge.is at c.requires.value_in_bounds)
 
 pub returns-in-Value : goal.returns-in-Value
 returns-in-Value c = wrote_as (bytes_of _ c.in-Value.is) c.put_value.ensures
@@ -28,4 +28,4 @@ returns-in-Merge c = wrote_as (bytes_of _ c.in-Merge.is) c.put_value-in-Merge.en
 
 pub returns-in-Tombstone : goal.returns-in-Tombstone
 returns-in-Tombstone c =
-    wrote_as (bytes_of c.args.value.now c.in-Tombstone.is) (wrote_none _ _ (omega (arith, c.requires.1)))
+    wrote_as (bytes_of c.args.value.now c.in-Tombstone.is) (wrote_none _ _ (omega (arith, c.requires.value_in_bounds)))

@@ -26,7 +26,7 @@ write_row-requires c =
     let n = yes says_sized c.encoded_size-size.ensures c.in-Bytes.is in
     let a = c.args in
     let t = size-tells a.shared (length a.key_suffix.now) (says_kind a.row.kind) (length a.value.now) _ _ n in
-    ((omega (arith, t.key-small), omega (arith, t.key-small), omega (arith, t.value-small)), omega (arith, size-bytes a.shared a.key_suffix.now (fields_from a.row a.value.now) n, c.if-output-n.false))
+    record { shared_bound = (omega (arith, t.key-small), omega (arith, t.key-small), omega (arith, t.value-small)); value_in_bounds = omega (arith, size-bytes a.shared a.key_suffix.now (fields_from a.row a.value.now) n, c.if-output-n.false) }
 
 pub returns : goal.returns
 returns c =

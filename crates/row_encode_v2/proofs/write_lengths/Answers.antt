@@ -5,4 +5,4 @@ use Rattle.row_encode_v2.proofs.write_lengths.Goals as goal
 
 pub returns : goal.returns
 returns c =
-    put_three c.requires.1 c.encode_varint.ensures c.place_after-a.ensures c.encode_varint-2.ensures c.place_after-b.ensures c.encode_varint-3.ensures c.place_after.ensures
+    put_three c.requires.value_len_in_bounds c.encode_varint.ensures c.place_after-a.ensures c.encode_varint-2.ensures c.place_after-b.ensures c.encode_varint-3.ensures c.place_after.ensures

@@ -12,7 +12,7 @@ pub write_lengths-a-requires : goal.write_lengths-a-requires
 write_lengths-a-requires c =
     let a = c.args in
     let is = c.kept_len-kept.ensures.0 in
-    ((c.requires.0.0, c.requires.0.1, omega (arith, is, c.requires.0.2)), lengths-room a.shared a.key_suffix.now a.value.now a.row is c.requires.1)
+    record { shared_bound = (c.requires.shared_bound.0, c.requires.shared_bound.1, omega (arith, is, c.requires.shared_bound.2)); value_len_in_bounds = lengths-room a.shared a.key_suffix.now a.value.now a.row is c.requires.value_in_bounds }
 
 pub slice_bounds-write_body-end : goal.slice_bounds-write_body-end
 slice_bounds-write_body-end c = sym (length-take-le _ _ (omega arith))
@@ -20,7 +20,7 @@ slice_bounds-write_body-end c = sym (length-take-le _ _ (omega arith))
 pub write_body-b-requires : goal.write_body-b-requires
 write_body-b-requires c =
     let a = c.args in
-    body-room a.shared a.key_suffix.now a.value.now a.row c.kept_len-kept.ensures.0 c.requires.1 c.write_lengths-a.ensures
+    body-room a.shared a.key_suffix.now a.value.now a.row c.kept_len-kept.ensures.0 c.requires.value_in_bounds c.write_lengths-a.ensures
 
 pub returns : goal.returns
 returns c =
@@ -28,4 +28,4 @@ returns c =
     let is = c.kept_len-kept.ensures.0 in
     wrote_as (sym (row-parts a.shared a.key_suffix.now a.value.now a.row is))
     (wrote_then c.write_lengths-a.ensures (wrote_then c.write_body-b.ensures
-    (put_one (marks-room a.shared a.key_suffix.now a.value.now a.row is c.requires.1 c.write_lengths-a.ensures c.write_body-b.ensures) c.write_marks.ensures c.place_after.ensures)))
+    (put_one (marks-room a.shared a.key_suffix.now a.value.now a.row is c.requires.value_in_bounds c.write_lengths-a.ensures c.write_body-b.ensures) c.write_marks.ensures c.place_after.ensures)))

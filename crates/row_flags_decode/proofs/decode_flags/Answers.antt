@@ -65,7 +65,7 @@ returns-in-9 c =
 pub returns-in-16-to-255 : goal.returns-in-16-to-255
 returns-in-16-to-255 c =
     let f = c.args.flags in
-    let r = c.in-16-to-255.rest in
+    let r = c.in-16-to-255.in-16-to-255-own.rest in
     let h0 : 0 ≤ f = omega arith in
     let h1 = up 0 f h0 r.0.0.0.0.0.0.0.0.0.0.0.0.1 in
     let h2 = up 1 f h1 r.0.0.0.0.0.0.0.0.0.0.0.1 in

@@ -31,11 +31,11 @@ region-read k = known_is_lem _ _ _ (((trailer_of-tells _ _ k.requires.read).0, k
 
 last-read : (m : In-Ends) → let s = m.args in let g = m.plain_region-region.result in let d = data_of s.block.now (trailer_from s.t) in
     (last_at_or_below s.t.size d (region_from g) s.target.now g.start [] g.start ≡ ok m.in-Ends.at) × (ended_by d (region_from g) m.in-Ends.at ≡ m.in-Ends.number)
-last-read m = last-ended _ _ _ _ _ m.requires.read (region-read m) _ m.last_at_or_below-last.ensures m.in-Ends.is
+last-read m = last-ended _ _ _ _ _ m.requires.read (known_is_lem _ _ _ (((trailer_of-tells _ _ m.requires.read).0, m.loop-t.invariant.1)) _ m.plain_region-region.ensures m.if-region-eq0.false) _ m.last_at_or_below-last.ensures m.in-Ends.is
 
 number_read : (m : In-Ends) → let s = m.args in
     m.in-Ends.number ≡ number_at s.block.now (trailer_from s.t) m.loop-t.index m.in-Ends.at
-number_read m = sym (number_in _ _ _ _ _ (region-read m) ∙ (last-read m).1)
+number_read m = sym (number_in _ _ _ _ _ (known_is_lem _ _ _ (((trailer_of-tells _ _ m.requires.read).0, m.loop-t.invariant.1)) _ m.plain_region-region.ensures m.if-region-eq0.false) ∙ (last-ended _ _ _ _ _ m.requires.read (known_is_lem _ _ _ (((trailer_of-tells _ _ m.requires.read).0, m.loop-t.invariant.1)) _ m.plain_region-region.ensures m.if-region-eq0.false) _ m.last_at_or_below-last.ensures m.in-Ends.is).1)
 
 pub loop-t-init : goal.loop-t-init
 loop-t-init c = (falling-start _ _ _ _, c.requires.inside)

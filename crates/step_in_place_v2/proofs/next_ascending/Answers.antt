@@ -5,7 +5,7 @@ use Rattle.step_in_place_v2.proofs.next_ascending.Goals as goal
 
 pub pass-requires : goal.pass-requires
 pass-requires c =
-    (c.requires.0, (c.requires.1, ready-row _ _ _ c.look_ahead-ahead.ensures.ready c.in-At.is))
+    record { key_len = c.requires.key_len; stands = c.requires.stands; fits = ready-row _ _ _ c.look_ahead-ahead.ensures.ready c.in-At.is }
 
 pub returns-in-At : goal.returns-in-At
 returns-in-At c = moves_as _ _ _ _ (ahead-said _ _ _ _ _ c.look_ahead-ahead.ensures c.in-At.is) c.pass.ensures

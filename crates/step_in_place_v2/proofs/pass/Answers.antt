@@ -12,29 +12,29 @@ use Rattle.step_in_place_v2.proofs.pass.Goals as goal
 
 pub slice_bounds-put_suffix-end : goal.slice_bounds-put_suffix-end
 slice_bounds-put_suffix-end c =
-    sym (length-take-le _ _ (omega (arith, (trailer_of-tells _ _ c.requires.1.0.read).0)))
+    sym (length-take-le _ _ (omega (arith, (trailer_of-tells _ _ c.requires.stands.read).0)))
 
 pub put_suffix-requires : goal.put_suffix-requires
 put_suffix-requires c =
-    let ends = read_row-ends _ _ _ _ _ _ c.requires.1.1.read in
-    (omega (arith, c.requires.0, ends.fits), ends.suffix)
+    let ends = read_row-ends _ _ _ _ _ _ c.requires.fits.read in
+    (omega (arith, c.requires.key_len, ends.fits), ends.suffix)
 
 pub give_key-requires : goal.give_key-requires
 give_key-requires c =
-    (key-held c.args.p c.args.key.now _ _ _ c.args.row c.args.out.now _ c.requires.0 c.requires.1.0 c.requires.1.1 c.put_suffix.ensures, c.requires.1.1.held)
+    (key-held c.args.p c.args.key.now _ _ _ c.args.row c.args.out.now _ c.requires.key_len c.requires.stands c.requires.fits c.put_suffix.ensures, c.requires.fits.held)
 
 pub overflow_add-place : goal.overflow_add-place
 overflow_add-place c =
-    omega (arith, c.requires.1.0.inside, (trailer_of-tells _ _ c.requires.1.0.read).0)
+    omega (arith, c.requires.stands.inside, (trailer_of-tells _ _ c.requires.stands.read).0)
 
 pub overflow_add-place-2 : goal.overflow_add-place-2
 overflow_add-place-2 c =
-    omega (arith, right-tells (c.args.p.at - c.args.region.start) c.args.p.number c.requires.1.1.right)
+    omega (arith, right-tells (c.args.p.at - c.args.region.start) c.args.p.number c.requires.fits.right)
 
 pub returns-then-region-row : goal.returns-then-region-row
 returns-then-region-row c =
-    pass-over c.args.p _ _ _ _ _ _ _ c.requires.0 c.requires.1.0 c.requires.1.1 c.put_suffix.ensures _ c.give_key.ensures c.if-region-row.true c.found.ensures
+    pass-over c.args.p _ _ _ _ _ _ _ c.requires.key_len c.requires.stands c.requires.fits c.put_suffix.ensures _ c.give_key.ensures c.if-region-row.true c.found.ensures
 
 pub returns : goal.returns
 returns c =
-    pass-stay c.args.p _ _ _ _ _ _ _ c.requires.0 c.requires.1.0 c.requires.1.1 c.put_suffix.ensures _ c.give_key.ensures c.if-region-row.false c.found-2.ensures
+    pass-stay c.args.p _ _ _ _ _ _ _ c.requires.key_len c.requires.stands c.requires.fits c.put_suffix.ensures _ c.give_key.ensures c.if-region-row.false c.found-2.ensures

@@ -6,7 +6,7 @@ use Rattle.step_in_place_v2.proofs.Laws.{moves_not, moves-over, moves_as, stand-
 use Rattle.step_in_place_v2.proofs.up_in_place.Goals as goal
 
 pub next_ascending-requires : goal.next_ascending-requires
-next_ascending-requires c = let said = stand-said _ _ _ c.stand-standing.ensures c.in-Goes.is in (said.0, heads-on _ _ said.1 c.requires)
+next_ascending-requires c = let said = stand-said _ _ _ c.stand-standing.ensures c.in-Goes.is in record { key_len = said.0; stands = heads-on _ _ said.1 c.requires }
 
 pub returns-in-Goes : goal.returns-in-Goes
 returns-in-Goes c =
