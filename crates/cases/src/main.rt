@@ -6,11 +6,13 @@ mod say;
 mod show;
 mod writing;
 
-fn main() {
-    writing::rows();
-    writing::blocks();
-    writing::numbers();
-    writing::far_restarts();
-    writing::slips();
-    writing::five_rows();
+use std::io;
+
+fn main(rt: HostRuntime) -> io::Result<()> {
+    writing::rows(&rt)?;
+    writing::blocks(&rt)?;
+    writing::numbers(&rt)?;
+    writing::far_restarts(&rt)?;
+    writing::slips(&rt)?;
+    writing::five_rows(&rt)
 }

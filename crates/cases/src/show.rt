@@ -1,23 +1,20 @@
 // Bytes, as a line of text.
 use crate::say;
-use libc::STDOUT_FILENO;
+use std::io;
 
-fn byte(b: u8) {
-    say::text(b" ");
-    io::print_hex(STDOUT_FILENO, b as u64, 2);
+fn byte(rt: &impl Print, b: u8) -> io::Result<()> {
+    print!(rt; " {b:02x}")
 }
 
 // A count, and the first so many bytes of a buffer.
-pub fn bytes(buf: &[u8], n: usize) {
-    say::number(n as u64);
-    say::text(b" bytes:");
-    let mut i = 0;
-    while i < n {
+pub fn bytes(rt: &impl Print, buf: &[u8], n: usize) -> io::Result<()> {
+    say::number(rt, n as u64)?;
+    say::text(rt, b" bytes:")?;
+    for i in 0..n {
         if buf.len() <= i {
-            return;
+            return Ok(());
         }
-        byte(buf[i]);
-        i += 1;
+        byte(rt, buf[i])?;
     }
-    say::text(b"\n");
+    say::text(rt, b"\n")
 }

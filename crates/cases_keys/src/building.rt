@@ -3,52 +3,58 @@ use crate::{rows, say};
 use basics::Verdict;
 use block_v2::BlockBuilderV2;
 use finish_in_place_v2::BuildAnswer;
+use std::io;
 
-fn verdict(answer: Verdict) {
+fn verdict(rt: &impl Print, answer: Verdict) -> io::Result<()> {
     match answer {
-        Verdict::Good => say::text(b"yes\n"),
-        Verdict::Refused(r) => say::refusal(r),
+        Verdict::Good => say::text(rt, b"yes\n"),
+        Verdict::Refused(r) => say::refusal(rt, r),
     }
 }
 
-fn built(builder: BlockBuilderV2, data: &mut [u8], restarts: &[u16]) {
-    say::text(b"built: ");
+fn built(
+    rt: &impl Print,
+    builder: BlockBuilderV2,
+    data: &mut [u8],
+    restarts: &[u16],
+) -> io::Result<()> {
+    say::text(rt, b"built: ")?;
     let answer = builder.build(data, restarts).answer;
     match answer {
-        BuildAnswer::Block(n) => rows::count(n),
-        BuildAnswer::Refused(r) => say::refusal(r),
+        BuildAnswer::Block(n) => rows::count(rt, n),
+        BuildAnswer::Refused(r) => say::refusal(rt, r),
     }
 }
 
-fn asked(builder: BlockBuilderV2, key: &[u8]) {
-    say::text(b"would fit: ");
-    verdict(builder.would_fit(8192, 1, key, b"", rows::fields()));
+fn asked(rt: &impl Print, builder: BlockBuilderV2, key: &[u8]) -> io::Result<()> {
+    say::text(rt, b"would fit: ")?;
+    verdict(rt, builder.would_fit(8192, 1, key, b"", rows::fields()))
 }
 
-fn offered(key: &[u8]) {
+fn offered(rt: &impl Print, key: &[u8]) -> io::Result<()> {
     let fresh = BlockBuilderV2::new(8192).builder;
-    asked(fresh, key);
+    asked(rt, fresh, key)?;
     let mut data = [0u8; 8192];
     let mut restarts = [0u16; 1];
     let added = fresh.add(&mut data, &mut restarts, key, b"", rows::fields());
-    say::text(b"added: ");
+    say::text(rt, b"added: ")?;
     let answer = added.answer;
-    verdict(answer);
-    built(added.builder, &mut data, &restarts);
+    verdict(rt, answer)?;
+    built(rt, added.builder, &mut data, &restarts)
 }
 
-pub fn longest() {
+pub fn longest(rt: &impl Print) -> io::Result<()> {
     let key = [b'k'; rows::LONGEST];
-    offered(&key);
+    offered(rt, &key)
 }
 
-pub fn longer() {
+pub fn longer(rt: &impl Print) -> io::Result<()> {
     let key = [b'k'; rows::LONGER];
-    offered(&key);
+    offered(rt, &key)
 }
 
 // Two keys that differ in their last byte: the second row shares all but that.
-pub fn shared() {
+pub fn shared(rt: &impl Print) -> io::Result<()> {
     let mut data = [0u8; 8192];
     let mut restarts = [0u16; 1];
     let mut key = [b'k'; rows::LONGEST];
@@ -58,17 +64,17 @@ pub fn shared() {
     let two = one
         .builder
         .add(&mut data, &mut restarts, &key, b"", rows::fields());
-    built(two.builder, &mut data, &restarts);
+    built(rt, two.builder, &mut data, &restarts)
 }
 
 // A builder that says its last key is so long.
-fn carries(last_key_len: usize) {
+fn carries(rt: &impl Print, last_key_len: usize) -> io::Result<()> {
     let mut builder = BlockBuilderV2::new(8192).builder;
     builder.state.last_key_len = last_key_len;
-    asked(builder, b"k");
+    asked(rt, builder, b"k")
 }
 
-pub fn carried() {
-    carries(rows::LONGEST);
-    carries(rows::LONGER);
+pub fn carried(rt: &impl Print) -> io::Result<()> {
+    carries(rt, rows::LONGEST)?;
+    carries(rt, rows::LONGER)
 }

@@ -7,11 +7,13 @@ mod forged;
 mod say;
 mod travel;
 
-fn main() {
-    travel::walks();
-    travel::seeks();
-    travel::damaged();
-    forged::ascending();
-    forged::descending();
-    forged::marked();
+use std::io;
+
+fn main(rt: HostRuntime) -> io::Result<()> {
+    travel::walks(&rt)?;
+    travel::seeks(&rt)?;
+    travel::damaged(&rt)?;
+    forged::ascending(&rt)?;
+    forged::descending(&rt)?;
+    forged::marked(&rt)
 }

@@ -3,19 +3,20 @@ use crate::{blocks, say};
 use basics::{IterationOrder, Verdict};
 use place_v2::Place;
 use seek_in_place_v2::Found;
+use std::io;
 use step_in_place_v2::Moved;
 
-fn numbers(p: Place) {
-    say::number(p.region as u64);
-    say::text(b" ");
-    say::number(p.at as u64);
-    say::text(b" ");
-    say::number(p.number as u64);
-    say::text(b"\n");
+fn numbers(rt: &impl Print, p: Place) -> io::Result<()> {
+    say::number(rt, p.region as u64)?;
+    say::text(rt, b" ")?;
+    say::number(rt, p.at as u64)?;
+    say::text(rt, b" ")?;
+    say::number(rt, p.number as u64)?;
+    say::text(rt, b"\n")
 }
 
 // One step with the carried key bytes, and what it tells. A step that gives no row leaves the place as it came.
-pub fn step(carried: &mut [u8], p: Place, block: &[u8]) -> Place {
+pub fn step(rt: &impl Print, carried: &mut [u8], p: Place, block: &[u8]) -> io::Result<Place> {
     let mut key = [0u8; 8];
     let moved = step_in_place_v2::next_in_place(carried, p, block, &mut key);
     match moved {
@@ -25,90 +26,91 @@ pub fn step(carried: &mut [u8], p: Place, block: &[u8]) -> Place {
             number,
             row: _,
         } => {
-            say::text(b"row ");
-            say::number(region as u64);
-            say::text(b".");
-            say::number(number as u64);
-            say::text(b", then ");
-            numbers(place);
-            place
+            say::text(rt, b"row ")?;
+            say::number(rt, region as u64)?;
+            say::text(rt, b".")?;
+            say::number(rt, number as u64)?;
+            say::text(rt, b", then ")?;
+            numbers(rt, place)?;
+            Ok(place)
         }
         Moved::Done(place) => {
-            say::text(b"done, then ");
-            numbers(place);
-            place
+            say::text(rt, b"done, then ")?;
+            numbers(rt, place)?;
+            Ok(place)
         }
         Moved::Refused(r) => {
-            say::refusal(r);
-            p
+            say::refusal(rt, r)?;
+            Ok(p)
         }
     }
 }
 
 // Five rows, and a step past them.
-fn walk(block: &[u8], order: IterationOrder) {
+fn walk(rt: &impl Print, block: &[u8], order: IterationOrder) -> io::Result<()> {
     let open = place_v2::open_place(block, order).place;
     let mut carried = [0u8; basics::MAX_KEY];
-    say::text(b"opened at ");
-    numbers(open);
-    let one = step(&mut carried, open, block);
-    let two = step(&mut carried, one, block);
-    let three = step(&mut carried, two, block);
-    let four = step(&mut carried, three, block);
-    let five = step(&mut carried, four, block);
-    step(&mut carried, five, block);
+    say::text(rt, b"opened at ")?;
+    numbers(rt, open)?;
+    let one = step(rt, &mut carried, open, block)?;
+    let two = step(rt, &mut carried, one, block)?;
+    let three = step(rt, &mut carried, two, block)?;
+    let four = step(rt, &mut carried, three, block)?;
+    let five = step(rt, &mut carried, four, block)?;
+    step(rt, &mut carried, five, block)?;
+    Ok(())
 }
 
-pub fn walks() {
+pub fn walks(rt: &impl Print) -> io::Result<()> {
     let block = blocks::three_regions();
-    say::text(b"case 8's block forwards\n");
-    walk(&block, IterationOrder::Ascending);
-    say::text(b"backwards\n");
-    walk(&block, IterationOrder::Descending);
+    say::text(rt, b"case 8's block forwards\n")?;
+    walk(rt, &block, IterationOrder::Ascending)?;
+    say::text(rt, b"backwards\n")?;
+    walk(rt, &block, IterationOrder::Descending)
 }
 
-fn seek(block: &[u8], order: IterationOrder, target: &[u8]) {
+fn seek(rt: &impl Print, block: &[u8], order: IterationOrder, target: &[u8]) -> io::Result<()> {
     let opened = place_v2::open_place(block, order);
     let mut key = [0u8; basics::MAX_KEY];
     let found = seek_in_place_v2::seek_in_place(&mut key, opened.place, block, target);
     match found {
-        Found::Landed { place, reads: _ } => numbers(place),
+        Found::Landed { place, reads: _ } => numbers(rt, place),
         Found::Done { place, reads: _ } => {
-            say::text(b"none, ");
-            numbers(place);
+            say::text(rt, b"none, ")?;
+            numbers(rt, place)
         }
-        Found::Refused(r) => say::refusal(r),
+        Found::Refused(r) => say::refusal(rt, r),
     }
 }
 
-fn all_targets(block: &[u8], order: IterationOrder) {
-    seek(block, order, b"");
-    seek(block, order, b"b");
-    seek(block, order, b"bb");
-    seek(block, order, b"d");
+fn all_targets(rt: &impl Print, block: &[u8], order: IterationOrder) -> io::Result<()> {
+    seek(rt, block, order, b"")?;
+    seek(rt, block, order, b"b")?;
+    seek(rt, block, order, b"bb")?;
+    seek(rt, block, order, b"d")
 }
 
-pub fn seeks() {
+pub fn seeks(rt: &impl Print) -> io::Result<()> {
     let block = blocks::three_regions();
-    say::text(b"sought up: nothing, b, bb, d\n");
-    all_targets(&block, IterationOrder::Ascending);
-    say::text(b"down\n");
-    all_targets(&block, IterationOrder::Descending);
+    say::text(rt, b"sought up: nothing, b, bb, d\n")?;
+    all_targets(rt, &block, IterationOrder::Ascending)?;
+    say::text(rt, b"down\n")?;
+    all_targets(rt, &block, IterationOrder::Descending)
 }
 
-fn open(block: &[u8], order: IterationOrder) {
+fn open(rt: &impl Print, block: &[u8], order: IterationOrder) -> io::Result<()> {
     let opened = place_v2::open_place(block, order);
     let answer = opened.answer;
     match answer {
-        Verdict::Good => numbers(opened.place),
-        Verdict::Refused(r) => say::refusal(r),
+        Verdict::Good => numbers(rt, opened.place),
+        Verdict::Refused(r) => say::refusal(rt, r),
     }
 }
 
-pub fn damaged() {
+pub fn damaged(rt: &impl Print) -> io::Result<()> {
     let block = blocks::damaged();
-    say::text(b"a damaged last region, opened forwards: ");
-    open(&block, IterationOrder::Ascending);
-    say::text(b"backwards: ");
-    open(&block, IterationOrder::Descending);
+    say::text(rt, b"a damaged last region, opened forwards: ")?;
+    open(rt, &block, IterationOrder::Ascending)?;
+    say::text(rt, b"backwards: ")?;
+    open(rt, &block, IterationOrder::Descending)
 }

@@ -7,11 +7,13 @@ mod reading;
 mod rows;
 mod say;
 
-fn main() {
-    rows::numbers();
-    rows::spellings();
-    rows::flags();
-    reading::seeks();
-    newest::among_three();
-    newest::largest();
+use std::io;
+
+fn main(rt: HostRuntime) -> io::Result<()> {
+    rows::numbers(&rt)?;
+    rows::spellings(&rt)?;
+    rows::flags(&rt)?;
+    reading::seeks(&rt)?;
+    newest::among_three(&rt)?;
+    newest::largest(&rt)
 }

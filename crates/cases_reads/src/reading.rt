@@ -3,15 +3,16 @@ use crate::say;
 use basics::IterationOrder;
 use block_check_v2::Checked;
 use block_iterator_v2::{BlockIteratorV2, NextAnswer, SeekAnswer};
+use std::io;
 
-pub fn checked(block: &[u8]) {
+pub fn checked(rt: &impl Print, block: &[u8]) -> io::Result<()> {
     match block_check_v2::check(block) {
         Checked::Rows(n) => {
-            say::text(b"accepted, rows: ");
-            say::number(n as u64);
-            say::text(b"\n");
+            say::text(rt, b"accepted, rows: ")?;
+            say::number(rt, n as u64)?;
+            say::text(rt, b"\n")
         }
-        Checked::Refused(r) => say::refusal(r),
+        Checked::Refused(r) => say::refusal(rt, r),
     }
 }
 
@@ -28,7 +29,7 @@ fn number_of(start: usize) -> u64 {
 }
 
 // One step, and what it gives.
-fn step(cursor: BlockIteratorV2, block: &[u8]) -> BlockIteratorV2 {
+fn step(rt: &impl Print, cursor: BlockIteratorV2, block: &[u8]) -> io::Result<BlockIteratorV2> {
     let mut key = [0u8; 8];
     let next = cursor.next(block, &mut key);
     let answer = next.answer;
@@ -38,67 +39,67 @@ fn step(cursor: BlockIteratorV2, block: &[u8]) -> BlockIteratorV2 {
             number: _,
             row,
         } => {
-            say::text(b" row ");
-            say::number(number_of(row.start));
+            say::text(rt, b" row ")?;
+            say::number(rt, number_of(row.start))?;
         }
-        NextAnswer::Done => say::text(b" done"),
-        NextAnswer::Refused(r) => say::refusal(r),
+        NextAnswer::Done => say::text(rt, b" done")?,
+        NextAnswer::Refused(r) => say::refusal(rt, r)?,
     }
-    next.iterator
+    Ok(next.iterator)
 }
 
 // Five rows, and a step past them.
-fn walk(block: &[u8], order: IterationOrder) {
+fn walk(rt: &impl Print, block: &[u8], order: IterationOrder) -> io::Result<()> {
     let open = BlockIteratorV2::new(block, order).iterator;
-    let one = step(open, block);
-    let two = step(one, block);
-    let three = step(two, block);
-    let four = step(three, block);
-    let five = step(four, block);
-    step(five, block);
-    say::text(b"\n");
+    let one = step(rt, open, block)?;
+    let two = step(rt, one, block)?;
+    let three = step(rt, two, block)?;
+    let four = step(rt, three, block)?;
+    let five = step(rt, four, block)?;
+    step(rt, five, block)?;
+    say::text(rt, b"\n")
 }
 
-fn seek(block: &[u8], order: IterationOrder, target: &[u8]) {
+fn seek(rt: &impl Print, block: &[u8], order: IterationOrder, target: &[u8]) -> io::Result<()> {
     let sought = BlockIteratorV2::new(block, order)
         .iterator
         .seek(block, target);
     let answer = sought.answer;
     match answer {
         SeekAnswer::Landed(reads) => {
-            say::number(reads as u64);
-            say::text(b" keys read:");
+            say::number(rt, reads as u64)?;
+            say::text(rt, b" keys read:")?;
         }
         SeekAnswer::Done(reads) => {
-            say::number(reads as u64);
-            say::text(b" keys read, none:");
+            say::number(rt, reads as u64)?;
+            say::text(rt, b" keys read, none:")?;
         }
-        SeekAnswer::Refused(r) => say::refusal(r),
+        SeekAnswer::Refused(r) => say::refusal(rt, r)?,
     }
-    step(sought.iterator, block);
-    say::text(b"\n");
+    step(rt, sought.iterator, block)?;
+    say::text(rt, b"\n")
 }
 
-fn both_ways(block: &[u8], target: &[u8]) {
-    say::text(b"ascending: ");
-    seek(block, IterationOrder::Ascending, target);
-    say::text(b"descending: ");
-    seek(block, IterationOrder::Descending, target);
+fn both_ways(rt: &impl Print, block: &[u8], target: &[u8]) -> io::Result<()> {
+    say::text(rt, b"ascending: ")?;
+    seek(rt, block, IterationOrder::Ascending, target)?;
+    say::text(rt, b"descending: ")?;
+    seek(rt, block, IterationOrder::Descending, target)
 }
 
-fn all_seeks(block: &[u8]) {
-    say::text(b"forwards:");
-    walk(block, IterationOrder::Ascending);
-    say::text(b"backwards:");
-    walk(block, IterationOrder::Descending);
-    say::text(b"case 8, target b\n");
-    both_ways(block, b"b");
-    say::text(b"case 9, target bb\n");
-    both_ways(block, b"bb");
-    say::text(b"case 10, target d\n");
-    both_ways(block, b"d");
-    say::text(b"case 10, empty target\n");
-    both_ways(block, b"");
+fn all_seeks(rt: &impl Print, block: &[u8]) -> io::Result<()> {
+    say::text(rt, b"forwards:")?;
+    walk(rt, block, IterationOrder::Ascending)?;
+    say::text(rt, b"backwards:")?;
+    walk(rt, block, IterationOrder::Descending)?;
+    say::text(rt, b"case 8, target b\n")?;
+    both_ways(rt, block, b"b")?;
+    say::text(rt, b"case 9, target bb\n")?;
+    both_ways(rt, block, b"bb")?;
+    say::text(rt, b"case 10, target d\n")?;
+    both_ways(rt, block, b"d")?;
+    say::text(rt, b"case 10, empty target\n")?;
+    both_ways(rt, block, b"")
 }
 
 // The block of the five rows, as `cases` builds it, with these numbers of the rows of key b.
@@ -111,8 +112,8 @@ pub fn five_rows(first: u8, second: u8, third: u8) -> [u8; 72] {
     block
 }
 
-pub fn seeks() {
+pub fn seeks(rt: &impl Print) -> io::Result<()> {
     let block = five_rows(3, 2, 1);
-    checked(&block);
-    all_seeks(&block);
+    checked(rt, &block)?;
+    all_seeks(rt, &block)
 }

@@ -1,58 +1,59 @@
 // Cases 6 and 7, and the spellings of a number: numbers and rows by themselves.
 use crate::say;
 use row_decode_v2::{KeyRead, RowRead};
+use std::io;
 use utils_decode::VarintRead;
 
-fn number(s: &[u8]) {
+fn number(rt: &impl Print, s: &[u8]) -> io::Result<()> {
     match utils_decode::decode_varint(s, 0) {
         VarintRead::Number { value, next: _ } => {
-            say::number(value as u64);
-            say::text(b"\n");
+            say::number(rt, value as u64)?;
+            say::text(rt, b"\n")
         }
-        VarintRead::Refused(r) => say::refusal(r),
+        VarintRead::Refused(r) => say::refusal(rt, r),
     }
 }
 
-pub fn numbers() {
-    say::text(b"case 6\n");
-    number(b"\xFF\xFF\xFF\xFF\x0F");
-    number(b"\xFF\xFF\xFF\xFF\x10");
+pub fn numbers(rt: &impl Print) -> io::Result<()> {
+    say::text(rt, b"case 6\n")?;
+    number(rt, b"\xFF\xFF\xFF\xFF\x0F")?;
+    number(rt, b"\xFF\xFF\xFF\xFF\x10")
 }
 
-fn key(s: &[u8]) {
+fn key(rt: &impl Print, s: &[u8]) -> io::Result<()> {
     match row_decode_v2::decode_key_only(s, 0, s.len(), 0, false) {
-        KeyRead::Read(_) => say::text(b"a key\n"),
-        KeyRead::Refused(r) => say::refusal(r),
+        KeyRead::Read(_) => say::text(rt, b"a key\n"),
+        KeyRead::Refused(r) => say::refusal(rt, r),
     }
 }
 
 // A number's bytes are those that are written for it: any other spelling is refused, in every length of a row.
-pub fn spellings() {
-    say::text(b"one spelling for a number\n");
-    number(b"\x00");
-    number(b"\x80\x00");
-    number(b"\x80\x80\x80\x80\x00");
-    number(b"\xFF\x80\x00");
-    number(b"\xFF\xFF\xFF\xFF\x00");
-    number(b"\x80");
-    number(b"\x80\x80");
-    key(b"\x00\x01\x80\x00a");
-    read(b"\x85\x00\x01\x00a\x00\x00\x00\x00\x00\x00\x00\x01\x00");
+pub fn spellings(rt: &impl Print) -> io::Result<()> {
+    say::text(rt, b"one spelling for a number\n")?;
+    number(rt, b"\x00")?;
+    number(rt, b"\x80\x00")?;
+    number(rt, b"\x80\x80\x80\x80\x00")?;
+    number(rt, b"\xFF\x80\x00")?;
+    number(rt, b"\xFF\xFF\xFF\xFF\x00")?;
+    number(rt, b"\x80")?;
+    number(rt, b"\x80\x80")?;
+    key(rt, b"\x00\x01\x80\x00a")?;
+    read(rt, b"\x85\x00\x01\x00a\x00\x00\x00\x00\x00\x00\x00\x01\x00")
 }
 
-fn read(s: &[u8]) {
+fn read(rt: &impl Print, s: &[u8]) -> io::Result<()> {
     match row_decode_v2::decode(s, 0) {
         RowRead::Read(found) => {
-            say::text(b"a row up to ");
-            say::number(found.next as u64);
-            say::text(b"\n");
+            say::text(rt, b"a row up to ")?;
+            say::number(rt, found.next as u64)?;
+            say::text(rt, b"\n")
         }
-        RowRead::Refused(r) => say::refusal(r),
+        RowRead::Refused(r) => say::refusal(rt, r),
     }
 }
 
-pub fn flags() {
-    say::text(b"case 7\n");
-    read(b"\x00\x01\x00a\x00\x00\x00\x00\x00\x00\x00\x01\x09");
-    read(b"\x00\x01\x00a\x00\x00\x00\x00\x00\x00\x00\x01\x10");
+pub fn flags(rt: &impl Print) -> io::Result<()> {
+    say::text(rt, b"case 7\n")?;
+    read(rt, b"\x00\x01\x00a\x00\x00\x00\x00\x00\x00\x00\x01\x09")?;
+    read(rt, b"\x00\x01\x00a\x00\x00\x00\x00\x00\x00\x00\x01\x10")
 }

@@ -1,17 +1,18 @@
 // Words, numbers and refusals, as lines of text.
 use basics::Refusal;
-use libc::STDOUT_FILENO;
+use std::io;
+use std::io::Write;
 
-pub fn text(words: &[u8]) {
-    io::write_all(STDOUT_FILENO, words);
+pub fn text(rt: &impl Print, words: &[u8]) -> io::Result<()> {
+    io::writer(rt).write_all(words)
 }
 
-pub fn number(n: u64) {
-    io::print_decimal(STDOUT_FILENO, n);
+pub fn number(rt: &impl Print, n: u64) -> io::Result<()> {
+    print!(rt; "{n}")
 }
 
-pub fn refusal(r: Refusal) {
-    text(b"refusal ");
-    number(basics::number(r) as u64);
-    text(b"\n");
+pub fn refusal(rt: &impl Print, r: Refusal) -> io::Result<()> {
+    text(rt, b"refusal ")?;
+    number(rt, basics::number(r) as u64)?;
+    text(rt, b"\n")
 }

@@ -6,12 +6,14 @@ mod reading;
 mod say;
 mod writing;
 
-fn main() {
-    writing::rows();
-    writing::sizes();
-    writing::refusals();
-    writing::longest();
-    reading::lengths();
-    reading::fields();
-    reading::in_a_block();
+use std::io;
+
+fn main(rt: HostRuntime) -> io::Result<()> {
+    writing::rows(&rt)?;
+    writing::sizes(&rt)?;
+    writing::refusals(&rt)?;
+    writing::longest(&rt)?;
+    reading::lengths(&rt)?;
+    reading::fields(&rt)?;
+    reading::in_a_block(&rt)
 }

@@ -1,38 +1,45 @@
 // Damaged blocks of two rows, of keys a and ab: what the check, the opening, steps and seeks answer.
 use crate::{reading, say};
 use basics::IterationOrder;
+use std::io;
 
-fn told(block: &[u8]) {
-    reading::checked(block);
-    reading::walk(block, IterationOrder::Ascending);
-    reading::walk(block, IterationOrder::Descending);
-    reading::seek(block, IterationOrder::Ascending, b"ab");
-    reading::seek(block, IterationOrder::Descending, b"b");
+fn told(rt: &impl Print, block: &[u8]) -> io::Result<()> {
+    reading::checked(rt, block)?;
+    reading::walk(rt, block, IterationOrder::Ascending)?;
+    reading::walk(rt, block, IterationOrder::Descending)?;
+    reading::seek(rt, block, IterationOrder::Ascending, b"ab")?;
+    reading::seek(rt, block, IterationOrder::Descending, b"b")
 }
 
-pub fn blocks() {
-    say::line(b"a first row that shares");
+pub fn blocks(rt: &impl Print) -> io::Result<()> {
+    say::line(rt, b"a first row that shares")?;
     told(
+        rt,
         b"\x00\x01\x00\x00\x00\x00\x00\x00\x00\x00\x00\x02\x01\x00\x00\x00\x01a\x00\x00\x00\x00\x00\x00\x00\x01\x00\x00\x00\x00\x00\x00\x00\x00\x0D\x00\x02",
-    );
-    say::line(b"a share longer than the first key");
+    )?;
+    say::line(rt, b"a share longer than the first key")?;
     told(
+        rt,
         b"\x00\x00\x00\x01a\x00\x00\x00\x00\x00\x00\x00\x01\x00\x00\x00\x00\x00\x00\x02\x00\x00\x00\x00\x00\x00\x00\x00\x00\x02\x01\x00\x00\x00\x12\x00\x02",
-    );
-    say::line(b"a gap");
+    )?;
+    say::line(rt, b"a gap")?;
     told(
+        rt,
         b"\x00\x00\x00\x01a\x00\x00\x00\x00\x00\x00\x00\x01\x00\x00\x00\x00\x00\x09\x00\x01\x00\x01b\x00\x00\x00\x00\x00\x00\x00\x02\x00\x00\x00\x00\x01x\x00\x00\x00\x13\x00\x02",
-    );
-    say::line(b"a gap after the last row");
+    )?;
+    say::line(rt, b"a gap after the last row")?;
     told(
+        rt,
         b"\x00\x00\x00\x01a\x00\x00\x00\x00\x00\x00\x00\x01\x00\x00\x00\x00\x00\x00\x01\x00\x01b\x00\x00\x00\x00\x00\x00\x00\x02\x00\x00\x00\x00\x01x\x09\x00\x00\x00\x12\x00\x02",
-    );
-    say::line(b"a value that runs into the next row");
+    )?;
+    say::line(rt, b"a value that runs into the next row")?;
     told(
+        rt,
         b"\x00\x00\x00\x01a\x00\x00\x00\x00\x00\x00\x00\x01\x00\x00\x00\x00\x01\x00\x01\x00\x01b\x00\x00\x00\x00\x00\x00\x00\x02\x00\x00\x00\x00\x01x\x00\x00\x00\x12\x00\x02",
-    );
-    say::line(b"a key that does");
+    )?;
+    say::line(rt, b"a key that does")?;
     told(
+        rt,
         b"\x00\x00\x00\x01a\x00\x00\x00\x00\x00\x00\x00\x01\x00\x00\x00\x00\x00\x00\x01\x00\x01b\x00\x00\x00\x00\x00\x00\x00\x02\x00\x00\x00\x00\x01x\x00\x00\x00\x04\x00\x02",
-    );
+    )
 }

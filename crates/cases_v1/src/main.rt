@@ -7,13 +7,15 @@ mod damaged;
 mod reading;
 mod say;
 
-fn main() {
-    building::three_rows();
-    building::sizes();
-    building::tombstone();
-    reading::three_rows();
-    reading::tombstone();
-    reading::equal_keys();
-    reading::forged();
-    damaged::blocks();
+use std::io;
+
+fn main(rt: HostRuntime) -> io::Result<()> {
+    building::three_rows(&rt)?;
+    building::sizes(&rt)?;
+    building::tombstone(&rt)?;
+    reading::three_rows(&rt)?;
+    reading::tombstone(&rt)?;
+    reading::equal_keys(&rt)?;
+    reading::forged(&rt)?;
+    damaged::blocks(&rt)
 }

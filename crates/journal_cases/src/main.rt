@@ -5,6 +5,7 @@ mod say;
 
 use journal::Record;
 use journal_append::Appended;
+use std::io;
 
 fn debit(card: u64, retry: u64, amount: u32) -> Record {
     Record::Debit {
@@ -30,156 +31,171 @@ fn first(buffer: &[u8], n: usize) -> &[u8] {
     &buffer[..n]
 }
 
-fn add(buffer: &mut [u8], used: usize, record: Record) -> usize {
-    say::appended(journal_append::append(buffer, used, record), used)
+fn add(rt: &impl Print, buffer: &mut [u8], used: usize, record: Record) -> io::Result<usize> {
+    say::appended(rt, journal_append::append(buffer, used, record), used)
 }
 
 // What is read, and the balances of cards 7 and 8.
-fn shown(journal: &[u8]) {
-    say::reading(journal_read::read(journal));
-    say::balanced(journal_balance::balance(journal, 7));
-    say::balanced(journal_balance::balance(journal, 8));
+fn shown(rt: &impl Print, journal: &[u8]) -> io::Result<()> {
+    say::reading(rt, journal_read::read(journal))?;
+    say::balanced(rt, journal_balance::balance(journal, 7))?;
+    say::balanced(rt, journal_balance::balance(journal, 8))
 }
 
-fn at(journal: &[u8], place: usize) {
-    say::found(journal::record_at(journal, place));
+fn at(rt: &impl Print, journal: &[u8], place: usize) -> io::Result<()> {
+    say::found(rt, journal::record_at(journal, place))
 }
 
-fn kinds() {
-    say::text(b"empty\n");
+fn kinds(rt: &impl Print) -> io::Result<()> {
+    say::text(rt, b"empty\n")?;
     let mut buffer = [0u8; 51];
-    shown(first(&buffer, 0));
-    at(first(&buffer, 0), 0);
-    say::text(b"one of each kind\n");
-    let a = add(&mut buffer, 0, top_up(7, 1, 500));
-    let b = add(&mut buffer, a, debit(7, 2, 200));
-    add(&mut buffer, b, Record::Close { card: 7 });
-    shown(&buffer);
-    at(&buffer, 0);
-    at(&buffer, 21);
-    at(&buffer, 42);
-    at(&buffer, 51);
-    at(first(&buffer, 50), 42);
-    at(&buffer, 1);
+    shown(rt, first(&buffer, 0))?;
+    at(rt, first(&buffer, 0), 0)?;
+    say::text(rt, b"one of each kind\n")?;
+    let a = add(rt, &mut buffer, 0, top_up(7, 1, 500))?;
+    let b = add(rt, &mut buffer, a, debit(7, 2, 200))?;
+    add(rt, &mut buffer, b, Record::Close { card: 7 })?;
+    shown(rt, &buffer)?;
+    at(rt, &buffer, 0)?;
+    at(rt, &buffer, 21)?;
+    at(rt, &buffer, 42)?;
+    at(rt, &buffer, 51)?;
+    at(rt, first(&buffer, 50), 42)?;
+    at(rt, &buffer, 1)
 }
 
-fn doubles() {
-    say::text(b"doubles of each kind\n");
+fn doubles(rt: &impl Print) -> io::Result<()> {
+    say::text(rt, b"doubles of each kind\n")?;
     let mut buffer = [0u8; 84];
-    let a = add(&mut buffer, 0, top_up(7, 1, 500));
-    let b = add(&mut buffer, a, top_up(7, 1, 900));
-    let c = add(&mut buffer, b, debit(7, 2, 200));
-    add(&mut buffer, c, debit(7, 2, 1));
-    shown(&buffer);
+    let a = add(rt, &mut buffer, 0, top_up(7, 1, 500))?;
+    let b = add(rt, &mut buffer, a, top_up(7, 1, 900))?;
+    let c = add(rt, &mut buffer, b, debit(7, 2, 200))?;
+    add(rt, &mut buffer, c, debit(7, 2, 1))?;
+    shown(rt, &buffer)
 }
 
-fn two_kinds() {
-    say::text(b"one retry number, two kinds, two cards\n");
+fn two_kinds(rt: &impl Print) -> io::Result<()> {
+    say::text(rt, b"one retry number, two kinds, two cards\n")?;
     let mut buffer = [0u8; 63];
-    let a = add(&mut buffer, 0, top_up(7, 1, 500));
-    let b = add(&mut buffer, a, debit(7, 1, 30));
-    add(&mut buffer, b, debit(8, 1, 4294967295));
-    shown(&buffer);
+    let a = add(rt, &mut buffer, 0, top_up(7, 1, 500))?;
+    let b = add(rt, &mut buffer, a, debit(7, 1, 30))?;
+    add(rt, &mut buffer, b, debit(8, 1, 4294967295))?;
+    shown(rt, &buffer)
 }
 
-fn closes() {
-    say::text(b"a close, a second one, and what comes after\n");
+fn closes(rt: &impl Print) -> io::Result<()> {
+    say::text(rt, b"a close, a second one, and what comes after\n")?;
     let mut buffer = [0u8; 81];
-    let a = add(&mut buffer, 0, top_up(7, 1, 500));
-    let b = add(&mut buffer, a, Record::Close { card: 7 });
-    let c = add(&mut buffer, b, Record::Close { card: 7 });
-    let d = add(&mut buffer, c, debit(7, 3, 50));
-    add(&mut buffer, d, top_up(8, 3, 5));
-    shown(&buffer);
+    let a = add(rt, &mut buffer, 0, top_up(7, 1, 500))?;
+    let b = add(rt, &mut buffer, a, Record::Close { card: 7 })?;
+    let c = add(rt, &mut buffer, b, Record::Close { card: 7 })?;
+    let d = add(rt, &mut buffer, c, debit(7, 3, 50))?;
+    add(rt, &mut buffer, d, top_up(8, 3, 5))?;
+    shown(rt, &buffer)
 }
 
 // The balance of card 7 in each part.
-fn cut(journal: &[u8]) {
-    let mut n = 0;
-    while n < journal.len() {
-        say::balanced(journal_balance::balance(first(journal, n), 7));
-        n += 1;
+fn cut(rt: &impl Print, journal: &[u8]) -> io::Result<()> {
+    for n in 0..journal.len() {
+        say::balanced(rt, journal_balance::balance(first(journal, n), 7))?;
     }
+    Ok(())
 }
 
-fn cuts() {
-    say::text(b"a top-up, another card's close and a debit, cut at every byte\n");
+fn cuts(rt: &impl Print) -> io::Result<()> {
+    say::text(
+        rt,
+        b"a top-up, another card's close and a debit, cut at every byte\n",
+    )?;
     let mut buffer = [0u8; 51];
-    let a = add(&mut buffer, 0, top_up(7, 1, 500));
-    let b = add(&mut buffer, a, Record::Close { card: 8 });
-    add(&mut buffer, b, debit(7, 2, 700));
-    cut(&buffer);
-    shown(&buffer);
+    let a = add(rt, &mut buffer, 0, top_up(7, 1, 500))?;
+    let b = add(rt, &mut buffer, a, Record::Close { card: 8 })?;
+    add(rt, &mut buffer, b, debit(7, 2, 700))?;
+    cut(rt, &buffer)?;
+    shown(rt, &buffer)
 }
 
-fn unknown() {
-    say::text(b"an unknown kind, as the last byte, and a used length past the buffer\n");
+fn unknown(rt: &impl Print) -> io::Result<()> {
+    say::text(
+        rt,
+        b"an unknown kind, as the last byte, and a used length past the buffer\n",
+    )?;
     let mut buffer = [0u8; 22];
-    add(&mut buffer, 0, top_up(7, 1, 500));
-    shown(&buffer);
-    at(&buffer, 21);
-    add(&mut buffer, 22, debit(7, 2, 1));
-    add(&mut buffer, 23, debit(7, 2, 1));
-    say::text(b"a tail of one byte\n");
+    add(rt, &mut buffer, 0, top_up(7, 1, 500))?;
+    shown(rt, &buffer)?;
+    at(rt, &buffer, 21)?;
+    add(rt, &mut buffer, 22, debit(7, 2, 1))?;
+    add(rt, &mut buffer, 23, debit(7, 2, 1))?;
+    say::text(rt, b"a tail of one byte\n")?;
     buffer[21] = 3;
-    shown(&buffer);
-    add(&mut buffer, 22, debit(7, 2, 1));
+    shown(rt, &buffer)?;
+    add(rt, &mut buffer, 22, debit(7, 2, 1))?;
+    Ok(())
 }
 
-fn rooms() {
-    say::text(b"a buffer with a byte too few, and one with none to spare\n");
+fn rooms(rt: &impl Print) -> io::Result<()> {
+    say::text(
+        rt,
+        b"a buffer with a byte too few, and one with none to spare\n",
+    )?;
     let mut short = [0u8; 20];
-    add(&mut short, 0, debit(7, 2, 1));
+    add(rt, &mut short, 0, debit(7, 2, 1))?;
     let mut exact = [0u8; 21];
-    add(&mut exact, 0, debit(7, 2, 1));
+    add(rt, &mut exact, 0, debit(7, 2, 1))?;
     let mut close = [0u8; 8];
-    add(&mut close, 0, Record::Close { card: 7 });
+    add(rt, &mut close, 0, Record::Close { card: 7 })?;
     let mut whole = [0u8; 9];
-    add(&mut whole, 0, Record::Close { card: 7 });
+    add(rt, &mut whole, 0, Record::Close { card: 7 })?;
+    Ok(())
 }
 
 // Debits until one is refused: the used length.
 fn fill(buffer: &mut [u8]) -> usize {
     let mut used = 0;
-    let mut i = 0;
-    while i < 3120 {
+    for i in 0..3120 {
         match journal_append::append(buffer, used, debit(7, i, 4294967295)) {
             Appended::Used(n) => {
                 used = n;
             }
             Appended::Refused(_) => (),
         }
-        i += 1;
     }
     used
 }
 
-fn full() {
-    say::text(b"3,120 debits, each the largest, and a close: 65,529 bytes\n");
+fn full(rt: &impl Print) -> io::Result<()> {
+    say::text(
+        rt,
+        b"3,120 debits, each the largest, and a close: 65,529 bytes\n",
+    )?;
     let mut buffer = [3u8; 65537];
     let used = fill(&mut buffer);
-    shown(first(&buffer, used));
-    add(&mut buffer, used, debit(7, 9, 1));
-    let a = add(&mut buffer, used, Record::Close { card: 8 });
-    add(&mut buffer, a, Record::Close { card: 8 });
-    say::text(b"65,536 bytes, and one more, also with an unknown kind\n");
-    shown(first(&buffer, 65536));
-    shown(&buffer);
-    add(&mut buffer, 65536, Record::Close { card: 8 });
-    add(&mut buffer, 65537, Record::Close { card: 8 });
+    shown(rt, first(&buffer, used))?;
+    add(rt, &mut buffer, used, debit(7, 9, 1))?;
+    let a = add(rt, &mut buffer, used, Record::Close { card: 8 })?;
+    add(rt, &mut buffer, a, Record::Close { card: 8 })?;
+    say::text(
+        rt,
+        b"65,536 bytes, and one more, also with an unknown kind\n",
+    )?;
+    shown(rt, first(&buffer, 65536))?;
+    shown(rt, &buffer)?;
+    add(rt, &mut buffer, 65536, Record::Close { card: 8 })?;
+    add(rt, &mut buffer, 65537, Record::Close { card: 8 })?;
     buffer[0] = 0;
-    shown(&buffer);
-    at(&buffer, 0);
-    add(&mut buffer, 65537, Record::Close { card: 8 });
+    shown(rt, &buffer)?;
+    at(rt, &buffer, 0)?;
+    add(rt, &mut buffer, 65537, Record::Close { card: 8 })?;
+    Ok(())
 }
 
-fn main() {
-    kinds();
-    doubles();
-    two_kinds();
-    closes();
-    cuts();
-    unknown();
-    rooms();
-    full();
+fn main(rt: HostRuntime) -> io::Result<()> {
+    kinds(&rt)?;
+    doubles(&rt)?;
+    two_kinds(&rt)?;
+    closes(&rt)?;
+    cuts(&rt)?;
+    unknown(&rt)?;
+    rooms(&rt)?;
+    full(&rt)
 }

@@ -3,136 +3,131 @@ use journal::{Found, Record, Refusal};
 use journal_append::Appended;
 use journal_balance::Balanced;
 use journal_read::{Reading, Tail};
-use libc::STDOUT_FILENO;
+use std::io;
+use std::io::Write;
 
-pub fn text(words: &[u8]) {
-    io::write_all(STDOUT_FILENO, words);
+pub fn text(rt: &impl Print, words: &[u8]) -> io::Result<()> {
+    io::writer(rt).write_all(words)
 }
 
-pub fn number(n: u64) {
-    io::print_decimal(STDOUT_FILENO, n);
+pub fn number(rt: &impl Print, n: u64) -> io::Result<()> {
+    print!(rt; "{n}")
 }
 
-fn signed(z: i64) {
-    let bits = numbers::to_bits(z);
-    if bits < 9223372036854775808 {
-        number(bits);
-        return;
-    }
-    text(b"-");
-    number(18446744073709551615 - bits + 1);
+fn signed(rt: &impl Print, z: i64) -> io::Result<()> {
+    print!(rt; "{z}")
 }
 
-fn refusal(r: Refusal) {
-    text(b"refusal ");
-    number(journal::number(r) as u64);
+fn refusal(rt: &impl Print, r: Refusal) -> io::Result<()> {
+    text(rt, b"refusal ")?;
+    number(rt, journal::number(r) as u64)?;
     match r {
         Refusal::UnknownKind(at) => {
-            text(b" at ");
-            number(at as u64);
+            text(rt, b" at ")?;
+            number(rt, at as u64)?;
         }
         Refusal::TooLong => (),
         Refusal::UsedPastBuffer => (),
         Refusal::EndsInside => (),
         Refusal::NoRoom => (),
     }
-    text(b"\n");
+    text(rt, b"\n")
 }
 
-fn tail(t: Tail) {
+fn tail(rt: &impl Print, t: Tail) -> io::Result<()> {
     match t {
-        Tail::Nothing => text(b", no tail\n"),
+        Tail::Nothing => text(rt, b", no tail\n"),
         Tail::From(at) => {
-            text(b", tail from ");
-            number(at as u64);
-            text(b"\n");
+            text(rt, b", tail from ")?;
+            number(rt, at as u64)?;
+            text(rt, b"\n")
         }
     }
 }
 
-fn fields(card: u64, retry: u64, amount: u32, next: usize) {
-    number(card);
-    text(b" ");
-    number(retry);
-    text(b" ");
-    number(amount as u64);
-    after(next);
+fn fields(rt: &impl Print, card: u64, retry: u64, amount: u32, next: usize) -> io::Result<()> {
+    number(rt, card)?;
+    text(rt, b" ")?;
+    number(rt, retry)?;
+    text(rt, b" ")?;
+    number(rt, amount as u64)?;
+    after(rt, next)
 }
 
-fn after(next: usize) {
-    text(b", next ");
-    number(next as u64);
-    text(b"\n");
+fn after(rt: &impl Print, next: usize) -> io::Result<()> {
+    text(rt, b", next ")?;
+    number(rt, next as u64)?;
+    text(rt, b"\n")
 }
 
-fn record(r: Record, next: usize) {
+fn record(rt: &impl Print, r: Record, next: usize) -> io::Result<()> {
     match r {
         Record::Debit {
             card,
             retry,
             amount,
         } => {
-            text(b"debit ");
-            fields(card, retry, amount, next);
+            text(rt, b"debit ")?;
+            fields(rt, card, retry, amount, next)
         }
         Record::TopUp {
             card,
             retry,
             amount,
         } => {
-            text(b"top-up ");
-            fields(card, retry, amount, next);
+            text(rt, b"top-up ")?;
+            fields(rt, card, retry, amount, next)
         }
         Record::Close { card } => {
-            text(b"close ");
-            number(card);
-            after(next);
+            text(rt, b"close ")?;
+            number(rt, card)?;
+            after(rt, next)
         }
     }
 }
 
-pub fn found(f: Found) {
+pub fn found(rt: &impl Print, f: Found) -> io::Result<()> {
     match f {
-        Found::Whole { record: r, next } => record(r, next),
-        Found::Incomplete => text(b"incomplete\n"),
-        Found::End => text(b"end\n"),
-        Found::Refused(r) => refusal(r),
+        Found::Whole { record: r, next } => record(rt, r, next),
+        Found::Incomplete => text(rt, b"incomplete\n"),
+        Found::End => text(rt, b"end\n"),
+        Found::Refused(r) => refusal(rt, r),
     }
 }
 
-pub fn reading(r: Reading) {
+pub fn reading(rt: &impl Print, r: Reading) -> io::Result<()> {
     match r {
         Reading::Complete { records, tail: t } => {
-            number(records as u64);
-            text(b" records");
-            tail(t);
+            number(rt, records as u64)?;
+            text(rt, b" records")?;
+            tail(rt, t)
         }
-        Reading::Refused(x) => refusal(x),
+        Reading::Refused(x) => refusal(rt, x),
     }
 }
 
-pub fn balanced(b: Balanced) {
+pub fn balanced(rt: &impl Print, b: Balanced) -> io::Result<()> {
     match b {
         Balanced::Amount { balance, tail: t } => {
-            signed(balance);
-            tail(t);
+            signed(rt, balance)?;
+            tail(rt, t)
         }
-        Balanced::Refused(x) => refusal(x),
+        Balanced::Refused(x) => refusal(rt, x),
     }
 }
 
 // The used length after it: where it is refused, what it was.
-pub fn appended(a: Appended, used: usize) -> usize {
+pub fn appended(rt: &impl Print, a: Appended, used: usize) -> io::Result<usize> {
     match a {
         Appended::Used(n) => {
-            text(b"used ");
-            number(n as u64);
-            text(b"\n");
-            n
+            text(rt, b"used ")?;
+            number(rt, n as u64)?;
+            text(rt, b"\n")?;
+            Ok(n)
         }
         Appended::Refused(x) => {
-            refusal(x);
-            used
+            refusal(rt, x)?;
+            Ok(used)
         }
     }
 }
