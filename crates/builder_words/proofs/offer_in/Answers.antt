@@ -6,10 +6,10 @@ use Rattle.row_words.specs.Says.{says_fields}
 use Rattle.row_words.specs.Words.{builder_count}
 use Rattle.builder_words.proofs.Laws.{state-none, state-counts, state-is}
 use Rattle.builder_words.proofs.Starts.{offer-short, offer-no-key, offer-no-row, offer-so}
-use Rattle.builder_words.proofs.offer_in.Goals.{In-Is-2}
+use Rattle.builder_words.proofs.offer_in.Goals.{In-Is}
 use Rattle.builder_words.proofs.offer_in.Goals as goal
 
-six-words : (w : In-Is-2) → length w.args.builder.now ≡ builder_count
+six-words : (w : In-Is) → length w.args.builder.now ≡ builder_count
 six-words w = state-counts w.args.builder.now w.state_in-words.ensures w.in-Is.is
 
 pub returns-in_default : goal.returns-in_default
@@ -20,13 +20,13 @@ returns-in_default c =
 pub returns-then-last_key-ne-MAX_KEY : goal.returns-then-last_key-ne-MAX_KEY
 returns-then-last_key-ne-MAX_KEY c =
     let s = c.args in
-    λ value. offer-no-key s.builder.now s.last_key.now s.fields.now value (six-words (goal.at.returns-then-last_key-ne-MAX_KEY c).In-Is-2) c.if-last_key-ne-MAX_KEY.true
+    λ value. offer-no-key s.builder.now s.last_key.now s.fields.now value (six-words (goal.at.returns-then-last_key-ne-MAX_KEY c).In-Is) c.if-last_key-ne-MAX_KEY.true
 
 pub returns-in_default-loaded : goal.returns-in_default-loaded
 returns-in_default-loaded c =
     let s = c.args in
     λ value.
-    offer-no-row s.builder.now s.last_key.now s.fields.now value (six-words (goal.at.returns-in_default-loaded c).In-Is-2) c.if-last_key-ne-MAX_KEY.false
+    offer-no-row s.builder.now s.last_key.now s.fields.now value (six-words (goal.at.returns-in_default-loaded c).In-Is) c.if-last_key-ne-MAX_KEY.false
     (yes (says_fields value) (c.fields_in-loaded.ensures value) c.in_default-loaded.is)
 
 pub returns : goal.returns
@@ -34,5 +34,5 @@ returns c =
     let s = c.args in
     λ value.
     offer-so s.builder.now s.last_key.now s.fields.now value c.in-Is.state c.in-Is-loaded.row
-    (state-is s.builder.now c.state_in-words.ensures c.in-Is.is) (six-words (goal.at.returns c).In-Is-2) c.if-last_key-ne-MAX_KEY.false
+    (state-is s.builder.now c.state_in-words.ensures c.in-Is.is) (six-words (goal.at.returns c).In-Is) c.if-last_key-ne-MAX_KEY.false
     (yes (says_fields value) (c.fields_in-loaded.ensures value) c.in-Is-loaded.is)

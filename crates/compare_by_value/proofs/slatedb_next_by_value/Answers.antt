@@ -20,10 +20,10 @@ use Rattle.row_words.proofs.Laws.{stored}
 use Rattle.block_words.proofs.Starts.{step-tells}
 use Rattle.block_words.proofs.Steps.{steps_bad}
 use Rattle.compare_by_value.proofs.Laws.{next-found, next-done, next-refused}
-use Rattle.compare_by_value.proofs.slatedb_next_by_value.Goals.{In-Is-2}
+use Rattle.compare_by_value.proofs.slatedb_next_by_value.Goals.{In-Is}
 use Rattle.compare_by_value.proofs.slatedb_next_by_value.Goals as goal
 
-told : (k : In-Is-2) → let s = k.args in
+told : (k : In-Is) → let s = k.args in
     (length s.row.now ≡ row_count) × (length s.key.now ≡ max_key) × (cursor_in s.cursor.now s.key.now ≡ ok (view_in k.in-Is.p s.key.now))
 told k =
     let s = k.args in
@@ -43,19 +43,19 @@ returns-in_default c =
     steps_bad _ s.cursor.now s.key.now s.out.now s.row.now (yes (says_cursor s.key.now) c.step_in-loaded.ensures c.in_default.is)
 
 pub iterator_over-requires : goal.iterator_over-requires
-iterator_over-requires c = (told (goal.at.iterator_over-requires c).In-Is-2).1
+iterator_over-requires c = (told (goal.at.iterator_over-requires c).In-Is).1
 
 pub returns-in-Found : goal.returns-in-Found
 returns-in-Found c =
-    let t = told (goal.at.returns-in-Found c).In-Is-2 in
+    let t = told (goal.at.returns-in-Found c).In-Is in
     next-found _ c.args.cursor.now c.args.key.now c.args.out.now c.args.row.now _ t.0 t.1 t.2 _ _ (rw c.iterator_over.ensures at c.next-next.ensures) c.in-Found.is (words-put c c.put_iterator.ensures) (bytes-put c c.put_iterator.ensures) (stored t.0 c.put_row.ensures)
 
 pub returns-in-Done : goal.returns-in-Done
 returns-in-Done c =
-    let t = told (goal.at.returns-in-Done c).In-Is-2 in
+    let t = told (goal.at.returns-in-Done c).In-Is in
     next-done _ c.args.cursor.now c.args.key.now c.args.out.now c.args.row.now _ t.0 t.1 t.2 _ _ (rw c.iterator_over.ensures at c.next-next.ensures) c.in-Done.is (words-put c c.put_iterator-in-Done.ensures) (bytes-put c c.put_iterator-in-Done.ensures)
 
 pub returns-in-Refused : goal.returns-in-Refused
 returns-in-Refused c =
-    let t = told (goal.at.returns-in-Refused c).In-Is-2 in
+    let t = told (goal.at.returns-in-Refused c).In-Is in
     next-refused _ c.args.cursor.now c.args.key.now c.args.out.now c.args.row.now _ t.0 t.1 t.2 _ _ (rw c.iterator_over.ensures at c.next-next.ensures) c.in-Refused.is c.number.ensures

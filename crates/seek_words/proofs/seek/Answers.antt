@@ -9,13 +9,13 @@ use Rattle.row_words.specs.Words.{cursor_in, cursor_count}
 use Rattle.block_words.specs.Says.{says_cursor}
 use Rattle.block_words.proofs.Laws.{cursor-counts}
 use Rattle.seek_words.proofs.Seeks.{seeks-short, seeks-no-cursor, found-put}
-use Rattle.seek_words.proofs.seek.Goals.{In-Is-2}
+use Rattle.seek_words.proofs.seek.Goals.{In-Is}
 use Rattle.seek_words.proofs.seek.Goals as goal
 
-cursor-read : (k : In-Is-2) → cursor_in k.args.cursor.now k.args.key.now ≡ ok (view_in k.in-Is.p k.args.key.now)
+cursor-read : (k : In-Is) → cursor_in k.args.cursor.now k.args.key.now ≡ ok (view_in k.in-Is.p k.args.key.now)
 cursor-read k = yes (says_cursor k.args.key.now) (k.cursor_in-loaded.ensures k.args.key.now) k.in-Is.is
 
-five_words_lem : (k : In-Is-2) → length k.args.cursor.now ≡ cursor_count
+five_words_lem : (k : In-Is) → length k.args.cursor.now ≡ cursor_count
 five_words_lem k = cursor-counts _ _ _ (yes (says_cursor k.args.key.now) (k.cursor_in-loaded.ensures k.args.key.now) k.in-Is.is)
 
 pub returns-then-key-ne-MAX_KEY : goal.returns-then-key-ne-MAX_KEY
@@ -26,8 +26,8 @@ returns-in_default c =
     seeks-no-cursor _ _ _ _ _ c.if-key-ne-MAX_KEY.false (yes (says_cursor c.args.key.now) (c.cursor_in-loaded.ensures c.args.key.now) c.in_default.is)
 
 pub put_found-requires : goal.put_found-requires
-put_found-requires c = five_words_lem (goal.at.put_found-requires c).In-Is-2
+put_found-requires c = five_words_lem (goal.at.put_found-requires c).In-Is
 
 pub returns : goal.returns
 returns c =
-    found-put _ _ _ _ _ c.in-Is.p c.if-key-ne-MAX_KEY.false (cursor-read (goal.at.returns c).In-Is-2) _ _ c.seek_in_place-found.ensures c.put_found.ensures
+    found-put _ _ _ _ _ c.in-Is.p c.if-key-ne-MAX_KEY.false (cursor-read (goal.at.returns c).In-Is) _ _ c.seek_in_place-found.ensures c.put_found.ensures

@@ -8,10 +8,10 @@ use Rattle.state_v2.specs.Says.{view_from}
 use Rattle.builder_words.specs.Says.{gain_is, says_offer}
 use Rattle.builder_words.specs.Promise.{offer_in}
 use Rattle.slatedb_block.proofs.Rows.{fits_bad, fits-yes, fits_refused}
-use Rattle.slatedb_block.proofs.slatedb_builder_would_fit.Goals.{In-Is-2}
+use Rattle.slatedb_block.proofs.slatedb_builder_would_fit.Goals.{In-Is}
 use Rattle.slatedb_block.proofs.slatedb_builder_would_fit.Goals as goal
 
-offered : (k : In-Is-2) → let s = k.args in
+offered : (k : In-Is) → let s = k.args in
     offer_in s.builder.now s.last_key.now s.fields.now s.value.now ≡ ok (gain_is (view_from k.in-Is.s s.last_key.now) (fields_from k.in-Is.row s.value.now))
 offered k =
     let s = k.args in
@@ -25,9 +25,9 @@ returns-in_default c =
 pub returns-in-Good : goal.returns-in-Good
 returns-in-Good c =
     let s = c.args in
-    fits-yes s.builder.now s.last_key.now _ _ s.key.now s.value.now s.fields.now c.in-Is.s c.in-Is.row _ (offered (goal.at.returns-in-Good c).In-Is-2) c.would_fit_in_place-fit.ensures c.in-Good.is
+    fits-yes s.builder.now s.last_key.now _ _ s.key.now s.value.now s.fields.now c.in-Is.s c.in-Is.row _ (offered (goal.at.returns-in-Good c).In-Is) c.would_fit_in_place-fit.ensures c.in-Good.is
 
 pub returns-in-Refused : goal.returns-in-Refused
 returns-in-Refused c =
     let s = c.args in
-    fits_refused s.builder.now s.last_key.now _ _ s.key.now s.value.now s.fields.now c.in-Is.s c.in-Is.row _ (offered (goal.at.returns-in-Refused c).In-Is-2) c.would_fit_in_place-fit.ensures c.in-Refused.is c.number.ensures
+    fits_refused s.builder.now s.last_key.now _ _ s.key.now s.value.now s.fields.now c.in-Is.s c.in-Is.row _ (offered (goal.at.returns-in-Refused c).In-Is) c.would_fit_in_place-fit.ensures c.in-Refused.is c.number.ensures

@@ -9,10 +9,10 @@ use Rattle.cursor_words_v1.specs.Words.{cursor_in}
 use Rattle.cursor_words_v1.specs.Says.{says_cursor}
 use Rattle.cursor_words_v1.proofs.Laws.{cursor-counts}
 use Rattle.slatedb_block_v1.proofs.Steps.{steps-no-row, steps-no-cursor, steps-found, steps-done, steps-refused}
-use Rattle.slatedb_block_v1.proofs.slatedb_v1_next.Goals.{In-Is-2}
+use Rattle.slatedb_block_v1.proofs.slatedb_v1_next.Goals.{In-Is}
 use Rattle.slatedb_block_v1.proofs.slatedb_v1_next.Goals as goal
 
-cursor-read : (k : In-Is-2) → cursor_in k.args.cursor.now ≡ ok (view_of k.in-Is.c)
+cursor-read : (k : In-Is) → cursor_in k.args.cursor.now ≡ ok (view_of k.in-Is.c)
 cursor-read k = yes says_cursor k.cursor_in-loaded.ensures k.in-Is.is
 
 pub returns-then-row-ne-ROW_WORDS : goal.returns-then-row-ne-ROW_WORDS
@@ -29,14 +29,14 @@ pub returns-in-Found : goal.returns-in-Found
 returns-in-Found c =
     let s = c.args in
     let h = c.if-row-ne-ROW_WORDS.false in
-    steps-found _ s.cursor.now s.out.now s.row.now c.in-Is.c h (cursor-read (goal.at.returns-in-Found c).In-Is-2) _ _ c.next-next.ensures c.in-Found.is (stored (cursor-counts _ _ (cursor-read (goal.at.returns-in-Found c).In-Is-2)) c.put_cursor.ensures) (stored h c.put_row.ensures)
+    steps-found _ s.cursor.now s.out.now s.row.now c.in-Is.c h (cursor-read (goal.at.returns-in-Found c).In-Is) _ _ c.next-next.ensures c.in-Found.is (stored (cursor-counts _ _ (cursor-read (goal.at.returns-in-Found c).In-Is)) c.put_cursor.ensures) (stored h c.put_row.ensures)
 
 pub returns-in-Done : goal.returns-in-Done
 returns-in-Done c =
     let s = c.args in
-    steps-done _ s.cursor.now s.out.now s.row.now c.in-Is.c c.if-row-ne-ROW_WORDS.false (cursor-read (goal.at.returns-in-Done c).In-Is-2) _ _ c.next-next.ensures c.in-Done.is (stored (cursor-counts _ _ (cursor-read (goal.at.returns-in-Done c).In-Is-2)) c.put_cursor-in-Done.ensures)
+    steps-done _ s.cursor.now s.out.now s.row.now c.in-Is.c c.if-row-ne-ROW_WORDS.false (cursor-read (goal.at.returns-in-Done c).In-Is) _ _ c.next-next.ensures c.in-Done.is (stored (cursor-counts _ _ (cursor-read (goal.at.returns-in-Done c).In-Is)) c.put_cursor-in-Done.ensures)
 
 pub returns-in-Refused : goal.returns-in-Refused
 returns-in-Refused c =
     let s = c.args in
-    steps-refused _ s.cursor.now s.out.now s.row.now c.in-Is.c c.if-row-ne-ROW_WORDS.false (cursor-read (goal.at.returns-in-Refused c).In-Is-2) _ _ c.next-next.ensures c.in-Refused.is c.number.ensures
+    steps-refused _ s.cursor.now s.out.now s.row.now c.in-Is.c c.if-row-ne-ROW_WORDS.false (cursor-read (goal.at.returns-in-Refused c).In-Is) _ _ c.next-next.ensures c.in-Refused.is c.number.ensures

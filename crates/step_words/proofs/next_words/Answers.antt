@@ -12,10 +12,10 @@ use Rattle.block_words.proofs.Laws.{cursor-counts}
 use Rattle.block_words.proofs.Starts.{step-tells}
 use Rattle.block_words.proofs.Steps.{steps_bad}
 use Rattle.step_words.proofs.Steps.{moved-put}
-use Rattle.step_words.proofs.next_words.Goals.{In-Is-2}
+use Rattle.step_words.proofs.next_words.Goals.{In-Is}
 use Rattle.step_words.proofs.next_words.Goals as goal
 
-told : (k : In-Is-2) → let s = k.args in
+told : (k : In-Is) → let s = k.args in
     (length s.row.now ≡ row_count) × (length s.key.now ≡ max_key) × (cursor_in s.cursor.now s.key.now ≡ ok (view_in k.in-Is.p s.key.now))
 told k =
     let s = k.args in
@@ -28,11 +28,11 @@ returns-in_default c =
 
 pub put_moved-requires : goal.put_moved-requires
 put_moved-requires c =
-    let t = told (goal.at.put_moved-requires c).In-Is-2 in
+    let t = told (goal.at.put_moved-requires c).In-Is in
     (cursor-counts _ _ _ t.2, t.0)
 
 pub returns : goal.returns
 returns c =
     let s = c.args in
-    let t = told (goal.at.returns c).In-Is-2 in
+    let t = told (goal.at.returns c).In-Is in
     moved-put _ s.cursor.now s.key.now s.out.now s.row.now _ t.0 t.1 t.2 _ _ _ c.next_in_place-moved.ensures c.put_moved.ensures
