@@ -9,6 +9,8 @@ mod lines;
 mod single;
 mod writing;
 
-fn main() {
-    lines::answer_input();
+use std::io;
+
+fn main(rt: HostRuntime) -> io::Result<()> {
+    lines::answer_input(&rt)
 }

@@ -3,6 +3,7 @@ use basics::Verdict;
 use block_v2::BlockBuilderV2;
 use finish_in_place_v2::BuildAnswer;
 use replay_text::{offered, parse, show, words};
+use std::io;
 
 // How long the builder's buffers are.
 const DATA: usize = 8192;
@@ -10,67 +11,80 @@ const DATA: usize = 8192;
 const PLACES: usize = 1024;
 
 // The builder with the settings of the line. A refusal is said, as a word by itself, whatever follows.
-fn fresh(line: &[u8]) -> BlockBuilderV2 {
+fn fresh(rt: &impl Print, line: &[u8]) -> io::Result<BlockBuilderV2> {
     let block_size = parse::number(words::word(line, b' ', 1)) as usize;
     let interval = parse::number(words::word(line, b' ', 2)) as usize;
     let made = BlockBuilderV2::new_with_restart_interval(block_size, interval);
     let answer = made.answer;
     if let Verdict::Refused(r) = answer {
-        show::refusal(r);
-        show::mark(b' ');
+        show::refusal(rt, r)?;
+        show::mark(rt, b' ')?;
     }
-    made.builder
+    Ok(made.builder)
 }
 
-fn added(answer: Verdict) {
+fn added(rt: &impl Print, answer: Verdict) -> io::Result<()> {
     match answer {
-        Verdict::Good => show::mark(b'1'),
-        Verdict::Refused(r) => show::refusal(r),
+        Verdict::Good => show::mark(rt, b'1')?,
+        Verdict::Refused(r) => show::refusal(rt, r)?,
     }
-    show::mark(b' ');
+    show::mark(rt, b' ')
 }
 
 // Offers a row to the builder, and says what came of it.
 fn add(
+    rt: &impl Print,
     row: &[u8],
     builder: BlockBuilderV2,
     data: &mut [u8],
     restarts: &mut [u16],
-) -> BlockBuilderV2 {
+) -> io::Result<BlockBuilderV2> {
     let mut key = [0u8; 8192];
     let mut value = [0u8; 8192];
     let k = offered::key(row, &mut key);
     let v = offered::value(row, &mut value);
     let r = builder.add(data, restarts, &key[..k], &value[..v], offered::fields(row));
     let answer = r.answer;
-    added(answer);
-    r.builder
+    added(rt, answer)?;
+    Ok(r.builder)
 }
 
 // Adds the rows before the word with the number `to`.
-fn add_rows(line: &[u8], to: usize, data: &mut [u8], restarts: &mut [u16]) -> BlockBuilderV2 {
-    let mut builder = fresh(line);
+fn add_rows(
+    rt: &impl Print,
+    line: &[u8],
+    to: usize,
+    data: &mut [u8],
+    restarts: &mut [u16],
+) -> io::Result<BlockBuilderV2> {
+    let mut builder = fresh(rt, line)?;
     for number in 3..to {
-        builder = add(words::word(line, b' ', number), builder, data, restarts);
+        builder = add(rt, words::word(line, b' ', number), builder, data, restarts)?;
     }
-    builder
+    Ok(builder)
 }
 
 // build2 BLOCK_SIZE INTERVAL ROW..: a word for each row, then the block.
-pub fn build(line: &[u8]) {
+pub fn build(rt: &impl Print, line: &[u8]) -> io::Result<()> {
     let mut data = [0u8; DATA];
     let mut restarts = [0u16; PLACES];
     let to = words::count(line, b' ');
-    let all = add_rows(line, to, &mut data, &mut restarts);
+    let all = add_rows(rt, line, to, &mut data, &mut restarts)?;
     let answer = all.build(&mut data, &restarts).answer;
     match answer {
-        BuildAnswer::Block(n) => show::bytes(&data, 0, n),
-        BuildAnswer::Refused(r) => show::refusal(r),
+        BuildAnswer::Block(n) => show::bytes(rt, &data, 0, n),
+        BuildAnswer::Refused(r) => show::refusal(rt, r),
     }
 }
 
 // Whether the builder would take the row, over buffers of these lengths.
-fn fits(row: &[u8], builder: BlockBuilderV2, data_len: usize, places_len: usize) {
+fn fits(
+    rt: &impl Print,
+    row: &[u8],
+    builder: BlockBuilderV2,
+    data_len: usize,
+    places_len: usize,
+) -> io::Result<()> {
     let mut key = [0u8; 8192];
     let mut value = [0u8; 8192];
     let k = offered::key(row, &mut key);
@@ -82,16 +96,16 @@ fn fits(row: &[u8], builder: BlockBuilderV2, data_len: usize, places_len: usize)
         &value[..v],
         offered::fields(row),
     ) {
-        Verdict::Good => show::mark(b'1'),
-        Verdict::Refused(r) => show::refusal(r),
+        Verdict::Good => show::mark(rt, b'1'),
+        Verdict::Refused(r) => show::refusal(rt, r),
     }
 }
 
 // fit2 BLOCK_SIZE INTERVAL ROW..: a word for each row but the last, then whether that one fits.
-pub fn fit(line: &[u8]) {
+pub fn fit(rt: &impl Print, line: &[u8]) -> io::Result<()> {
     let mut data = [0u8; DATA];
     let mut restarts = [0u16; PLACES];
-    let last = std::num::wrapping_sub_usize(words::count(line, b' '), 1);
-    let most = add_rows(line, last, &mut data, &mut restarts);
-    fits(words::word(line, b' ', last), most, DATA, PLACES);
+    let last = words::count(line, b' ').wrapping_sub(1);
+    let most = add_rows(rt, line, last, &mut data, &mut restarts)?;
+    fits(rt, words::word(line, b' ', last), most, DATA, PLACES)
 }

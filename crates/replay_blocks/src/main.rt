@@ -6,6 +6,8 @@ mod answer;
 mod lines;
 mod reading;
 
-fn main() {
-    lines::answer_input();
+use std::io;
+
+fn main(rt: HostRuntime) -> io::Result<()> {
+    lines::answer_input(&rt)
 }

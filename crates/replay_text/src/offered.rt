@@ -1,5 +1,5 @@
 // A row that is offered, from its word.
-ghost use Rattle.io.specs.Counts.{IsPrefixLen};
+ghost use Rattle.std.specs.Prelude.{◌≤◌, length};
 
 use crate::{parse, words};
 use basics::{Kind, Time};
@@ -24,7 +24,7 @@ fn time(word: &[u8]) -> Time {
     if word.len() == 1 {
         return Time::Absent;
     }
-    signed(std::num::wrapping_sub_u64(0, parse::number(word)))
+    signed(parse::number(word).wrapping_neg())
 }
 
 fn kind(word: &[u8]) -> Kind {
@@ -36,13 +36,13 @@ fn kind(word: &[u8]) -> Kind {
 }
 
 pub fn key(row: &[u8], out: &mut [u8]) -> usize
-    ensures { IsPrefixLen result out.new }
+    ensures { result ≤ length out.new }
 {
     parse::bytes(words::word(row, b':', 0), out)
 }
 
 pub fn value(row: &[u8], out: &mut [u8]) -> usize
-    ensures { IsPrefixLen result out.new }
+    ensures { result ≤ length out.new }
 {
     parse::bytes(words::word(row, b':', 2), out)
 }

@@ -1,6 +1,5 @@
 // What a word stands for. The list has no word of another form; from such a one something is made all the same.
-ghost use Rattle.std.specs.Prelude.{◌≤◌};
-ghost use Rattle.io.specs.Counts.{IsPrefixLen};
+ghost use Rattle.std.specs.Prelude.{◌≤◌, length};
 
 use crate::words;
 
@@ -21,21 +20,21 @@ fn joined(n: u64, d: u8) -> u64 {
     if u64::MAX / 10 < n {
         return n;
     }
-    std::num::wrapping_add_u64(n * 10, d as u64)
+    (n * 10).wrapping_add(d as u64)
 }
 
 pub fn number(word: &[u8]) -> u64 {
     let mut n = 0;
-    for i in 0..word.len() {
-        n = joined(n, digit(word[i]));
+    for b in word {
+        n = joined(n, digit(*b));
     }
     n
 }
 
 // The byte that the digits at `2 * i` and after it spell.
 fn byte(word: &[u8], i: usize) -> u8 {
-    let high = std::num::wrapping_add_usize(i, i);
-    let low = std::num::wrapping_add_usize(high, 1);
+    let high = i.wrapping_add(i);
+    let low = high.wrapping_add(1);
     digit(words::byte(word, high)) % 16 * 16 + digit(words::byte(word, low)) % 16
 }
 
@@ -47,7 +46,7 @@ fn least(a: usize, b: usize) -> usize
 
 // Puts the word's bytes at the start of `out`, and answers how many there are: `-` has none.
 pub fn bytes(word: &[u8], out: &mut [u8]) -> usize
-    ensures { IsPrefixLen result out.new }
+    ensures { result ≤ length out.new }
 {
     let n = least(word.len() / 2, out.len());
     for i in 0..n {

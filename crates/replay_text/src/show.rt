@@ -2,92 +2,91 @@
 use crate::words;
 use basics::{Refusal, Time, ValueDeletable};
 use buf::WordRead;
-use libc::STDOUT_FILENO;
 use row_decode_v2::Row;
+use std::io;
+use std::io::Write;
 
-pub fn text(s: &[u8]) {
-    io::write_all(STDOUT_FILENO, s);
+pub fn text(rt: &impl Print, s: &[u8]) -> io::Result<()> {
+    io::writer(rt).write_all(s)
 }
 
-pub fn mark(b: u8) {
+pub fn mark(rt: &impl Print, b: u8) -> io::Result<()> {
     let one = [b];
-    text(&one);
+    text(rt, &one)
 }
 
-pub fn number(n: u64) {
-    io::print_decimal(STDOUT_FILENO, n);
+pub fn number(rt: &impl Print, n: u64) -> io::Result<()> {
+    print!(rt; "{n}")
 }
 
 // The `len` bytes of `s` from `start` on.
-pub fn bytes(s: &[u8], start: usize, len: usize) {
+pub fn bytes(rt: &impl Print, s: &[u8], start: usize, len: usize) -> io::Result<()> {
     for i in 0..len {
-        let b = words::byte(s, std::num::wrapping_add_usize(start, i));
-        io::print_hex(STDOUT_FILENO, b as u64, 2);
+        let b = words::byte(s, start.wrapping_add(i));
+        print!(rt; "{b:02x}")?;
     }
+    Ok(())
 }
 
 // The Rust's word for the refusal with each number; `-` where it has none.
-pub fn refusal(r: Refusal) {
+pub fn refusal(rt: &impl Print, r: Refusal) -> io::Result<()> {
     let rust =
         b"- E:EmptyKey - - 0 - - E:EmptyBlock - - - E:InvalidRowFlags E:InvalidRowFlags - - - - - - -";
     let n = basics::number(r);
     let word = words::word(rust, b' ', n as usize);
     if words::byte(word, 0) != b'-' {
-        text(word);
-        return;
+        return text(rt, word);
     }
-    text(b"refused ");
-    number(n as u64);
+    text(rt, b"refused ")?;
+    number(rt, n as u64)
 }
 
 // A signed number, from its bits.
-fn signed(bits: u64) {
+fn signed(rt: &impl Print, bits: u64) -> io::Result<()> {
     if bits < 9223372036854775808 {
-        number(bits);
-        return;
+        return number(rt, bits);
     }
-    mark(b'-');
-    number(std::num::wrapping_sub_u64(0, bits));
+    mark(rt, b'-')?;
+    number(rt, bits.wrapping_neg())
 }
 
 // The bits are read from the eight bytes.
-fn time(t: Time) {
-    mark(b':');
+fn time(rt: &impl Print, t: Time) -> io::Result<()> {
+    mark(rt, b':')?;
     let Time::At(z) = t else {
-        mark(b'-');
-        return;
+        return mark(rt, b'-');
     };
     let mut eight = [0u8; 8];
     buf_mut::put_i64(&mut eight, 0, z);
     match buf::get_u64(&eight, 0) {
-        WordRead::Word { value, next: _ } => signed(value),
-        WordRead::Refused(r) => refusal(r),
+        WordRead::Word { value, next: _ } => signed(rt, value),
+        WordRead::Refused(r) => refusal(rt, r),
     }
 }
 
-fn value_at(kind: u8, s: &[u8], start: usize, len: usize) {
-    mark(b':');
-    mark(kind);
-    mark(b':');
-    bytes(s, start, len);
-    mark(b':');
+fn value_at(rt: &impl Print, kind: u8, s: &[u8], start: usize, len: usize) -> io::Result<()> {
+    mark(rt, b':')?;
+    mark(rt, kind)?;
+    mark(rt, b':')?;
+    bytes(rt, s, start, len)?;
+    mark(rt, b':')
 }
 
-fn value(s: &[u8], held: ValueDeletable) {
+fn value(rt: &impl Print, s: &[u8], held: ValueDeletable) -> io::Result<()> {
     match held {
-        ValueDeletable::Value { start, len } => value_at(b'v', s, start, len),
-        ValueDeletable::Merge { start, len } => value_at(b'm', s, start, len),
-        ValueDeletable::Tombstone => value_at(b't', s, 0, 0),
+        ValueDeletable::Value { start, len } => value_at(rt, b'v', s, start, len),
+        ValueDeletable::Merge { start, len } => value_at(rt, b'm', s, start, len),
+        ValueDeletable::Tombstone => value_at(rt, b't', s, 0, 0),
     }
 }
 
 // What follows the key of a row of `s`.
-pub fn row(s: &[u8], r: Row) {
+pub fn row(rt: &impl Print, s: &[u8], r: Row) -> io::Result<()> {
     let held = r.held;
     let expire = r.expire;
     let create = r.create;
-    value(s, held);
-    number(r.seq);
-    time(expire);
-    time(create);
+    value(rt, s, held)?;
+    number(rt, r.seq)?;
+    time(rt, expire)?;
+    time(rt, create)
 }

@@ -43,10 +43,10 @@ pub fn word<'a>(s: &'a [u8], mark: u8, number: usize) -> &'a [u8] {
 
 // How many words there are.
 pub fn count(s: &[u8], mark: u8) -> usize {
-    let mut n = 1;
-    for i in 0..s.len() {
-        if s[i] == mark {
-            n = std::num::wrapping_add_usize(n, 1);
+    let mut n: usize = 1;
+    for b in s {
+        if *b == mark {
+            n = n.wrapping_add(1);
         }
     }
     n

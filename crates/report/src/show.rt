@@ -1,33 +1,32 @@
 // The report on one block, from a zero tally.
 use basics::{Refusal, Verdict};
-use libc::STDOUT_FILENO;
+use std::io;
+use std::io::Write;
 use tally::Tally;
 
 const MOST_BLOCK: usize = 65536;
 
-fn line(name: &[u8], n: u64) {
-    io::write_all(STDOUT_FILENO, name);
-    io::print_decimal(STDOUT_FILENO, n);
-    io::write_all(STDOUT_FILENO, b"\n");
+fn line(rt: &impl Print, name: &[u8], n: u64) -> io::Result<()> {
+    io::writer(rt).write_all(name)?;
+    println!(rt; "{n}")
 }
 
-fn refused(r: Refusal) {
+fn refused(rt: &impl Print, r: Refusal) -> io::Result<()> {
     let n = basics::number(r);
-    line(b"refused ", n as u64);
+    line(rt, b"refused ", n as u64)
 }
 
-fn counts(t: Tally) {
-    line(b"rows ", t.rows);
-    line(b"tombstones ", t.tombstones);
-    line(b"merges ", t.merges);
-    line(b"value bytes ", t.value_bytes);
+fn counts(rt: &impl Print, t: Tally) -> io::Result<()> {
+    line(rt, b"rows ", t.rows)?;
+    line(rt, b"tombstones ", t.tombstones)?;
+    line(rt, b"merges ", t.merges)?;
+    line(rt, b"value bytes ", t.value_bytes)
 }
 
 // A block that is too long is 14, as one that is too short.
-pub fn report(block: &[u8]) {
+pub fn report(rt: &impl Print, block: &[u8]) -> io::Result<()> {
     if MOST_BLOCK < block.len() {
-        refused(Refusal::BadTrailer);
-        return;
+        return refused(rt, Refusal::BadTrailer);
     }
     let zero = Tally {
         rows: 0,
@@ -38,7 +37,7 @@ pub fn report(block: &[u8]) {
     let r = tally::tallied_block(zero, block);
     let answer = r.answer;
     match answer {
-        Verdict::Good => counts(r.tally),
-        Verdict::Refused(refusal) => refused(refusal),
+        Verdict::Good => counts(rt, r.tally),
+        Verdict::Refused(refusal) => refused(rt, refusal),
     }
 }

@@ -3,11 +3,12 @@
 
 mod show;
 
-use libc::STDIN_FILENO;
+use replay_text::input;
+use std::io;
 
-fn main() {
+fn main(rt: HostRuntime) -> io::Result<()> {
     // One byte more than a block may have, to tell one that is too long.
     let mut block = [0u8; 65537];
-    let n = io::read_full(STDIN_FILENO, &mut block);
-    show::report(&block[..n]);
+    let n = input::read_full(&mut rt.reader(), &mut block)?;
+    show::report(&rt, &block[..n])
 }

@@ -7,7 +7,9 @@
 
 mod show;
 
-use libc::STDIN_FILENO;
+use replay_text::input;
+use std::io;
+use std::io::Write;
 
 const MOST_INPUT: usize = 8192;
 
@@ -25,40 +27,41 @@ fn joined(byte: u8, digit: u8) -> u8 {
     byte % 16 * 16 + digit % 16
 }
 
-fn report_start(block: &[u8], n: usize) {
+fn report_start(rt: &impl Print, block: &[u8], n: usize) -> io::Result<()> {
     if n <= block.len() {
-        show::report(&block[..n]);
+        show::report(rt, &block[..n])?;
     }
+    Ok(())
 }
 
 // Puts one more digit into the block, after so many; at a line's end reports on the block, and starts again. Digits that it has no room for are dropped.
-fn taken(block: &mut [u8], digits: usize, b: u8) -> usize {
+fn taken(rt: &impl Print, block: &mut [u8], digits: usize, b: u8) -> io::Result<usize> {
     let at = digits / 2;
     if b == b'\n' {
-        report_start(block, at);
-        return 0;
+        report_start(rt, block, at)?;
+        return Ok(0);
     }
     if block.len() <= at {
-        return digits;
+        return Ok(digits);
     }
     block[at] = joined(block[at], digit(b));
-    std::num::wrapping_add_usize(digits, 1)
+    Ok(digits.wrapping_add(1))
 }
 
-fn report_all(text: &[u8]) {
+fn report_all(rt: &impl Print, text: &[u8]) -> io::Result<()> {
     let mut block = [0u8; 512];
     let mut digits = 0;
-    for i in 0..text.len() {
-        digits = taken(&mut block, digits, text[i]);
+    for b in text {
+        digits = taken(rt, &mut block, digits, *b)?;
     }
+    Ok(())
 }
 
-fn main() {
+fn main(rt: HostRuntime) -> io::Result<()> {
     let mut text = [0u8; 8193];
-    let n = io::read_full(STDIN_FILENO, &mut text);
+    let n = input::read_full(&mut rt.reader(), &mut text)?;
     if MOST_INPUT < n {
-        io::write_all(libc::STDOUT_FILENO, b"input too long\n");
-        return;
+        return io::writer(&rt).write_all(b"input too long\n");
     }
-    report_all(&text[..n]);
+    report_all(&rt, &text[..n])
 }
