@@ -20,7 +20,7 @@ kept : (w : After-check_region-walked) → length w.check_region-walked.new.key 
 kept w = w.check_region-walked.auto.key ∙ w.loop-p.invariant.0
 
 left : (w : After-check_region-walked) → {x : Walked} → w.check_region-walked.result ≡ x → Leaves w.args.block.now (trailer_from w.args.t) w.loop-p.p x w.check_region-walked.new.key
-left w e = leaves_as _ _ _ _ w.check_region-walked.ensures e
+left w e = leaves_as w.args.block.now (trailer_from w.args.t) w.loop-p.p _ w.check_region-walked.ensures e
 
 pub loop-p-smaller : goal.loop-p-smaller
 loop-p-smaller c = let l = (left (goal.at.loop-p-smaller c).After-check_region-walked c.in-Over.is).0 in omega arith

@@ -14,11 +14,11 @@ keeps_above-kept-requires t c = record { count_value = (c.requires.count_value.0
 
 pub search_rows-requires : goal.search_rows-requires
 search_rows-requires t c =
-    (omega arith, record { count_value = (c.requires.count_value.0, omega arith); low_bound = omega arith; stands = c.requires.stands })
+    (omega arith, ((c.requires.count_value.0, omega arith), (omega arith, c.requires.stands)))
 
 pub search_rows-requires-else-upper : goal.search_rows-requires-else-upper
 search_rows-requires-else-upper t c =
-    (omega arith, record { count_value = (c.requires.count_value.0, omega arith); low_bound = omega arith; stands = c.requires.stands })
+    (omega arith, ((c.requires.count_value.0, omega arith), (omega arith, c.requires.stands)))
 
 pub returns-then-upper : goal.returns-then-upper
 returns-then-upper t c =

@@ -8,7 +8,7 @@ use Rattle.block_regions_v2.specs.Parts.{Reaching}
 use Rattle.block_regions_v2.proofs.reach.Given as goal
 
 abbrev pub invariant-loop-region : goal.invariant-loop-region
-invariant-loop-region l = Reaching «data» (region_from l.region) l.stop l.at l.len l.known × Counting «data» (region_from l.region) l.at l.len l.number
+invariant-loop-region l = Reaching l.data (region_from l.region) l.stop l.at l.len l.known × Counting l.data (region_from l.region) l.at l.len l.number
 
 abbrev pub decreases-loop-region : goal.decreases-loop-region
 decreases-loop-region l = l.stop - l.at

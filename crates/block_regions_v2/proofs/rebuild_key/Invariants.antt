@@ -7,7 +7,7 @@ use Rattle.block_regions_v2.specs.Rows.{Filling}
 use Rattle.block_regions_v2.proofs.rebuild_key.Given as goal
 
 abbrev pub invariant-loop-at : goal.invariant-loop-at
-invariant-loop-at l = ((wanted : Key) → Filling «data» (region_from l.region) l.stop wanted l.initial.key l.from l.from_len → Filling «data» (region_from l.region) l.stop wanted l.key l.at l.len) × (length l.key ≡ length l.initial.key)
+invariant-loop-at l = ((wanted : Key) → Filling l.data (region_from l.region) l.stop wanted l.initial.key l.from l.from_len → Filling l.data (region_from l.region) l.stop wanted l.key l.at l.len) × (length l.key ≡ length l.initial.key)
 
 abbrev pub decreases-loop-at : goal.decreases-loop-at
 decreases-loop-at l = l.stop - l.at

@@ -6,8 +6,6 @@ use Rattle.row_span_v2.specs.Promise.{span_from}
 use Rattle.block_regions_v2.specs.Climb.{climbing_start, climbing_over, climbing_stop, climbing_more}
 use Rattle.block_regions_v2.specs.Count.{counting-span}
 use Rattle.block_regions_v2.specs.Laws.{halts_no, halts_there}
-use mathlib.Core.Path.{ap}
-use mathlib.Core.Bool.{not}
 use Rattle.block_regions_v2.proofs.walk_place.Goals.{Else-row-eq0}
 use Rattle.block_regions_v2.proofs.walk_place.Goals as goal
 
@@ -29,7 +27,7 @@ pub slice_bounds-match_up-end : goal.slice_bounds-match_up-end
 slice_bounds-match_up-end c = (tells (goal.at.slice_bounds-match_up-end c).Else-row-eq0).suffix
 
 pub returns-then-not-now : goal.returns-then-not-now
-returns-then-not-now c = let v = c.loop-at.invariant in halts_there _ _ _ _ _ _ _ _ _ v.0 v.1 (climbing_stop _ _ _ _ _ _ _ _ _ v.0 c.loop-at-test.true (span_from c.span_in-row.result) c.span_in-row.ensures c.if-row-eq0.false c.match_up-now.ensures.below-is (ap not c.if-not-now.true)) c.halt-then-not-now.ensures
+returns-then-not-now c = let v = c.loop-at.invariant in halts_there _ _ _ _ _ _ _ _ _ v.0 v.1 (climbing_stop _ _ _ _ _ _ _ _ _ v.0 c.loop-at-test.true (span_from c.span_in-row.result) c.span_in-row.ensures c.if-row-eq0.false c.match_up-now.ensures.below-is c.if-not-now.true) c.halt-then-not-now.ensures
 
 pub overflow_add-len : goal.overflow_add-len
 overflow_add-len c = omega (arith, (tells (goal.at.overflow_add-len c).Else-row-eq0).few)
@@ -43,7 +41,7 @@ loop-at-smaller c = let w = tells (goal.at.loop-at-smaller c).Else-row-eq0 in om
 pub loop-at-preserved : goal.loop-at-preserved
 loop-at-preserved c =
     let v = c.loop-at.invariant in
-    (climbing_more _ _ _ _ _ _ _ _ _ v.0 c.loop-at-test.true (span_from c.span_in-row.result) c.span_in-row.ensures c.if-row-eq0.false c.match_up-now.ensures.below-is (ap not c.if-not-now.false) c.match_up-now.ensures.len_is c.latest-from.ensures c.latest-from_len.ensures, counting-span _ _ _ _ _ v.1 (span_from c.span_in-row.result) c.span_in-row.ensures c.if-row-eq0.false)
+    (climbing_more _ _ _ _ _ _ _ _ _ v.0 c.loop-at-test.true (span_from c.span_in-row.result) c.span_in-row.ensures c.if-row-eq0.false c.match_up-now.ensures.below-is c.if-not-now.false c.match_up-now.ensures.len_is c.latest-from.ensures c.latest-from_len.ensures, counting-span _ _ _ _ _ v.1 (span_from c.span_in-row.result) c.span_in-row.ensures c.if-row-eq0.false)
 
 pub returns : goal.returns
 returns c = let v = c.loop-at.invariant in halts_there _ _ _ _ _ _ _ _ _ v.0 v.1 (climbing_over _ _ _ _ _ _ _ _ _ v.0 c.loop-at-test.false) c.halt-2.ensures

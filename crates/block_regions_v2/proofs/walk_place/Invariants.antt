@@ -10,7 +10,7 @@ use Rattle.block_regions_v2.proofs.walk_place.Given as goal
 
 abbrev pub invariant-loop-at : goal.invariant-loop-at
 invariant-loop-at l =
-    Climbing «data» (region_from l.region) l.target (length «data») l.at l.matched l.len l.from l.from_len × Counting «data» (region_from l.region) l.at l.len l.number
+    Climbing l.data (region_from l.region) l.target (length l.data) l.at l.matched l.len l.from l.from_len × Counting l.data (region_from l.region) l.at l.len l.number
 
 abbrev pub decreases-loop-at : goal.decreases-loop-at
 decreases-loop-at l = l.region.end - l.at

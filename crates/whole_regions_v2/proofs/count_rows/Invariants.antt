@@ -9,7 +9,7 @@ use Rattle.whole_regions_v2.proofs.count_rows.Given as goal
 
 abbrev pub invariant-loop-row : goal.invariant-loop-row
 invariant-loop-row l =
-    Reaching «data» (region_from l.region) l.region.end l.at l.len (known_is 0 0 0 0) × Counting «data» (region_from l.region) l.at l.len l.rows
+    Reaching l.data (region_from l.region) l.region.end l.at l.len (known_is 0 0 0 0) × Counting l.data (region_from l.region) l.at l.len l.rows
 
 abbrev pub decreases-loop-row : goal.decreases-loop-row
 decreases-loop-row l = l.region.end - l.at

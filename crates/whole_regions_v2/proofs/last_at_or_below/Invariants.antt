@@ -12,7 +12,7 @@ use Rattle.whole_regions_v2.proofs.last_at_or_below.Given as goal
 
 abbrev pub invariant-loop-at : goal.invariant-loop-at
 invariant-loop-at l =
-    MatchingDown «data» (region_from l.region) l.target (length «data») l.at l.matched l.len l.best l.above × Counting «data» (region_from l.region) l.at l.len l.number × (ended_by «data» (region_from l.region) l.best ≡ l.best_number)
+    MatchingDown l.data (region_from l.region) l.target (length l.data) l.at l.matched l.len l.best l.above × Counting l.data (region_from l.region) l.at l.len l.number × (ended_by l.data (region_from l.region) l.best ≡ l.best_number)
 
 abbrev pub decreases-loop-at : goal.decreases-loop-at
 decreases-loop-at l = l.region.end - l.at
