@@ -1,11 +1,12 @@
 -- `next_descending` keeps the promise of a step down: what `look_behind` answers is what the definition does, and in a region the step goes back.
 -- Each arm turns that answer into the step that is wanted.
+use Rattle.trailer.specs.Says.{trailer_from}
 use Rattle.step_in_place_v2.proofs.Laws.{before_in, behind-said, moves_not, moves-done, moves_as}
 use Rattle.step_in_place_v2.proofs.next_descending.Goals as goal
 
 pub back-requires : goal.back-requires
 back-requires c =
-    let b = before_in _ _ _ c.look_behind-behind.ensures.before c.in-In.is in
+    let b = before_in c.args.p c.args.block.now (trailer_from c.args.t) c.look_behind-behind.ensures.before c.in-In.is in
     (c.requires.read, b.0, b.1)
 
 pub returns-in-In : goal.returns-in-In
