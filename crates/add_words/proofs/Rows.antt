@@ -7,7 +7,7 @@ use borrow.Author.Tests.{eq-eqb}
 use Rattle.layout.specs.Res.{Res, ok, refuse, bind}
 use Rattle.layout.specs.Builder.{Builder}
 use Rattle.layout.specs.Limits.{max_key}
-use Rattle.layout.specs.Laws.Res.{ok-inj}
+use Rattle.layout.proofs.Laws.Res.{ok-inj}
 use Rattle.basics.specs.Answers.{apart, yes}
 use Rattle.basics.specs.Number.{number}
 use Rattle.basics.specs.declared.Refusal.{Refusal}

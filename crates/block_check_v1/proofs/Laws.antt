@@ -12,11 +12,13 @@ use Rattle.layout.specs.Key.{Key, Ordering, compare}
 use Rattle.layout.specs.RowRead.{RowRead}
 use Rattle.layout.specs.Trailer.{Trailer, data_of, Region, region_of, offset_at, all_offsets}
 use Rattle.layout.specs.Laws.Order.{may_by}
-use Rattle.layout.specs.Laws.Trailer.{region_of-tells, all_offsets-tell}
+use Rattle.layout.proofs.Laws.Trailer.{region_of-tells, all_offsets-tell}
 use Rattle.layout_v1.specs.RowRead.{read_row}
-use Rattle.layout_v1.specs.Laws.RowReads.{RowEnds, read_row-ends}
-use Rattle.layout_v1.specs.Laws.Joined.{key_at, keys-lent}
-use Rattle.layout_v1.specs.Laws.Check.{first_at, rows_of, len_after, row-region, row-no, row-falls, row-passed, first_on, shares-on, checking-no, checking-more}
+use Rattle.layout_v1.proofs.Laws.RowReads.{RowEnds, read_row-ends}
+use Rattle.layout_v1.specs.Laws.Joined.{key_at}
+use Rattle.layout_v1.proofs.Laws.Joined.{keys-lent}
+use Rattle.layout_v1.specs.Laws.Check.{first_at, rows_of}
+use Rattle.layout_v1.proofs.Laws.Check.{len_after, row-region, row-no, row-falls, row-passed, first_on, shares-on, checking-no, checking-more}
 use Rattle.block_check_v2.specs.Laws.{may-told}
 use Rattle.block_check_v1.specs.declared.Passed.{Passed}
 use Rattle.block_check_v1.specs.Walk.{Stands}

@@ -8,13 +8,17 @@ use Rattle.layout.specs.Limits.{max_key}
 use Rattle.layout.specs.Place.{splice}
 use Rattle.layout.specs.RowRead.{RowRead, key_length}
 use Rattle.layout.specs.Trailer.{Trailer, trailer_of, data_of, Region, region_of, all_offsets, row_in}
-use Rattle.layout.specs.Laws.Res.{ltb-cases, ok-inj}
-use Rattle.layout.specs.Laws.Carry.{suffix_of, suffix-fits, carries-on}
-use Rattle.layout.specs.Laws.Splice.{length-splice, take-past-splice}
-use Rattle.layout.specs.Laws.Check.{Checking, checking-start, checking-over, checking-no, checking-more, row-region, row-no, row-falls, row-passed}
+use Rattle.layout.proofs.Laws.Res.{ltb-cases, ok-inj}
+use Rattle.layout.specs.Laws.Carry.{suffix_of}
+use Rattle.layout.proofs.Laws.Carry.{suffix-fits, carries-on}
+use Rattle.layout.proofs.Laws.Splice.{length-splice, take-past-splice}
+use Rattle.layout.specs.Laws.Check.{Checking}
+use Rattle.layout.proofs.Laws.Check.{checking-start, checking-over, checking-no, checking-more, row-region, row-no, row-falls, row-passed}
 use Rattle.layout.specs.Laws.Order.{may_by}
-use Rattle.layout.specs.Laws.Tells.{RowEnds, row-shares, row_in-ends}
-use Rattle.layout.specs.Laws.Trailer.{RegionTells, region_of-tells, trailer_of-tells, all_offsets-tell}
+use Rattle.layout.specs.Laws.Tells.{RowEnds}
+use Rattle.layout.proofs.Laws.Tells.{row-shares, row_in-ends}
+use Rattle.layout.specs.Laws.Trailer.{RegionTells}
+use Rattle.layout.proofs.Laws.Trailer.{region_of-tells, trailer_of-tells, all_offsets-tell}
 use Rattle.block_check_v2.specs.declared.Passed.{Passed}
 use Rattle.block_check_v2.specs.declared.Tried.{Tried}
 use Rattle.block_check_v2.specs.declared.Walked.{Walked}

@@ -14,14 +14,14 @@ use Rattle.layout.specs.Place.{splice}
 use Rattle.layout.specs.Key.{Key}
 use Rattle.layout.specs.RowRead.{RowRead, KeyRead, key_length}
 use Rattle.layout.specs.Trailer.{Trailer, data_of, Region, region_of}
-use Rattle.layout.specs.Laws.Splice.{length-splice, then-write}
+use Rattle.layout.proofs.Laws.Splice.{length-splice, then-write}
 use Rattle.layout.specs.Cursor.{Direction, ascending, descending}
 use Rattle.layout_v1.specs.RowRead.{read_row}
 use Rattle.layout_v1.specs.Check.{before}
 use Rattle.layout_v1.specs.Cursor.{Cursor, cursor_is, found, done, Step, step_is, number_of, step_to, open_block}
 use Rattle.layout_v1.specs.Seek.{Sought as SoughtL, sought_is, passed_by}
-use Rattle.layout_v1.specs.Laws.RowReads.{RowEnds, read_row-ends}
-use Rattle.layout_v1.specs.Laws.Cursor.{before-length, share-fits, step-region, step_row, step-short, step-found}
+use Rattle.layout_v1.proofs.Laws.RowReads.{RowEnds, read_row-ends}
+use Rattle.layout_v1.proofs.Laws.Cursor.{before-length, share-fits, step-region, step_row, step-short, step-found}
 use Rattle.basics.specs.Number.{number}
 use Rattle.basics.specs.Says.{says_order}
 use Rattle.basics.specs.declared.IterationOrder.{IterationOrder}

@@ -3,7 +3,7 @@ use Rattle.std.specs.Prelude.{ℕ, Bool, ◌≡◌, refl}
 use Rattle.std.proofs.Common.{ap, sym, ◌∙◌, arith}
 use Rattle.layout.specs.Res.{Res, ok, refuse}
 use Rattle.layout.specs.RowRead.{RowRead as RowReadL}
-use Rattle.layout.specs.Laws.Res.{ok-inj}
+use Rattle.layout.proofs.Laws.Res.{ok-inj}
 use Rattle.layout_v1.specs.Cursor.{Cursor, cursor_is, Answer, found, done, Step}
 use Rattle.layout_v1.specs.Seek.{Sought}
 use Rattle.basics.specs.Answers.{apart, refused-one}

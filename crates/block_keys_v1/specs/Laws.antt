@@ -12,15 +12,16 @@ use Rattle.layout.specs.RowRead.{KeyRead, joined}
 use Rattle.layout.specs.Trailer.{Trailer, trailer_of, data_of, Region, region_of}
 use Rattle.layout.specs.Cursor.{Direction}
 use Rattle.layout.specs.Seek.{Found}
-use Rattle.layout.specs.Laws.Match.{common-sym}
-use Rattle.layout.specs.Laws.Res.{bind-then}
-use Rattle.layout.specs.Laws.Search.{search_on, on-whole}
-use Rattle.layout.specs.Laws.Trailer.{trailer_of-tells}
+use Rattle.layout.proofs.Laws.Match.{common-sym}
+use Rattle.layout.proofs.Laws.Res.{bind-then}
+use Rattle.layout.specs.Laws.Search.{search_on}
+use Rattle.layout.proofs.Laws.Search.{on-whole}
+use Rattle.layout.proofs.Laws.Trailer.{trailer_of-tells}
 use Rattle.layout_v1.specs.RowRead.{read_key}
 use Rattle.layout_v1.specs.Check.{before}
 use Rattle.layout_v1.specs.Cursor.{the_first_key, cursor_is}
 use Rattle.layout_v1.specs.Seek.{keeps_upper, key_passes, search_rows, passed_by, sought_is, seek}
-use Rattle.layout_v1.specs.Laws.Cursor.{read_key-lies, before-length, share-fits, keeps-past, keeps_on, key-region, key-no, key-is, passes-no, passes-is, search-inside, seek-first, seek-search, seek_is}
+use Rattle.layout_v1.proofs.Laws.Cursor.{read_key-lies, before-length, share-fits, keeps-past, keeps_on, key-region, key-no, key-is, passes-no, passes-is, search-inside, seek-first, seek-search, seek_is}
 use Rattle.basics.specs.Says.{says_order}
 use Rattle.basics.specs.declared.IterationOrder.{IterationOrder}
 use Rattle.basics.specs.declared.IterationOrder.TheVariants.{Ascending, Descending}

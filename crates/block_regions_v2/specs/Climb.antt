@@ -10,13 +10,15 @@ use Rattle.layout.specs.RowRead.{RowRead, key_length, key_of}
 use Rattle.layout.specs.Plain.{RowSpan, span_of}
 use Rattle.layout.specs.Trailer.{Region, row_in}
 use Rattle.layout.specs.Seek.{Stop, stop_is, walk_region}
-use Rattle.layout.specs.Laws.Res.{spend, ltb-cases, ok-inj}
-use Rattle.layout.specs.Laws.Carry.{suffix_of, key_of-length}
-use Rattle.layout.specs.Laws.Key.{common-right}
-use Rattle.layout.specs.Laws.Match.{common-none, match-take, match_after, below_after, match_is, below-is}
+use Rattle.layout.proofs.Laws.Res.{spend, ltb-cases, ok-inj}
+use Rattle.layout.specs.Laws.Carry.{suffix_of}
+use Rattle.layout.proofs.Laws.Carry.{key_of-length}
+use Rattle.layout.proofs.Laws.Key.{common-right}
+use Rattle.layout.specs.Laws.Match.{match_after, below_after}
+use Rattle.layout.proofs.Laws.Match.{common-none, match-take, match_is, below-is}
 use Rattle.layout.specs.Laws.MatchWalk.{span_suffix}
-use Rattle.layout.specs.Laws.Plain.{span-row}
-use Rattle.layout.specs.Laws.Tells.{row-shares, row_in-ends}
+use Rattle.layout.proofs.Laws.Plain.{span-row}
+use Rattle.layout.proofs.Laws.Tells.{row-shares, row_in-ends}
 use Rattle.block_regions_v2.specs.Rows.{Rows, rows_on, rows-far, part_of, part-suffix, clipped, clipped-length, agrees_clipped, Filling}
 
 -- a test that is turned round

@@ -6,8 +6,9 @@ use Rattle.layout.specs.RowRead.{RowRead, key_length}
 use Rattle.layout.specs.Plain.{RowSpan, span_of}
 use Rattle.layout.specs.Trailer.{Region, row_in}
 use Rattle.layout.specs.Number.{ended_by}
-use Rattle.layout.specs.Laws.Number.{Counting, counting-here, counting-on}
-use Rattle.layout.specs.Laws.Plain.{span-row}
+use Rattle.layout.specs.Laws.Number.{Counting}
+use Rattle.layout.proofs.Laws.Number.{counting-here, counting-on}
+use Rattle.layout.proofs.Laws.Plain.{span-row}
 
 module _ (d : List ℕ) (g : Region) (at len n : ℕ) (c : Counting d g at len n) where
   -- at a row's end, by the row

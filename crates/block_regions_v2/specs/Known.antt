@@ -5,7 +5,7 @@ use Rattle.std.proofs.lemmas.List.{take-append-le}
 use Rattle.std.proofs.Math.Seq.{take-append-add}
 use Rattle.std.proofs.lemmas.Bool.{lt-leb}
 use Rattle.layout.specs.Key.{Key}
-use Rattle.layout.specs.Laws.Res.{ltb-cases, eqb-cases}
+use Rattle.layout.proofs.Laws.Res.{ltb-cases, eqb-cases}
 use Rattle.block_regions_v2.specs.declared.Known.{Known}
 
 abbrev pub known_is : ℕ → ℕ → ℕ → ℕ → Known

@@ -19,15 +19,16 @@ use Rattle.layout.specs.Trailer.{Trailer, trailer_of, data_of, Region, region_of
 use Rattle.layout.specs.Number.{ended_by, number_at}
 use Rattle.layout.specs.Cursor.{Cursor, Keyed, keyed, row_ending_at, found, Step, step_is, back_past, step_back_in}
 use Rattle.layout.specs.Seek.{Stop, stop_is, walk_region}
-use Rattle.layout.specs.Laws.Res.{bind-then, ok-inj, cond-ok, ltb-cases, eqb-cases, clash}
-use Rattle.layout.specs.Laws.Carry.{key_of-length}
-use Rattle.layout.specs.Laws.Cursor.{ended, back-no, back_wrong, back-short, back_found}
+use Rattle.layout.proofs.Laws.Res.{bind-then, ok-inj, cond-ok, ltb-cases, eqb-cases, clash}
+use Rattle.layout.proofs.Laws.Carry.{key_of-length}
+use Rattle.layout.proofs.Laws.Cursor.{ended, back-no, back_wrong, back-short, back_found}
 use Rattle.layout.specs.Laws.MatchWalk.{Halt, halt_is}
-use Rattle.layout.specs.Laws.Number.{Counting, counting-here, number_in}
-use Rattle.layout.specs.Laws.Plain.{span-no}
-use Rattle.layout.specs.Laws.Splice.{then-write}
-use Rattle.layout.specs.Laws.Tells.{row_in-ends}
-use Rattle.layout.specs.Laws.Trailer.{trailer_of-tells, region_of-tells}
+use Rattle.layout.specs.Laws.Number.{Counting}
+use Rattle.layout.proofs.Laws.Number.{counting-here, number_in}
+use Rattle.layout.proofs.Laws.Plain.{span-no}
+use Rattle.layout.proofs.Laws.Splice.{then-write}
+use Rattle.layout.proofs.Laws.Tells.{row_in-ends}
+use Rattle.layout.proofs.Laws.Trailer.{trailer_of-tells, region_of-tells}
 use Rattle.basics.specs.Answers.{apart}
 use Rattle.basics.specs.Number.{number}
 use Rattle.basics.specs.declared.Refusal.{Refusal}

@@ -10,11 +10,11 @@ use Rattle.layout.specs.Plain.{RowSpan, span_of}
 use Rattle.layout.specs.Trailer.{Region, row_in}
 use Rattle.layout.specs.Cursor.{Keyed, keyed, row_ending_at}
 use Rattle.layout.specs.Seek.{stop_is, walk_region}
-use Rattle.layout.specs.Laws.Res.{spend}
-use Rattle.layout.specs.Laws.Carry.{key_of-length}
+use Rattle.layout.proofs.Laws.Res.{spend}
+use Rattle.layout.proofs.Laws.Carry.{key_of-length}
 use Rattle.layout.specs.Laws.Number.{Counting}
-use Rattle.layout.specs.Laws.Plain.{span-row}
-use Rattle.layout.specs.Laws.Tells.{row-shares, row_in-ends}
+use Rattle.layout.proofs.Laws.Plain.{span-row}
+use Rattle.layout.proofs.Laws.Tells.{row-shares, row_in-ends}
 use Rattle.block_regions_v2.specs.declared.Halted.{Halted}
 use Rattle.block_regions_v2.specs.declared.Known.{Known}
 use Rattle.block_regions_v2.specs.declared.Reached.{Reached}

@@ -13,11 +13,12 @@ use Rattle.layout.specs.Key.{Key}
 use Rattle.layout.specs.RowRead.{RowRead, key_of}
 use Rattle.layout.specs.Plain.{RowSpan, span_is, span_of}
 use Rattle.layout.specs.Trailer.{Region, row_in}
-use Rattle.layout.specs.Laws.Res.{ltb-cases}
-use Rattle.layout.specs.Laws.Carry.{suffix_of, key_of-length}
+use Rattle.layout.proofs.Laws.Res.{ltb-cases}
+use Rattle.layout.specs.Laws.Carry.{suffix_of}
+use Rattle.layout.proofs.Laws.Carry.{key_of-length}
 use Rattle.layout.specs.Laws.MatchWalk.{span_suffix}
-use Rattle.layout.specs.Laws.Splice.{length-splice}
-use Rattle.layout.specs.Laws.Tells.{row-shares, row_in-ends}
+use Rattle.layout.proofs.Laws.Splice.{length-splice}
+use Rattle.layout.proofs.Laws.Tells.{row-shares, row_in-ends}
 
 -- ---- rows that follow one another, from a place after a key to a place after a key
 

@@ -12,12 +12,14 @@ use Rattle.layout.specs.RowRead.{KeyRead, read_key}
 use Rattle.layout.specs.Trailer.{Trailer, trailer_of, data_of, Region, region_of}
 use Rattle.layout.specs.Cursor.{Direction, ascending, descending, Cursor}
 use Rattle.layout.specs.Seek.{Found, restart_key, restart_below, search_restarts, last_equal, start_down, walk_up, walk_down, sought_is, seek_along, seek}
-use Rattle.layout.specs.Laws.Res.{bind-then, ok-inj}
-use Rattle.layout.specs.Laws.Trailer.{trailer_of-tells}
-use Rattle.layout.specs.Laws.Seek.{restart-region, restart-no, restart-is, below-no, below-is, search_from, search-whole, Running, running_over, running_no, running_ends, running_more, start-past, start-no, start-earlier, start-run, up_from, down-no as fall_no, down-from, seek-search, seek-no, seek_is}
-use Rattle.layout.specs.Laws.Compare.{is_less, is_equal, compare-less-below, compare-equal-same}
-use Rattle.layout.specs.Laws.Restart.{read_key-ends, search-inside, start-inside}
-use Rattle.layout.specs.Laws.Search.{on-no, on-up, on-down}
+use Rattle.layout.proofs.Laws.Res.{bind-then, ok-inj}
+use Rattle.layout.proofs.Laws.Trailer.{trailer_of-tells}
+use Rattle.layout.specs.Laws.Seek.{search_from}
+use Rattle.layout.proofs.Laws.Seek.{restart-region, restart-no, restart-is, below-no, below-is, search-whole, Running, running_over, running_no, running_ends, running_more, start-past, start-no, start-earlier, start-run, up_from, down-no as fall_no, down-from, seek-search, seek-no, seek_is}
+use Rattle.layout.specs.Laws.Compare.{is_less, is_equal}
+use Rattle.layout.proofs.Laws.Compare.{compare-less-below, compare-equal-same}
+use Rattle.layout.proofs.Laws.Restart.{read_key-ends, search-inside, start-inside}
+use Rattle.layout.proofs.Laws.Search.{on-no, on-up, on-down}
 use Rattle.basics.specs.Answers.{apart}
 use Rattle.trailer.specs.Laws.{handed-known, handed-tells}
 use Rattle.block_restarts_v2.specs.declared.Start.{Start}

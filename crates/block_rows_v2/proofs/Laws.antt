@@ -17,8 +17,9 @@ use Rattle.layout.specs.Limits.{max_key}
 use Rattle.layout.specs.Place.{splice}
 use Rattle.layout.specs.RowRead.{RowRead, key_length}
 use Rattle.layout.specs.Cursor.{Cursor, done, Step, step_is, next}
-use Rattle.layout.specs.Laws.Res.{ok-inj, ltb-cases, eqb-cases}
-use Rattle.layout.specs.Laws.Splice.{Wrote, wrote-rest, splice-lent, splice-none}
+use Rattle.layout.proofs.Laws.Res.{ok-inj, ltb-cases, eqb-cases}
+use Rattle.layout.specs.Laws.Splice.{Wrote}
+use Rattle.layout.proofs.Laws.Splice.{wrote-rest, splice-lent, splice-none}
 use Rattle.basics.specs.Answers.{apart}
 use Rattle.basics.specs.Number.{number}
 use Rattle.basics.specs.Says.{says_order}
@@ -30,7 +31,7 @@ use Rattle.row_words.specs.Promise.{Stores}
 use Rattle.row_words.proofs.Fields.{row_count_lem}
 use Rattle.row_words.proofs.Laws.{stored}
 use Rattle.region_rows_v2.specs.Found.{Finds}
-use Rattle.layout.specs.Laws.Step.{next-given}
+use Rattle.layout.proofs.Laws.Step.{next-given}
 use Rattle.block_rows_v2.specs.declared.Gave.{Gave}
 use Rattle.block_rows_v2.specs.declared.Gave.TheVariants.{Rows, Refused}
 use Rattle.block_rows_v2.specs.Rows.{Given, given_is, Run, run_is, next_rows, keys_of, words_of}

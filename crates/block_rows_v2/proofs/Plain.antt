@@ -17,8 +17,9 @@ use Rattle.layout.specs.Plain.{plain_at}
 use Rattle.layout.specs.RowRead.{may_share, RowRead}
 use Rattle.layout.specs.Trailer.{Region}
 use Rattle.layout.specs.Cursor.{Cursor, step_is, past_row, next}
-use Rattle.layout.specs.Laws.Splice.{Wrote, take-splice, drop-splice, drop-past-splice, take-past-splice, length-splice, splice-splice, wrote-rest, wrote-length}
-use Rattle.layout.specs.Laws.Plain.{or-false}
+use Rattle.layout.specs.Laws.Splice.{Wrote}
+use Rattle.layout.proofs.Laws.Splice.{take-splice, drop-splice, drop-past-splice, take-past-splice, length-splice, splice-splice, wrote-rest, wrote-length}
+use Rattle.layout.proofs.Laws.Plain.{or-false}
 use Rattle.buf_mut.specs.Promise.{Puts}
 use Rattle.buf_mut.specs.declared.Put.{Put}
 use Rattle.buf_mut.proofs.Laws.{copied, copied-part}

@@ -8,12 +8,12 @@ use Rattle.layout.specs.Key.{Key}
 use Rattle.layout.specs.Limits.{max_key}
 use Rattle.layout.specs.Place.{splice}
 use Rattle.layout.specs.Cursor.{ascending, descending, Cursor, Answer, found, done, Step, step_is, next}
-use Rattle.layout.specs.Laws.Res.{bind-then, guard-then, ok-inj, eqb-cases}
-use Rattle.layout.specs.Laws.Splice.{length-splice, splice-none}
+use Rattle.layout.proofs.Laws.Res.{bind-then, guard-then, ok-inj, eqb-cases}
+use Rattle.layout.proofs.Laws.Splice.{length-splice, splice-none}
 use Rattle.row_words.specs.Words.{bad_words, counted, word_at, one_of, truth_in, truth_word, order_in, order_word, cursor_from, cursor_in, cursor_words, cursor_count, row_count}
 use Rattle.block_words.specs.Again.{step-again}
 use Rattle.block_words.specs.Exports.{StepsAs, StepsFlat}
-use Rattle.layout.specs.Laws.Step.{next-given}
+use Rattle.layout.proofs.Laws.Step.{next-given}
 use Rattle.block_rows_v2.specs.Rows.{Given, given_is, found_of, Run, step_on, rows_from, or_done, next_rows, keys_of, given_words, words_of}
 use Rattle.block_rows_v2.specs.Promise.{RowsAs, most_rows, RowsFlat}
 

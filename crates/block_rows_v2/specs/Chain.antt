@@ -4,7 +4,8 @@ use Rattle.std.proofs.Common.{ap, sym, ◌∙◌, append_assoc, append-nil, arit
 use Rattle.layout.specs.Res.{ok, refuse}
 use Rattle.layout.specs.Key.{Key}
 use Rattle.layout.specs.Cursor.{Cursor, done, step_is, next}
-use Rattle.layout.specs.Laws.Splice.{Wrote, wrote_then, wrote_as, wrote_none, splice-none}
+use Rattle.layout.specs.Laws.Splice.{Wrote}
+use Rattle.layout.proofs.Laws.Splice.{wrote_then, wrote_as, wrote_none, splice-none}
 use Rattle.row_words.specs.Words.{row_count}
 use Rattle.block_rows_v2.specs.Rows.{Given, found_of, Run, run_is, with_row, step_on, rows_from, next_rows, keys_of, given_words, words_of}
 

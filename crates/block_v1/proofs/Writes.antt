@@ -12,9 +12,9 @@ use Rattle.layout.specs.Limits.{max_key}
 use Rattle.layout.specs.Place.{splice}
 use Rattle.layout.specs.Res.{Res, ok, refuse, bind}
 use Rattle.layout.specs.Row.{Fields}
-use Rattle.layout.specs.Laws.Splice.{key-over}
+use Rattle.layout.proofs.Laws.Splice.{key-over}
 use Rattle.layout_v1.specs.Builder.{Builder, would_fit, grown, add}
-use Rattle.layout_v1.specs.Laws.Builder.{add-tells}
+use Rattle.layout_v1.proofs.Laws.Builder.{add-tells}
 use Rattle.build_in_place_v1.specs.Promise.{entered, kept_after, AddsInPlaceAs}
 use Rattle.build_in_place_v1.specs.declared.Grown.{Grown}
 use Rattle.build_in_place_v1.proofs.Writes.{entered-is}

@@ -10,8 +10,8 @@ use Rattle.layout.specs.Res.{Res, ok, bind}
 use Rattle.layout.specs.Builder.{would_fit, grown, add}
 use Rattle.layout.specs.Key.{Key}
 use Rattle.layout.specs.Row.{Fields}
-use Rattle.layout.specs.Laws.Made.{add-tells}
-use Rattle.layout.specs.Laws.Splice.{key-over}
+use Rattle.layout.proofs.Laws.Made.{add-tells}
+use Rattle.layout.proofs.Laws.Splice.{key-over}
 use Rattle.basics.specs.declared.Refusal.{Refusal}
 use Rattle.basics.specs.declared.Verdict.TheVariants.{Good, Refused}
 use Rattle.build_in_place_v2.specs.Promise.{entered, AddsInPlaceAs}

@@ -9,7 +9,7 @@ use lib.ListN.{length}
 use borrow.Author.Tests.{eqb-true, not-false}
 use Rattle.layout.specs.Res.{ok, refuse}
 use Rattle.layout.specs.Cursor.{Direction, Cursor}
-use Rattle.layout.specs.Laws.Res.{guard-then}
+use Rattle.layout.proofs.Laws.Res.{guard-then}
 use Rattle.basics.specs.Says.{says_order}
 use Rattle.place_v2.specs.declared.Place.{Place}
 use Rattle.row_words.specs.Words.{bad_words, truth_in, order_in, word_at, cursor_from, cursor_in, cursor_count}

@@ -9,7 +9,7 @@ use Rattle.layout.specs.Res.{Res, ok, refuse, bind}
 use Rattle.layout.specs.Cursor.{Cursor, Answer, found, done, Step, step_is, next, cursor_after, key_after}
 use Rattle.layout.specs.Limits.{max_key}
 use Rattle.layout.specs.RowRead.{RowRead as RowReadL}
-use Rattle.layout.specs.Laws.Res.{ok-inj}
+use Rattle.layout.proofs.Laws.Res.{ok-inj}
 use Rattle.basics.specs.Answers.{apart}
 use Rattle.step_in_place_v2.specs.Says.{row as row_told, none, told_of, told, told-row, told-apart}
 use Rattle.place_v2.specs.Says.{view_in}

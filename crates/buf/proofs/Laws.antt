@@ -10,9 +10,10 @@ use borrow.Author.Tests.{le-ltb}
 use Rattle.layout.specs.Res.{ok}
 use Rattle.layout.specs.Fixed.{unbig}
 use Rattle.layout.specs.Place.{NumAt, num_at, fixed_at}
-use Rattle.layout.specs.Laws.Res.{ok-inj}
-use Rattle.layout.specs.Laws.Place.{four_at, fixed_at-eight}
-use Rattle.layout.specs.Laws.Plain.{fixed_at-is}
+use Rattle.layout.proofs.Laws.Res.{ok-inj}
+use Rattle.layout.specs.Laws.Place.{four_at}
+use Rattle.layout.proofs.Laws.Place.{fixed_at-eight}
+use Rattle.layout.proofs.Laws.Plain.{fixed_at-is}
 use Rattle.buf.specs.declared.WordRead.{WordRead}
 use Rattle.buf.specs.Says.{says_word}
 use Rattle.buf.specs.Promise.{or_zero, ReadsEight, ReadsNarrow, ReadsBytes}

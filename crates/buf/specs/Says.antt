@@ -3,7 +3,7 @@ use Rattle.std.specs.Prelude.{◌≡◌}
 use Rattle.std.proofs.Common.{ap, sym}
 use Rattle.layout.specs.Res.{Res, ok, refuse}
 use Rattle.layout.specs.Place.{NumAt, num_at, SignedAt, signed}
-use Rattle.layout.specs.Laws.Res.{ok-inj}
+use Rattle.layout.proofs.Laws.Res.{ok-inj}
 use Rattle.basics.specs.Answers.{apart, refused-one}
 use Rattle.basics.specs.Number.{number}
 use Rattle.basics.specs.declared.Refusal.{Refusal}

@@ -7,7 +7,8 @@ use native.Mathlib.Omega.{arith}
 use lib.ListN.{length, take, drop, length-append, length-drop}
 use lib.Seq.{length-take-le}
 use Rattle.layout.specs.Place.{splice}
-use Rattle.layout.specs.Laws.Splice.{Wrote, put-short, put-wrote, wrote-put, put-taken, wrote_then, wrote-length}
+use Rattle.layout.specs.Laws.Splice.{Wrote}
+use Rattle.layout.proofs.Laws.Splice.{put-short, put-wrote, wrote-put, put-taken, wrote_then, wrote-length}
 use Rattle.basics.specs.Number.{number}
 use Rattle.basics.specs.declared.Refusal.{Refusal}
 use Rattle.basics.specs.declared.Refusal.TheVariants.{BufferTooSmall}

@@ -12,13 +12,13 @@ use Rattle.layout.specs.Res.{Res, ok, refuse, whether}
 use Rattle.layout.specs.Key.{Key, common}
 use Rattle.layout.specs.Limits.{max_key, max_offset, max_value}
 use Rattle.layout.specs.Row.{Fields, value_of, present, kept_length, length_tests}
-use Rattle.layout.specs.Laws.Key.{common-right}
-use Rattle.layout.specs.Laws.Row.{length-kept}
+use Rattle.layout.proofs.Laws.Key.{common-right}
+use Rattle.layout.proofs.Laws.Row.{length-kept}
 use Rattle.layout.specs.Laws.RowWrite.{Tested}
 use Rattle.layout_v1.specs.Row.{row_bytes, row_size}
 use Rattle.layout_v1.specs.Builder.{Builder, state_tests, shared_key, next_row, fits, would_fit, add}
-use Rattle.layout_v1.specs.Laws.Builder.{state-tells, laid_row-bytes, row_size-most, fits-rule, fits-past, fit-by, add-by}
-use Rattle.layout_v1.specs.Laws.RowWrites.{size_of, size-refused, size-tells, size-bytes}
+use Rattle.layout_v1.proofs.Laws.Builder.{state-tells, laid_row-bytes, row_size-most, fits-rule, fits-past, fit-by, add-by}
+use Rattle.layout_v1.proofs.Laws.RowWrites.{size_of, size-refused, size-tells, size-bytes}
 use Rattle.build_in_place_v1.specs.declared.Planned.TheVariants.{Row as PlannedRow}
 use Rattle.build_in_place_v1.specs.Plan.{Planning}
 

@@ -17,14 +17,14 @@ use Rattle.layout.specs.Key.{Key, common}
 use Rattle.layout.specs.Limits.{max_key}
 use Rattle.layout.specs.Place.{splice}
 use Rattle.layout.specs.Row.{Fields, kept_length, present, length_tests}
-use Rattle.layout.specs.Laws.Key.{common-left}
-use Rattle.layout.specs.Laws.Res.{whether-good, whether-refused, eqb-cases}
-use Rattle.layout.specs.Laws.Row.{length-kept}
+use Rattle.layout.proofs.Laws.Key.{common-left}
+use Rattle.layout.proofs.Laws.Res.{whether-good, whether-refused, eqb-cases}
+use Rattle.layout.proofs.Laws.Row.{length-kept}
 use Rattle.layout.specs.Laws.Splice.{Wrote}
 use Rattle.layout_v1.specs.Row.{row_bytes, encode_row}
 use Rattle.layout_v1.specs.Builder.{Builder, shared_key, next_row, would_fit, grown, add}
-use Rattle.layout_v1.specs.Laws.Builder.{Accepted, laid_row-bytes, shared-none, shared-first, add-tells}
-use Rattle.layout_v1.specs.Laws.RowWrites.{size_is, size-bytes, encode-sized}
+use Rattle.layout_v1.proofs.Laws.Builder.{Accepted, laid_row-bytes, shared-none, shared-first, add-tells}
+use Rattle.layout_v1.proofs.Laws.RowWrites.{size_is, size-bytes, encode-sized}
 use Rattle.basics.specs.Number.{number}
 use Rattle.basics.specs.declared.Refusal.{Refusal}
 use Rattle.basics.specs.declared.Refusal.TheVariants.{BadState}

@@ -16,11 +16,12 @@ use Rattle.layout.specs.Place.{splice}
 use Rattle.layout.specs.Row.{Kind, value, tombstone, merge, Time, Absent, At, present, flags_of, time_bytes, row_bytes, length_tests}
 use Rattle.layout.specs.RowRead.{may_share}
 use Rattle.layout.specs.Varint.{varint}
-use Rattle.layout.specs.Laws.Block.{shares-is}
-use Rattle.layout.specs.Laws.Fixed.{length-big}
-use Rattle.layout.specs.Laws.RowExits.{size_is}
-use Rattle.layout.specs.Laws.RowWrite.{size-tells}
-use Rattle.layout.specs.Laws.Splice.{Wrote, wrote_then, wrote-length, wrote-set}
+use Rattle.layout.proofs.Laws.Block.{shares-is}
+use Rattle.layout.proofs.Laws.Fixed.{length-big}
+use Rattle.layout.proofs.Laws.RowExits.{size_is}
+use Rattle.layout.proofs.Laws.RowWrite.{size-tells}
+use Rattle.layout.specs.Laws.Splice.{Wrote}
+use Rattle.layout.proofs.Laws.Splice.{wrote_then, wrote-length, wrote-set}
 use Rattle.basics.specs.Says.{says_kind, says_time}
 use Rattle.buf_mut.specs.declared.Put.{Put}
 use Rattle.buf_mut.specs.Promise.{Puts}

@@ -15,13 +15,13 @@ use Rattle.layout.specs.Builder.{Builder, state_tests, at_restart, next_row, gro
 use Rattle.layout.specs.Key.{Key}
 use Rattle.layout.specs.Limits.{max_key, max_offset, max_value}
 use Rattle.layout.specs.Row.{Fields, value_of, if_so, present, row_bytes, kept_length, length_tests}
-use Rattle.layout.specs.Laws.Res.{handed, ok-inj, eqb-cases, bool_cases}
-use Rattle.layout.specs.Laws.Block.{shares-is}
-use Rattle.layout.specs.Laws.Builder.{state-tells, fits-empty, fits-room, fits_not, fit-state, fit-lengths, fit-no, fit-yes, add-no, add-far, add-short, add-places, add-restart, add-plain}
-use Rattle.layout.specs.Laws.Building.{laid_row-bytes, row_bytes-most}
-use Rattle.layout.specs.Laws.Made.{add-tells}
-use Rattle.layout.specs.Laws.Row.{length-kept}
-use Rattle.layout.specs.Laws.RowWrite.{SizeTells, size_of, size-refused, size-tells, size-bytes}
+use Rattle.layout.proofs.Laws.Res.{handed, ok-inj, eqb-cases, bool_cases}
+use Rattle.layout.proofs.Laws.Block.{shares-is}
+use Rattle.layout.proofs.Laws.Builder.{state-tells, fits-empty, fits-room, fits_not, fit-state, fit-lengths, fit-no, fit-yes, add-no, add-far, add-short, add-places, add-restart, add-plain}
+use Rattle.layout.proofs.Laws.Building.{laid_row-bytes, row_bytes-most}
+use Rattle.layout.proofs.Laws.Made.{add-tells}
+use Rattle.layout.proofs.Laws.Row.{length-kept}
+use Rattle.layout.proofs.Laws.RowWrite.{SizeTells, size_of, size-refused, size-tells, size-bytes}
 use Rattle.build_in_place_v2.specs.Plan.{Plan, plan_is, plan_of, fitted, accepted}
 
 -- no row has more bytes: three lengths of at most five, the key, number and flags, two times, the value

@@ -18,11 +18,12 @@ use Rattle.layout.specs.Limits.{max_key, max_offset}
 use Rattle.layout.specs.Place.{splice}
 use Rattle.layout.specs.Row.{Fields, if_so, row_bytes, value_of, length_tests, encode_row}
 use Rattle.layout.specs.RowRead.{may_share}
-use Rattle.layout.specs.Laws.Block.{shares-is}
-use Rattle.layout.specs.Laws.Builder.{StateOk}
-use Rattle.layout.specs.Laws.Building.{laid_row-bytes, fit-tells, add_fit}
-use Rattle.layout.specs.Laws.Made.{Accepted, add-tells}
-use Rattle.layout.specs.Laws.RowExits.{encode-is}
+use Rattle.layout.proofs.Laws.Block.{shares-is}
+use Rattle.layout.proofs.Laws.Builder.{StateOk}
+use Rattle.layout.proofs.Laws.Building.{laid_row-bytes, fit-tells, add_fit}
+use Rattle.layout.specs.Laws.Made.{Accepted}
+use Rattle.layout.proofs.Laws.Made.{add-tells}
+use Rattle.layout.proofs.Laws.RowExits.{encode-is}
 use Rattle.layout.specs.Laws.Splice.{Wrote}
 use Rattle.basics.specs.Number.{number}
 use Rattle.basics.specs.declared.Refusal.{Refusal}

@@ -8,7 +8,7 @@ use lib.Dec.{eqb}
 use lib.ListN.{length}
 use Rattle.layout.specs.Res.{Res, ok, refuse, bind}
 use Rattle.layout.specs.Limits.{max_key}
-use Rattle.layout.specs.Laws.Res.{bind-then, ok-inj}
+use Rattle.layout.proofs.Laws.Res.{bind-then, ok-inj}
 use Rattle.row_flags.specs.Says.{fields_from}
 use Rattle.row_flags.specs.declared.RowFields.{RowFields}
 use Rattle.state_v2.specs.Says.{view_from, state_from}

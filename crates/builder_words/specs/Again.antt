@@ -6,8 +6,8 @@ use Rattle.layout.specs.Res.{ok}
 use Rattle.layout.specs.Builder.{Builder, add}
 use Rattle.layout.specs.Key.{Key}
 use Rattle.layout.specs.Limits.{max_key}
-use Rattle.layout.specs.Laws.Made.{add-tells}
-use Rattle.layout.specs.Laws.Splice.{key-over}
+use Rattle.layout.proofs.Laws.Made.{add-tells}
+use Rattle.layout.proofs.Laws.Splice.{key-over}
 use Rattle.layout.specs.Place.{splice}
 use Rattle.row_words.specs.Words.{builder_from, builder_words}
 use Rattle.builder_words.specs.Says.{Gain}

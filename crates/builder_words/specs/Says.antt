@@ -4,7 +4,7 @@ use Rattle.std.proofs.Common.{ap, ap₂, sym}
 use Rattle.layout.specs.Res.{Res, ok, refuse}
 use Rattle.layout.specs.Builder.{Builder}
 use Rattle.layout.specs.Row.{Fields}
-use Rattle.layout.specs.Laws.Res.{ok-inj}
+use Rattle.layout.proofs.Laws.Res.{ok-inj}
 use Rattle.state_v2.specs.declared.State.{State}
 use Rattle.state_v2.specs.Says.{view_from, state_from}
 use Rattle.row_flags.specs.Says.{fields_from}

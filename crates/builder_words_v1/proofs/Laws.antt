@@ -7,7 +7,7 @@ use lib.Dec.{eqb}
 use lib.ListN.{length}
 use borrow.Author.Tests.{eqb-true, not-false}
 use Rattle.layout.specs.Res.{ok}
-use Rattle.layout.specs.Laws.Res.{guard-then, ok-inj}
+use Rattle.layout.proofs.Laws.Res.{guard-then, ok-inj}
 use Rattle.basics.specs.Answers.{apart, yes}
 use Rattle.state_v1.specs.declared.State.{State}
 use Rattle.row_words.specs.Words.{bad_words}

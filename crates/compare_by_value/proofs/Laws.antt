@@ -8,7 +8,7 @@ use Rattle.layout.specs.Res.{Res, ok, refuse, whether}
 use Rattle.layout.specs.Builder.{Builder}
 use Rattle.layout.specs.Cursor.{next}
 use Rattle.layout.specs.Limits.{max_key}
-use Rattle.layout.specs.Laws.Res.{whether-refused}
+use Rattle.layout.proofs.Laws.Res.{whether-refused}
 use Rattle.basics.specs.Answers.{apart, yes}
 use Rattle.basics.specs.Number.{number}
 use Rattle.basics.specs.declared.Refusal.{Refusal}

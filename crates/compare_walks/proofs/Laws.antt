@@ -6,7 +6,7 @@ use Rattle.layout.specs.Limits.{max_key}
 use Rattle.layout.specs.Key.{Key}
 use Rattle.layout.specs.RowRead.{RowRead}
 use Rattle.layout.specs.Cursor.{Cursor, cursor_or, open_block, found, done, step_is, next}
-use Rattle.layout.specs.Laws.Res.{spend, whether-good, whether-refused}
+use Rattle.layout.proofs.Laws.Res.{spend, whether-good, whether-refused}
 use Rattle.basics.specs.Answers.{yes, says_verdict}
 use Rattle.basics.specs.Number.{number}
 use Rattle.basics.specs.Says.{says_order}

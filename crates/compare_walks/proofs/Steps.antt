@@ -7,7 +7,7 @@ use Rattle.layout.specs.Key.{Key}
 use Rattle.layout.specs.Place.{splice}
 use Rattle.layout.specs.RowRead.{RowRead, key_length}
 use Rattle.layout.specs.Cursor.{Cursor, found, done, step_is, next, cursor_after, key_after}
-use Rattle.layout.specs.Laws.Splice.{take-past-splice}
+use Rattle.layout.proofs.Laws.Splice.{take-past-splice}
 use Rattle.layout.specs.Laws.Step.{KeyedWell}
 use Rattle.region_rows_v2.specs.Found as any
 use Rattle.basics.specs.Number.{number}

@@ -10,7 +10,7 @@ use lib.Seq.{take-add, take_all, drop-drop, drop-cons, length-take-le}
 use Rattle.layout.specs.Place.{splice}
 use borrow.Author.Tests.{lt-ltb, le-ltb}
 use borrow.Rule.Slice.PartMut.{mid_of, put_mid, mid_len}
-use Rattle.layout.specs.Laws.Splice.{length-splice, take-splice, drop-past-splice, splice-splice, splice-none, set-splice, splice-lent}
+use Rattle.layout.proofs.Laws.Splice.{length-splice, take-splice, drop-past-splice, splice-splice, splice-none, set-splice, splice-lent}
 use Rattle.copies.specs.Promise.{first_copied, CopiesFirst}
 
 -- n bytes of src, of which the first has number k from `from` on, stored one by one from `at` on

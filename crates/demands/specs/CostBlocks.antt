@@ -11,7 +11,8 @@ use Rattle.layout.specs.Row.{Row, time_bytes, row_bytes}
 use Rattle.layout.specs.Block.{is_restart, share_of, laid_row, rows_from, offsets_from, block_rows, offsets, offset_bytes, trailer, block_bytes}
 use Rattle.layout.specs.Check.{check}
 use Rattle.layout.specs.Cases.{row_with}
-use Rattle.layout.specs.Laws.Block.{AllOk, AllFit, offsets-count}
+use Rattle.layout.specs.Laws.Block.{AllOk, AllFit}
+use Rattle.layout.proofs.Laws.Block.{offsets-count}
 use Rattle.demands.specs.Rows.{offered_ranks}
 use Rattle.demands.specs.Proof2.{laid-accepted}
 use Rattle.demands.specs.Laws.Laid.{LaidBlock, laid-block}

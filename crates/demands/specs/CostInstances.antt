@@ -27,7 +27,7 @@ use Rattle.demands.specs.Cost.{bits_of, seek-reads-any, seek-reads-at-most, seek
 use Rattle.demands.specs.NoGap.{walked-rows-one, both-walked, no-row-between, walks-add-up, done-walks-none}
 use Rattle.demands.specs.Demand2.{check-exact, room-enough, seek_ascending_lands}
 use Rattle.demands.specs.Instances.{unless_refused, are-bytes}
-use Rattle.layout.specs.Laws.Res.{ok-inj}
+use Rattle.layout.proofs.Laws.Res.{ok-inj}
 
 -- ---- the figures
 

@@ -18,9 +18,9 @@ use Rattle.layout.specs.Trailer.{count_of, Trailer, trailer_of}
 use Rattle.layout.specs.Check.{check}
 use Rattle.layout.specs.Cursor.{Direction, ascending, descending, Cursor, Keyed}
 use Rattle.layout.specs.Seek.{Found, found_is, middle, search, restart_below, search_restarts, walk_up, seek_up, start_down, walk_down, seek_down, Sought, sought_is, seek_along, seek}
-use Rattle.layout.specs.Laws.Res.{bind-then, guard-then, ltb-cases, ok-inj}
-use Rattle.layout.specs.Laws.Search.{search-empty, search-split, search-reads}
-use Rattle.layout.specs.Laws.Seek.{below-is, down-no}
+use Rattle.layout.proofs.Laws.Res.{bind-then, guard-then, ltb-cases, ok-inj}
+use Rattle.layout.proofs.Laws.Search.{search-empty, search-split, search-reads}
+use Rattle.layout.proofs.Laws.Seek.{below-is, down-no}
 use Rattle.demands.specs.Reads.{Reads}
 use Rattle.demands.specs.Walked.{ReachedOn, StopsUp}
 use Rattle.demands.specs.CostBlocks.{debits, laid, count-is, accepted, bytes}

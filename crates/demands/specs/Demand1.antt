@@ -10,9 +10,9 @@ use Rattle.layout.specs.RowRead.{RowRead}
 use Rattle.layout.specs.Builder.{Builder, kept_builder, would_fit, add, state_after_of, data_after_of, places_after_of, build, block_after_of}
 use Rattle.layout.specs.Cursor.{Direction, Cursor, kept_cursor, found, step_is, next, cursor_after, key_after, is_empty}
 use Rattle.layout.specs.Seek.{seek, sought_after}
-use Rattle.layout.specs.Laws.Kept.{kept-cursor, kept-builder}
-use Rattle.layout.specs.Laws.Splice.{take-past-splice, drop-past-splice}
-use Rattle.layout.specs.Laws.Step.{next-given}
+use Rattle.layout.proofs.Laws.Kept.{kept-cursor, kept-builder}
+use Rattle.layout.proofs.Laws.Splice.{take-past-splice, drop-past-splice}
+use Rattle.layout.proofs.Laws.Step.{next-given}
 
 -- ---- a refused call changes nothing
 

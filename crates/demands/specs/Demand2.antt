@@ -20,7 +20,7 @@ use Rattle.demands.specs.Rows.{DecodesBack, Rows, BothWays, SoughtUp, SoughtDown
 use Rattle.demands.specs.RunsProof.{walks-first}
 use Rattle.demands.specs.Proof3.{encode-tells, ran-laid}
 use Rattle.demands.specs.Proof2.{decodes-back, rows_walked, accepted-rows, rows-room, sought-up, sought-down, first-splits, last-splits, retry_present, retry_absent, restarts-few, laid-accepted, laid-verdict, accepted-laid}
-use Rattle.layout.specs.Laws.Res.{ok-inj}
+use Rattle.layout.proofs.Laws.Res.{ok-inj}
 use Rattle.demands.specs.Laws.Accept.{check_accepts, accepts_check, verdict-falling}
 
 -- A row that was encoded decodes, whatever bytes follow, to what was encoded, and ends where it ended; its full key is the shared bytes of the previous key, then the suffix.

@@ -12,8 +12,9 @@ use Rattle.layout.specs.Check.{check}
 use Rattle.layout.specs.Cursor.{Keyed}
 use Rattle.demands.specs.Reads.{Reads, all_rows, ranks_of}
 use Rattle.demands.specs.Proof2.{accepted_in_order}
-use Rattle.layout.specs.Laws.Res.{ltb-cases}
-use Rattle.layout.specs.Laws.Key.{AtMost, at-most-refl, at-most_antisym}
+use Rattle.layout.proofs.Laws.Res.{ltb-cases}
+use Rattle.layout.specs.Laws.Key.{AtMost}
+use Rattle.layout.proofs.Laws.Key.{at-most-refl, at-most_antisym}
 use Rattle.demands.specs.Laws.Sorted.{may-at-most, may-newer, rising-by}
 
 -- the key and the sequence number of row i

@@ -28,7 +28,7 @@ use Rattle.demands.specs.Demand3.{run_finishes, blocks-differ, keys-fit, reads-f
 use Rattle.demands.specs.AnyOrder.{cut_from, regions_from, through, SoughtAmong}
 use Rattle.demands.specs.OldBlocks.{former_max_key, Stand, old-blocks-stand}
 use Rattle.demands.specs.DoubleDebit.{rank_at, no-double-debit, newest_first}
-use Rattle.layout.specs.Laws.Res.{ltb-cases, clash}
+use Rattle.layout.proofs.Laws.Res.{ltb-cases, clash}
 use Rattle.demands.specs.Laws.Refusals.{seek-never_18}
 
 -- ---- case 2, by a run

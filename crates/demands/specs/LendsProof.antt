@@ -5,7 +5,7 @@ use mathlib.Core.List.{List, [], ◌∷◌, ◌++◌, append_assoc, append-nil}
 use Rattle.layout.specs.Res.{Res, ok, refuse}
 use Rattle.layout.specs.Row.{Row, Typed}
 use Rattle.demands.specs.Lends.{Maker, Call, offer, would-fit, is-empty, finish, lend_on, taken, LendingOf, lending_of, add_to, build_of, after, accepted, run, rows_of, BeginAlike, TypedCall, TypedCalls, RanOf, FinishesOf}
-use Rattle.layout.specs.Laws.Res.{ok-inj}
+use Rattle.layout.proofs.Laws.Res.{ok-inj}
 
 -- what is said of rows, state and buffers is kept by an accepted row, with that row at the end, by other buffers that begin alike, and by a build, which leaves such
 pub record Keeps (m : Maker) (P : List Row → m.State → List ℕ → List ℕ → Type 0) : Type 0 where

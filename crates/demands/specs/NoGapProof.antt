@@ -21,8 +21,8 @@ use Rattle.demands.specs.Runs.{RoomFor, backwards, Walks, stands, gives, EndsDon
 use Rattle.demands.specs.Rows.{Rows}
 use Rattle.demands.specs.Walked.{WalkedAfter, StartsAt, NoneTwice, equal_to, NoGap}
 use Rattle.demands.specs.Proof2.{sought-up, sought-down, first-splits, last-splits}
-use Rattle.layout.specs.Laws.Res.{ok-inj, clash}
-use Rattle.layout.specs.Laws.Key.{at-most-refl, at-most_antisym, below_false, le_below, below-le}
+use Rattle.layout.proofs.Laws.Res.{ok-inj, clash}
+use Rattle.layout.proofs.Laws.Key.{at-most-refl, at-most_antisym, below_false, le_below, below-le}
 use Rattle.demands.specs.Laws.Reads.{all_append}
 use Rattle.demands.specs.Laws.Sorted.{leading-most, leading_step, leading-stop}
 use Rattle.demands.specs.Laws.Places.{rows-once, at_left, at_right, apart, once-first, once_last, at_back, back_at, once-back}

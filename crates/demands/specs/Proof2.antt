@@ -19,13 +19,16 @@ use Rattle.demands.specs.Runs.{RoomFor, Walks, stands, gives, WalksAll}
 use Rattle.demands.specs.Rows.{DecodesBack, Rows, BothWays, offered_ranks, SoughtUp, SoughtDown, PartsBelow, PartsAbove, Given, FoundFirstOf, FoundFirst}
 use Rattle.demands.specs.RunsProof.{walks-before, walks-after}
 use Rattle.demands.specs.SoughtProof.{landed-up, landed-down}
-use Rattle.layout.specs.Laws.Res.{ok-inj, ltb-cases, clash}
-use Rattle.layout.specs.Laws.Key.{AtMost, at-most-refl, at-most-trans, at-most_antisym, below_false, le_below, below-most}
-use Rattle.layout.specs.Laws.Row.{places_of, read_row-law, places_of-fields, places_of-key}
-use Rattle.layout.specs.Laws.Tells.{read_row-ends, restart-least}
-use Rattle.layout.specs.Laws.Encoded.{Encoded, encoded_fields}
-use Rattle.layout.specs.Laws.Trailer.{region_of-tells, trailer_of-tells}
-use Rattle.layout.specs.Laws.Cursor.{next-marked}
+use Rattle.layout.proofs.Laws.Res.{ok-inj, ltb-cases, clash}
+use Rattle.layout.specs.Laws.Key.{AtMost}
+use Rattle.layout.proofs.Laws.Key.{at-most-refl, at-most-trans, at-most_antisym, below_false, le_below, below-most}
+use Rattle.layout.specs.Laws.Row.{places_of}
+use Rattle.layout.proofs.Laws.Row.{read_row-law, places_of-fields, places_of-key}
+use Rattle.layout.proofs.Laws.Tells.{read_row-ends, restart-least}
+use Rattle.layout.specs.Laws.Encoded.{Encoded}
+use Rattle.layout.proofs.Laws.Encoded.{encoded_fields}
+use Rattle.layout.proofs.Laws.Trailer.{region_of-tells, trailer_of-tells}
+use Rattle.layout.proofs.Laws.Cursor.{next-marked}
 use Rattle.demands.specs.Laws.Reads.{region-at, rows_all}
 use Rattle.demands.specs.Laws.Ascend.{opened-before, opens_up}
 use Rattle.demands.specs.Laws.Descend.{opened_after_lem, opens-down}

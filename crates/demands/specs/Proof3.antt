@@ -15,11 +15,12 @@ use Rattle.demands.specs.Lends.{Call}
 use Rattle.demands.specs.LendsProof.{finishes_one}
 use Rattle.demands.specs.Runs.{maker, Lending, Ran, Finishes, RoomFor, KeysFit}
 use Rattle.demands.specs.RunsProof.{made-ran, finishes_some, made_finishes, walks-before, walks-after}
-use Rattle.layout.specs.Laws.Res.{bind-then, guard-then, ok-inj}
-use Rattle.layout.specs.Laws.Row.{prefix-free}
-use Rattle.layout.specs.Laws.Encoded.{Encoded, tests-tell, encoded_fields}
+use Rattle.layout.proofs.Laws.Res.{bind-then, guard-then, ok-inj}
+use Rattle.layout.proofs.Laws.Row.{prefix-free}
+use Rattle.layout.specs.Laws.Encoded.{Encoded}
+use Rattle.layout.proofs.Laws.Encoded.{tests-tell, encoded_fields}
 use Rattle.demands.specs.Laws.Local.{read_row-local}
-use Rattle.layout.specs.Laws.Carry.{key_of-length}
+use Rattle.layout.proofs.Laws.Carry.{key_of-length}
 use Rattle.layout.specs.Laws.Block.{AllOk, AllFit}
 use Rattle.layout.specs.Laws.Made.{Made}
 use Rattle.demands.specs.Laws.Reads.{rows_all}

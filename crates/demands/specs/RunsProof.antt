@@ -14,11 +14,12 @@ use Rattle.layout.specs.Cursor.{Cursor, marked, Keyed, found, done, step_is}
 use Rattle.demands.specs.Lends.{Call, lending_of, BeginAlike}
 use Rattle.demands.specs.LendsProof.{Keeps, kept-ran}
 use Rattle.demands.specs.Runs.{maker, Lending, Ran, Finishes, Walks, stands, gives, EndsDone, RoomFor, backwards, WalksAll, steps_by, GivesFirst}
-use Rattle.layout.specs.Laws.Res.{bind-then, guard-then, ltb-cases}
+use Rattle.layout.proofs.Laws.Res.{bind-then, guard-then, ltb-cases}
 use Rattle.demands.specs.Laws.Ascend.{Before, before-gives, before-done, marked-stays}
 use Rattle.demands.specs.Laws.Descend.{After, after-gives, after-done, FromEnd, empty, ending, from_end}
-use Rattle.layout.specs.Laws.Made.{Made, made_none, made_more, made-stands, made-builds}
-use Rattle.layout.specs.Laws.Step.{next-again}
+use Rattle.layout.specs.Laws.Made.{Made}
+use Rattle.layout.proofs.Laws.Made.{made_none, made_more, made-stands, made-builds}
+use Rattle.layout.proofs.Laws.Step.{next-again}
 
 -- ---- the builder
 

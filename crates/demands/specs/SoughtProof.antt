@@ -13,10 +13,10 @@ use Rattle.demands.specs.Reads.{Reads, all_rows, keys_of}
 use Rattle.demands.specs.Runs.{RoomFor, backwards, stands, WalksAll}
 use Rattle.demands.specs.AnyOrder.{rows_onward, region_at, start_among, through, left_down, SoughtAmong}
 use Rattle.demands.specs.RunsProof.{walks-before, walks-after}
-use Rattle.layout.specs.Laws.Res.{ok-inj}
-use Rattle.layout.specs.Laws.Cursor.{next-marked}
-use Rattle.layout.specs.Laws.Trailer.{trailer_of-tells}
-use Rattle.layout.specs.Laws.Seek.{up_from, down-from, seek_is}
+use Rattle.layout.proofs.Laws.Res.{ok-inj}
+use Rattle.layout.proofs.Laws.Cursor.{next-marked}
+use Rattle.layout.proofs.Laws.Trailer.{trailer_of-tells}
+use Rattle.layout.proofs.Laws.Seek.{up_from, down-from, seek_is}
 use Rattle.demands.specs.Laws.Reads.{all_append}
 use Rattle.demands.specs.Laws.Split.{Searched, searched}
 use Rattle.demands.specs.Laws.LandsUp.{LandsUp, lands, passes, landed}

@@ -17,7 +17,7 @@ use Rattle.demands.specs.Reads.{Reads, all_rows, Names}
 use Rattle.demands.specs.Rows.{BothWays}
 use Rattle.demands.specs.AnyOrder.{region_at}
 use Rattle.demands.specs.Pairs.{Reached, pairs_of, pairs_from, NamesEach, ended_of}
-use Rattle.layout.specs.Laws.Trailer.{all_offsets-tell}
+use Rattle.layout.proofs.Laws.Trailer.{all_offsets-tell}
 use Rattle.demands.specs.Laws.AnyOrder.{many}
 use Rattle.demands.specs.Laws.Named.{names_one, names_number, row_one, rows-each, pairs-up, pairs-down}
 use Rattle.demands.specs.Laws.Listed.{names_entry, entry_named, number_counts}

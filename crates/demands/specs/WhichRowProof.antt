@@ -17,11 +17,13 @@ use Rattle.layout.specs.Cursor.{Direction, ascending, descending, Cursor, cursor
 use Rattle.layout.specs.Seek.{Stop, walk_region, walk_up, seek_up, start_down, last_at_or_below, done_up, done_down, walk_down, seek_down, search_restarts, Sought, sought_is, seek_along, seek, sought_after}
 use Rattle.demands.specs.Reads.{Names}
 use Rattle.demands.specs.Pairs.{CursorCall, step, seek-to, after_call, cursor_run, Reached}
-use Rattle.layout.specs.Laws.Res.{bind-then, cond-ok, ok-inj, ltb-cases}
-use Rattle.layout.specs.Laws.Trailer.{trailer_of-tells, RegionTells, region_of-tells, OffsetsTell, all_offsets-tell}
-use Rattle.layout.specs.Laws.Restart.{search-inside, start-inside}
-use Rattle.layout.specs.Laws.Tells.{row_in-ends}
-use Rattle.layout.specs.Laws.Step.{Stepped, stays, ends, goes-up, goes_back, UsedIn, next-tells}
+use Rattle.layout.proofs.Laws.Res.{bind-then, cond-ok, ok-inj, ltb-cases}
+use Rattle.layout.specs.Laws.Trailer.{RegionTells, OffsetsTell}
+use Rattle.layout.proofs.Laws.Trailer.{trailer_of-tells, region_of-tells, all_offsets-tell}
+use Rattle.layout.proofs.Laws.Restart.{search-inside, start-inside}
+use Rattle.layout.proofs.Laws.Tells.{row_in-ends}
+use Rattle.layout.specs.Laws.Step.{Stepped, stays, ends, goes-up, goes_back, UsedIn}
+use Rattle.layout.proofs.Laws.Step.{next-tells}
 use Rattle.demands.specs.Laws.Counted.{Counted, counted_start, counted-on, counted_true, counted_stop, names_up, names_back}
 
 -- the pair of an answer names the row that came with it

@@ -31,7 +31,7 @@ use Rattle.demands_v1.specs.Rows.{Rows, opened, BothWays, SoughtUp, SoughtDown, 
 use Rattle.demands_v1.specs.RowProof.{encode-tells, decodes-back}
 use Rattle.demands_v1.specs.Proof3.{ran-laid, laid-accepted, accepted-laid, laid-verdict, both_ways}
 use Rattle.demands_v1.specs.Proof2.{accepted-rows, rows-room, rows_few, sought-up, sought-down, between-numbers, retry_present, retry_absent, reads-at-most, seek-answers}
-use Rattle.layout.specs.Laws.Res.{ok-inj}
+use Rattle.layout.proofs.Laws.Res.{ok-inj}
 use Rattle.demands.specs.Laws.Accept.{verdict-falling}
 use Rattle.demands_v1.specs.Laws.Accept.{check_accepts, accepts_check}
 use Rattle.demands_v1.specs.Laws.Walk.{walks-first}

@@ -33,7 +33,7 @@ use Rattle.demands_v1.specs.Runs.{maker, Lending, Ran, Finishes, WalksAll, steps
 use Rattle.demands_v1.specs.Rows.{Rows, opened, BothWays, SoughtUp, SoughtDown, BetweenNumbers, Given}
 use Rattle.demands_v1.specs.Demand2.{decode-encode, check-exact, has-rows, rows-at-most, room-enough, walk-any_buffers, first-at-or-above, last-at-or-below, no-row-between, no-double-debit, walk_steps, seek_ascending_lands, seek_descending_lands, retry_found, seek-reads-any, seek-reads-at-most, finished-accepted, finished-refused}
 use Rattle.demands_v1.specs.Demand3.{run_finishes, blocks-differ, keys-fit, reads-forwards, reads-backwards, reads-any_buffers, row-begins-no-other, read-begins-no-other}
-use Rattle.layout.specs.Laws.Res.{clash}
+use Rattle.layout.proofs.Laws.Res.{clash}
 
 -- ---- a run of three rows
 

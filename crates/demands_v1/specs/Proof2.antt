@@ -22,12 +22,12 @@ use Rattle.demands.specs.CostProof.{bits_above}
 use Rattle.demands_v1.specs.Reads.{first_key_of, Reads}
 use Rattle.demands_v1.specs.Runs.{Walks, stands, gives, WalksAll}
 use Rattle.demands_v1.specs.Rows.{Rows, SoughtUp, SoughtDown, BetweenNumbers, Given}
-use Rattle.layout.specs.Laws.Res.{bind-then, ok-inj, ltb-cases, clash}
-use Rattle.layout.specs.Laws.Key.{at-most-refl, at-most_antisym, below_false, le_below, below-le}
-use Rattle.layout.specs.Laws.Search.{search-reads}
-use Rattle.layout.specs.Laws.Trailer.{trailer_of-tells, region_of-tells}
-use Rattle.layout_v1.specs.Laws.Rows.{numbered-ends}
-use Rattle.layout_v1.specs.Laws.Cursor.{empty-is, seek_is}
+use Rattle.layout.proofs.Laws.Res.{bind-then, ok-inj, ltb-cases, clash}
+use Rattle.layout.proofs.Laws.Key.{at-most-refl, at-most_antisym, below_false, le_below, below-le}
+use Rattle.layout.proofs.Laws.Search.{search-reads}
+use Rattle.layout.proofs.Laws.Trailer.{trailer_of-tells, region_of-tells}
+use Rattle.layout_v1.proofs.Laws.Rows.{numbered-ends}
+use Rattle.layout_v1.proofs.Laws.Cursor.{empty-is, seek_is}
 use Rattle.demands.specs.Laws.Sorted.{leading-most}
 use Rattle.demands_v1.specs.Laws.Reads.{rows_all, rows-name, first_read}
 use Rattle.demands_v1.specs.Laws.Accept.{check_accepts}

@@ -26,10 +26,11 @@ use Rattle.demands.specs.Proof3.{Keyeds, rooms, keys-fit-all}
 use Rattle.demands_v1.specs.Reads.{first_key_of, Reads}
 use Rattle.demands_v1.specs.Runs.{maker, Lending, Ran, Finishes}
 use Rattle.demands_v1.specs.Rows.{BothWays}
-use Rattle.layout.specs.Laws.Res.{bind-then, guard-then, ok-inj}
+use Rattle.layout.proofs.Laws.Res.{bind-then, guard-then, ok-inj}
 use Rattle.layout.specs.Laws.Block.{AllOk, AllFit}
-use Rattle.layout_v1.specs.Laws.Made.{Made, made_none, made_more, made-stands, made-builds}
-use Rattle.layout_v1.specs.Laws.Cursor.{open_good}
+use Rattle.layout_v1.specs.Laws.Made.{Made}
+use Rattle.layout_v1.proofs.Laws.Made.{made_none, made_more, made-stands, made-builds}
+use Rattle.layout_v1.proofs.Laws.Cursor.{open_good}
 use Rattle.demands_v1.specs.Laws.Reads.{rows-one, rows_all, first_read, names_length}
 use Rattle.demands_v1.specs.Laws.Laid.{LaidBlock, laid-block}
 use Rattle.demands_v1.specs.Laws.Walk.{walks-up, walks-down}

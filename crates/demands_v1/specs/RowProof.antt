@@ -9,9 +9,11 @@ use Rattle.layout_v1.specs.Row.{row_bytes, encode_row, SameRow}
 use Rattle.layout_v1.specs.RowRead.{row_at, decode_row}
 use Rattle.demands.specs.Rows.{DecodesTo}
 use Rattle.demands.specs.Proof3.{no-tail}
-use Rattle.layout.specs.Laws.Res.{ok-inj}
-use Rattle.layout.specs.Laws.Encoded.{Encoded, tests-tell, encoded_fields}
-use Rattle.layout_v1.specs.Laws.Codec.{places_of, row_at-law, places_of-fields, places_of-key, prefix-free}
+use Rattle.layout.proofs.Laws.Res.{ok-inj}
+use Rattle.layout.specs.Laws.Encoded.{Encoded}
+use Rattle.layout.proofs.Laws.Encoded.{tests-tell, encoded_fields}
+use Rattle.layout_v1.specs.Laws.Codec.{places_of}
+use Rattle.layout_v1.proofs.Laws.Codec.{row_at-law, places_of-fields, places_of-key, prefix-free}
 use Rattle.demands_v1.specs.Laws.Local.{row_at-local}
 
 pub encode-tells : (first_len shared : ℕ) (suffix : List ℕ) (f : Fields) (room : ℕ) (w : List ℕ) → encode_row first_len shared suffix f room ≡ ok w

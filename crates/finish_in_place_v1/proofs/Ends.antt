@@ -11,10 +11,10 @@ use borrow.Author.Tests.{lt-ltb, le-ltb, eq-eqb, ne_eqb}
 use Rattle.layout.specs.Res.{ok, refuse, guard}
 use Rattle.layout.specs.Block.{trailer}
 use Rattle.layout.specs.Limits.{max_key, max_block, max_restarts}
-use Rattle.layout.specs.Laws.Res.{ltb-cases}
+use Rattle.layout.proofs.Laws.Res.{ltb-cases}
 use Rattle.layout_v1.specs.Row.{least_row}
 use Rattle.layout_v1.specs.Builder.{Builder, state_tests, build}
-use Rattle.layout_v1.specs.Laws.Builder.{state-good, state-tells, state_bad, build-by}
+use Rattle.layout_v1.proofs.Laws.Builder.{state-good, state-tells, state_bad, build-by}
 use Rattle.basics.specs.Number.{number}
 use Rattle.basics.specs.declared.Refusal.{Refusal}
 use Rattle.basics.specs.declared.Refusal.TheVariants.{EmptyBlock, BadState}

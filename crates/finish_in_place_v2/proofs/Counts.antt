@@ -12,7 +12,7 @@ use borrow.Author.Tests.{eq-eqb, ne_eqb, eqb-true, leb-true, leb-false}
 use Rattle.layout.specs.Limits.{max_interval, max_restarts}
 use Rattle.layout.specs.Block.{is_restart}
 use Rattle.layout.specs.Builder.{restarts_of}
-use Rattle.layout.specs.Laws.Res.{eqb-cases, bool_cases}
+use Rattle.layout.proofs.Laws.Res.{eqb-cases, bool_cases}
 
 -- no product here wraps
 pub product_small : {a b : ℕ} → a ≤ max_restarts → b ≤ max_interval → a * b ≤ max_restarts * max_interval

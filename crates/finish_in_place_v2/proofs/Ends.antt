@@ -12,11 +12,11 @@ use Rattle.layout.specs.Block.{trailer}
 use Rattle.layout.specs.Place.{splice}
 use Rattle.layout.specs.Builder.{Builder, restarts_of, state_tests, build}
 use Rattle.layout.specs.Limits.{max_key, max_block, max_interval, max_restarts}
-use Rattle.layout.specs.Laws.Res.{eqb-cases}
-use Rattle.layout.specs.Laws.Builder.{state-good, state-tells, build-state, build-none, build-short, build-good}
+use Rattle.layout.proofs.Laws.Res.{eqb-cases}
+use Rattle.layout.proofs.Laws.Builder.{state-good, state-tells, build-state, build-none, build-short, build-good}
 use mathlib.Core.List.{List}
 use lib.Seq.{length-take-le}
-use Rattle.layout.specs.Laws.Trailer.{length-trailer}
+use Rattle.layout.proofs.Laws.Trailer.{length-trailer}
 use Rattle.basics.specs.Number.{number}
 use Rattle.basics.specs.declared.Refusal.{Refusal}
 use Rattle.basics.specs.declared.Refusal.TheVariants.{BufferTooSmall, EmptyBlock, BadState}

@@ -6,7 +6,7 @@ use native.Mathlib.Omega.{arith}
 use lib.ListN.{length, take, drop, get_or}
 use lib.Seq.{drop-cons}
 use Rattle.layout.specs.Fixed.{unbig}
-use Rattle.layout.specs.Laws.Plain.{fixed_at-is}
+use Rattle.layout.proofs.Laws.Plain.{fixed_at-is}
 use Rattle.buf.specs.Promise.{or_zero, ReadsEight}
 use Rattle.journal.specs.Record.{number_at}
 

@@ -6,8 +6,9 @@ use native.Mathlib.Omega.{arith}
 use lib.ListN.{length}
 use Rattle.layout.specs.Fixed.{big}
 use Rattle.layout.specs.Place.{splice}
-use Rattle.layout.specs.Laws.Fixed.{length-big}
-use Rattle.layout.specs.Laws.Splice.{Wrote, wrote_then, wrote-length}
+use Rattle.layout.proofs.Laws.Fixed.{length-big}
+use Rattle.layout.specs.Laws.Splice.{Wrote}
+use Rattle.layout.proofs.Laws.Splice.{wrote_then, wrote-length}
 use Rattle.buf_mut.specs.declared.Put.{Put}
 use Rattle.buf_mut.specs.Promise.{Puts}
 use Rattle.buf_mut.proofs.Laws.{copied}

@@ -8,7 +8,7 @@ use native.Mathlib.Omega.{arith}
 use lib.Dec.{eqb}
 use lib.ListN.{length}
 use borrow.Author.Tests.{eq-eqb, ne_eqb}
-use Rattle.layout.specs.Laws.Res.{eqb-cases}
+use Rattle.layout.proofs.Laws.Res.{eqb-cases}
 use Rattle.buf.specs.Promise.{ReadsEight}
 use Rattle.journal.specs.declared.Record.{Record}
 use Rattle.journal.specs.declared.Found.TheVariants.{Whole}

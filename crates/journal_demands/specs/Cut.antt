@@ -2,7 +2,7 @@
 use Rattle.std.specs.Prelude.{ℕ, ◌+◌, ◌≤◌, ◌<◌, ◌≡◌, refl, Bool, true, false, cond, List, [], ◌∷◌, ◌⊎◌, ltb, leb, eqb, length, take}
 use Rattle.std.proofs.Common.{ap, sym, ◌∙◌, subst, ⊎_elim, arith, length-take-le, ltb-true, ltb-false, leb-true, le-leb}
 use Rattle.std.proofs.lemmas.Bool.{lt-leb, eqb-false}
-use Rattle.layout.specs.Laws.Res.{ltb-cases}
+use Rattle.layout.proofs.Laws.Res.{ltb-cases}
 use Rattle.journal.specs.declared.Record.{Record}
 use Rattle.journal.specs.declared.Refusal.TheVariants.{UnknownKind}
 use Rattle.journal.specs.declared.Found.TheVariants.{Whole, Incomplete, End, Refused}

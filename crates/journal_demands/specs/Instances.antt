@@ -4,7 +4,7 @@ use Rattle.std.specs.Prelude.{ℕ, zero, suc, ◌+◌, ◌*◌, ◌^◌, ◌<◌
 use Rattle.std.proofs.Common.{⊎_elim, arith}
 use Rattle.std.specs.Int.Signed.{mag}
 use Rattle.layout.specs.Fixed.{big, unbig}
-use Rattle.layout.specs.Laws.Res.{ltb-cases, clash}
+use Rattle.layout.proofs.Laws.Res.{ltb-cases, clash}
 use Rattle.journal.specs.declared.Record.{Record}
 use Rattle.journal.specs.declared.Record.TheVariants.{Debit, TopUp, Close}
 use Rattle.journal_read.specs.declared.Tail.TheVariants.{Nothing, From}

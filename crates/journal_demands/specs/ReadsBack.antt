@@ -4,9 +4,9 @@ use Rattle.std.proofs.Math.Path.{refl, ap}
 use Rattle.std.proofs.Common.{sym, ◌∙◌, subst, append_assoc, append-nil, arith, length-append, take_at, drop_at, drop-drop, length-take-le, ltb-false}
 use Rattle.layout.specs.Fixed.{big}
 use Rattle.layout.specs.Place.{splice}
-use Rattle.layout.specs.Laws.Fixed.{length-big, unbig-take-big}
-use Rattle.layout.specs.Laws.Place.{past, byte_at}
-use Rattle.layout.specs.Laws.Splice.{take-past-splice}
+use Rattle.layout.proofs.Laws.Fixed.{length-big, unbig-take-big}
+use Rattle.layout.proofs.Laws.Place.{past, byte_at}
+use Rattle.layout.proofs.Laws.Splice.{take-past-splice}
 use Rattle.journal.specs.declared.Refusal.TheVariants.{UsedPastBuffer, EndsInside, NoRoom}
 use Rattle.journal.specs.declared.Record.{Record}
 use Rattle.journal.specs.declared.Record.TheVariants.{Debit, TopUp, Close}

@@ -1,7 +1,7 @@
 -- Sums over records: over two lists one after another; after a close; of a card's own records alone.
 use Rattle.std.specs.Prelude.{ℕ, ◌+◌, ◌≡◌, refl, Bool, true, false, cond, ◌||◌, List, [], ◌∷◌, ◌++◌, eqb}
 use Rattle.std.proofs.Common.{ap, sym, ◌∙◌, ⊎_elim, add-zero, zero-add, add_assoc, arith, eq-eqb, ne_eqb}
-use Rattle.layout.specs.Laws.Res.{eqb-cases}
+use Rattle.layout.proofs.Laws.Res.{eqb-cases}
 use Rattle.journal.specs.declared.Record.{Record}
 use Rattle.journal.specs.Record.{close_kind, kind_of, card_of}
 use Rattle.journal_balance.specs.Counts.{alike, closes, some}

@@ -5,7 +5,8 @@ use mathlib.Core.Path.{◌≡◌, sym, ◌∙◌}
 use native.Mathlib.Omega.{arith}
 use lib.ListN.{length, take, drop}
 use Rattle.layout.specs.Key.{Key}
-use Rattle.layout.specs.Laws.Words.{Begins, Bytes, common-eight}
+use Rattle.layout.specs.Laws.Words.{Begins}
+use Rattle.layout.proofs.Laws.Words.{Bytes, common-eight}
 use Rattle.buf.specs.Promise.{ReadsEight}
 use Rattle.buf.proofs.Laws.{eight-part}
 

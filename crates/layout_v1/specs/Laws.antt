@@ -1,11 +1,5 @@
-pub mod RowReads
-pub mod Plain
 pub mod Joined
-pub mod RowWrites
 pub mod Codec
-pub mod Rows
 pub mod Block
-pub mod Builder
 pub mod Made
 pub mod Check
-pub mod Cursor

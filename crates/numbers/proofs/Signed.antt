@@ -14,7 +14,7 @@ use mir.Val.{Fits, SFits, to_z, of_z}
 use mir.Facts.{to_z-of_z}
 use borrow.Author.Tests.{le-ltb, leb-false}
 use Rattle.layout.specs.Fixed.{bits}
-use Rattle.layout.specs.Laws.Byte.{bits_pos}
+use Rattle.layout.proofs.Laws.Byte.{bits_pos}
 
 -- a signed local, read back from its bits
 pub read : (z : ℤ) → SFits w64 z → to_z w64 (of_z w64 z) ≡ z

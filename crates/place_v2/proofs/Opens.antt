@@ -9,8 +9,8 @@ use lib.Dec.{leb}
 use Rattle.layout.specs.Res.{Res, ok, refuse, bind, whether}
 use Rattle.layout.specs.Trailer.{Trailer, trailer_of, data_of, Region, region_of}
 use Rattle.layout.specs.Cursor.{Direction, ascending, descending, Cursor, cursor_is, Keyed, row_ending_at, open_along, open_block, cursor_or, exhausted, is_empty}
-use Rattle.layout.specs.Laws.Res.{whether-good, whether-refused}
-use Rattle.layout.specs.Laws.Cursor.{along-up, along-region, along-no, along-down, empty-is}
+use Rattle.layout.proofs.Laws.Res.{whether-good, whether-refused}
+use Rattle.layout.proofs.Laws.Cursor.{along-up, along-region, along-no, along-down, empty-is}
 use Rattle.basics.specs.Answers.{yes, says_verdict}
 use Rattle.basics.specs.Number.{number}
 use Rattle.basics.specs.Says.{says_order}

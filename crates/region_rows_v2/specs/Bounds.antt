@@ -7,7 +7,7 @@ use Rattle.layout.specs.Limits.{max_key}
 use Rattle.layout.specs.Trailer.{Trailer, trailer_is, trailer_of, Region, region_is, region_of}
 use Rattle.layout.specs.Number.{wrong_after}
 use Rattle.layout.specs.Cursor.{Direction, ascending, descending, Cursor}
-use Rattle.layout.specs.Laws.Res.{bind-then, guard-then, ok-inj}
+use Rattle.layout.proofs.Laws.Res.{bind-then, guard-then, ok-inj}
 use Rattle.trailer.specs.Says.{region_from}
 use Rattle.region_rows_v2.specs.declared.Bounds.{Bounds}
 

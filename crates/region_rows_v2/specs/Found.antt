@@ -8,8 +8,9 @@ use Rattle.layout.specs.Key.{Key}
 use Rattle.layout.specs.Place.{splice}
 use Rattle.layout.specs.RowRead.{RowRead}
 use Rattle.layout.specs.Cursor.{Cursor, Answer, found, done, Step, step_is, next, cursor_after, key_after}
-use Rattle.layout.specs.Laws.Res.{ok-inj}
-use Rattle.layout.specs.Laws.Step.{KeyedWell, next-given}
+use Rattle.layout.proofs.Laws.Res.{ok-inj}
+use Rattle.layout.specs.Laws.Step.{KeyedWell}
+use Rattle.layout.proofs.Laws.Step.{next-given}
 use Rattle.basics.specs.Answers.{apart, yes}
 use Rattle.basics.specs.Number.{number}
 use Rattle.basics.specs.declared.Refusal.{Refusal}

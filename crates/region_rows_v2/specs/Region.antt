@@ -11,12 +11,14 @@ use Rattle.layout.specs.Plain.{Plain, plain_at, plain_read}
 use Rattle.layout.specs.RowRead.{may_share, RowRead, key_of}
 use Rattle.layout.specs.Trailer.{trailer_is, Region, row_in}
 use Rattle.layout.specs.Cursor.{Cursor, marked, found, done, step_is, past_row, next}
-use Rattle.layout.specs.Laws.Carry.{Carries, read-carried, key_of-length, suffix_of, key-parts, key-new}
-use Rattle.layout.specs.Laws.Cursor.{next_up, up_done}
-use Rattle.layout.specs.Laws.Number.{right-tells, right-on}
-use Rattle.layout.specs.Laws.Plain.{PlainTells, plain_at-tells, fixed_at-is}
-use Rattle.layout.specs.Laws.PlainStep.{plain-reads, plain_step}
-use Rattle.layout.specs.Laws.Trailer.{trailer_of-tells}
+use Rattle.layout.specs.Laws.Carry.{Carries, suffix_of}
+use Rattle.layout.proofs.Laws.Carry.{read-carried, key_of-length, key-parts, key-new}
+use Rattle.layout.proofs.Laws.Cursor.{next_up, up_done}
+use Rattle.layout.proofs.Laws.Number.{right-tells, right-on}
+use Rattle.layout.specs.Laws.Plain.{PlainTells}
+use Rattle.layout.proofs.Laws.Plain.{plain_at-tells, fixed_at-is}
+use Rattle.layout.proofs.Laws.PlainStep.{plain-reads, plain_step}
+use Rattle.layout.proofs.Laws.Trailer.{trailer_of-tells}
 use Rattle.row_plain_v2.specs.Promise.{plain_from}
 use Rattle.row_plain_v2.specs.declared.PlainRow.{PlainRow}
 use Rattle.trailer.specs.Says.{region_from}

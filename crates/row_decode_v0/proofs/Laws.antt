@@ -8,10 +8,10 @@ use lib.ListN.{length}
 use Rattle.layout.specs.Res.{ok}
 use Rattle.layout.specs.Place.{num_at, fixed_at}
 use Rattle.layout.specs.Plain.{Plain}
-use Rattle.layout.specs.Laws.Plain.{fixed_at-is}
+use Rattle.layout.proofs.Laws.Plain.{fixed_at-is}
 use Rattle.layout_v1.specs.RowRead.{read_row}
 use Rattle.layout_v1.specs.Plain.{spelt, plain_value, plain_at, plain_as}
-use Rattle.layout_v1.specs.Laws.Plain.{PlainTells, plain_at-tells, plain-read}
+use Rattle.layout_v1.proofs.Laws.Plain.{PlainTells, plain_at-tells, plain-read}
 use Rattle.basics.specs.Answers.{yes}
 use Rattle.buf.specs.Says.{says_word}
 use Rattle.buf.specs.Promise.{or_zero, ReadsNarrow, ReadsBytes}

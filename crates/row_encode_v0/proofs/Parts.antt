@@ -7,7 +7,7 @@ use native.Mathlib.Omega.{arith}
 use lib.ListN.{length}
 use Rattle.layout.specs.Laws.Splice.{Wrote}
 use Rattle.layout_v1.specs.Row.{value_bytes_of, row_bytes}
-use Rattle.layout_v1.specs.Laws.RowWrites.{row_bytes-parts}
+use Rattle.layout_v1.proofs.Laws.RowWrites.{row_bytes-parts}
 use Rattle.basics.specs.Says.{says_kind}
 use Rattle.buf_mut.proofs.Laws.{room-first, room_next}
 use Rattle.row_flags.specs.Says.{fields_from, mark_bytes}

@@ -7,8 +7,8 @@ use native.Mathlib.Omega.{arith}
 use lib.ListN.{length, take}
 use lib.Seq.{take_all}
 use Rattle.layout.specs.Row.{Kind, value, tombstone, merge, kept, kept_length, row_bytes}
-use Rattle.layout.specs.Laws.RowWrite.{row_bytes-parts}
-use Rattle.layout.specs.Laws.Row.{length-kept}
+use Rattle.layout.proofs.Laws.RowWrite.{row_bytes-parts}
+use Rattle.layout.proofs.Laws.Row.{length-kept}
 use Rattle.layout.specs.Laws.Splice.{Wrote}
 use Rattle.basics.specs.Says.{says_kind}
 use Rattle.buf_mut.proofs.Laws.{room-first, room_next}

@@ -6,8 +6,9 @@ use native.Mathlib.Omega.{arith}
 use lib.ListN.{length}
 use borrow.Rule.Slice.PartMut.{mid_of, put_mid}
 use Rattle.layout.specs.Res.{Res, ok}
-use Rattle.layout.specs.Laws.Res.{ok-inj}
-use Rattle.layout.specs.Laws.Splice.{Wrote, wrote-rest}
+use Rattle.layout.proofs.Laws.Res.{ok-inj}
+use Rattle.layout.specs.Laws.Splice.{Wrote}
+use Rattle.layout.proofs.Laws.Splice.{wrote-rest}
 use Rattle.basics.specs.Answers.{apart}
 use Rattle.basics.specs.declared.Refusal.{Refusal}
 use Rattle.row_size_v2.specs.Promise.{Lays}

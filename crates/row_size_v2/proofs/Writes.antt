@@ -9,10 +9,10 @@ use Rattle.layout.specs.Res.{Res, ok, refuse, bind}
 use Rattle.layout.specs.Limits.{max_key, max_value}
 use Rattle.layout.specs.Row.{Kind, kept_length, if_so, key_length_tests, length_tests, size_alone}
 use Rattle.layout.specs.Varint.{varint_length}
-use Rattle.layout.specs.Laws.RowExits.{key-empty, key-long, key_fits, lengths-key, lengths-value, lengths-fit, size-no, size_is}
-use Rattle.layout.specs.Laws.RowWrite.{row_size-sum}
+use Rattle.layout.proofs.Laws.RowExits.{key-empty, key-long, key_fits, lengths-key, lengths-value, lengths-fit, size-no, size_is}
+use Rattle.layout.proofs.Laws.RowWrite.{row_size-sum}
 use Rattle.layout.specs.Laws.Splice.{Wrote}
-use Rattle.layout.specs.Laws.Tells.{key_length_tests-tells}
+use Rattle.layout.proofs.Laws.Tells.{key_length_tests-tells}
 use Rattle.row_size_v2.specs.Promise.{key_length, Lays}
 
 -- ---- promises

@@ -11,8 +11,9 @@ use Rattle.layout.specs.Place.{NumAt, num_at, fixed_at}
 use Rattle.layout.specs.Plain.{Plain, plain_at}
 use Rattle.layout.specs.Row.{Absent}
 use Rattle.layout.specs.RowRead.{RowRead, read_row, may_share, holds}
-use Rattle.layout.specs.Laws.Res.{ok-inj}
-use Rattle.layout.specs.Laws.Plain.{PlainTells, plain_at-tells, plain-seq, plain-read}
+use Rattle.layout.proofs.Laws.Res.{ok-inj}
+use Rattle.layout.specs.Laws.Plain.{PlainTells}
+use Rattle.layout.proofs.Laws.Plain.{plain_at-tells, plain-seq, plain-read}
 use Rattle.buf.specs.Promise.{or_zero}
 use Rattle.row_span_v2.specs.Promise.{seq_of}
 

@@ -4,7 +4,7 @@ use Rattle.std.proofs.Common.{ap, sym, ◌∙◌}
 use Rattle.layout.specs.Res.{Res, ok, refuse}
 use Rattle.layout.specs.Plain.{RowSpan, span_of}
 use Rattle.layout.specs.RowRead.{RowRead, read_row}
-use Rattle.layout.specs.Laws.Plain.{span-row, span-no}
+use Rattle.layout.proofs.Laws.Plain.{span-row, span-no}
 use Rattle.row_span_v2.specs.Promise.{seq_of, refused_with}
 
 -- a row with the numbers of a span, and with this sequence number

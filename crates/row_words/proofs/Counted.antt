@@ -7,7 +7,7 @@ use lib.Dec.{eqb}
 use lib.ListN.{length}
 use borrow.Author.Tests.{eqb-true, not-false}
 use Rattle.layout.specs.Res.{Res, ok, bind, guard}
-use Rattle.layout.specs.Laws.Res.{guard-then}
+use Rattle.layout.proofs.Laws.Res.{guard-then}
 use Rattle.row_words.specs.Words.{bad_words, counted}
 
 pub two-bound : {A B : Type 0} (b c : Bool) (x : Res A) (k : A → Res B) → bind (guard b bad_words (guard c bad_words x)) k ≡ guard b bad_words (guard c bad_words (bind x k))

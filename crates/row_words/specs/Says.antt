@@ -3,7 +3,7 @@ use Rattle.std.specs.Prelude.{ℕ, Bool, List, ◌≡◌, refl}
 use Rattle.std.proofs.Common.{ap, sym, ◌∙◌}
 use Rattle.layout.specs.Res.{Res, ok, refuse}
 use Rattle.layout.specs.Fixed.{bits}
-use Rattle.layout.specs.Laws.Res.{ok-inj}
+use Rattle.layout.proofs.Laws.Res.{ok-inj}
 use Rattle.layout.specs.Row.{Kind as KindL, Time as TimeL, Fields}
 use Rattle.basics.specs.Answers.{apart}
 use Rattle.basics.specs.Says.{says_kind, says_time, says_kind-one, says_time-one}

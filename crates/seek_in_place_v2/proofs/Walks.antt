@@ -18,10 +18,10 @@ use Rattle.layout.specs.Trailer.{Trailer, trailer_of, data_of, Region, region_of
 use Rattle.layout.specs.Number.{ended_by, number_at}
 use Rattle.layout.specs.Cursor.{ascending, Cursor, cursor_is}
 use Rattle.layout.specs.Seek.{Stop, stop_is, walk_region, Sought}
-use Rattle.layout.specs.Laws.Res.{bind-then, cond-ok, ltb-cases, ok-inj}
-use Rattle.layout.specs.Laws.Number.{number_in}
-use Rattle.layout.specs.Laws.Tells.{row_in-ends}
-use Rattle.layout.specs.Laws.Trailer.{region_of-tells}
+use Rattle.layout.proofs.Laws.Res.{bind-then, cond-ok, ltb-cases, ok-inj}
+use Rattle.layout.proofs.Laws.Number.{number_in}
+use Rattle.layout.proofs.Laws.Tells.{row_in-ends}
+use Rattle.layout.proofs.Laws.Trailer.{region_of-tells}
 use Rattle.basics.specs.Number.{number}
 use Rattle.basics.specs.Says.{says_order}
 use Rattle.basics.specs.declared.IterationOrder.{IterationOrder}

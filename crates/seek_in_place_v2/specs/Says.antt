@@ -3,7 +3,7 @@ use Rattle.std.specs.Prelude.{ℕ, Bool, true, false, List, ◌≡◌}
 use Rattle.std.proofs.Common.{ap, ap₂, sym, arith}
 use Rattle.layout.specs.Res.{Res, ok, refuse}
 use Rattle.layout.specs.Seek.{Sought}
-use Rattle.layout.specs.Laws.Res.{ok-inj}
+use Rattle.layout.proofs.Laws.Res.{ok-inj}
 use Rattle.basics.specs.Answers.{apart, refused-one}
 use Rattle.basics.specs.Number.{number}
 use Rattle.place_v2.specs.declared.Place.{Place}

@@ -10,7 +10,7 @@ use borrow.Author.Tests.{eq-eqb, ne_eqb}
 use Rattle.layout.specs.Res.{Res, ok, refuse}
 use Rattle.layout.specs.Builder.{new_builder, built, has_no_rows}
 use Rattle.layout.specs.Cursor.{open_block}
-use Rattle.layout.specs.Laws.Res.{whether-good, whether-refused}
+use Rattle.layout.proofs.Laws.Res.{whether-good, whether-refused}
 use Rattle.basics.specs.Answers.{yes}
 use Rattle.basics.specs.Answers.{says_verdict}
 use Rattle.basics.specs.Number.{number}

@@ -10,7 +10,7 @@ use Rattle.layout.specs.Builder.{would_fit}
 use Rattle.layout.specs.Limits.{max_key}
 use Rattle.layout.specs.Row.{encode_row, written}
 use Rattle.layout.specs.RowRead.{decode_row}
-use Rattle.layout.specs.Laws.Res.{ok-inj}
+use Rattle.layout.proofs.Laws.Res.{ok-inj}
 use Rattle.basics.specs.Answers.{apart, yes, no}
 use Rattle.basics.specs.Number.{number}
 use Rattle.basics.specs.declared.Refusal.{Refusal}

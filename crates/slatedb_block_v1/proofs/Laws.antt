@@ -8,7 +8,7 @@ use mathlib.Core.List.{List, []}
 use lib.ListN.{length}
 use borrow.Author.Tests.{eq-eqb, ne_eqb}
 use Rattle.layout.specs.Res.{Res, ok, refuse}
-use Rattle.layout.specs.Laws.Res.{whether-good, whether-refused}
+use Rattle.layout.proofs.Laws.Res.{whether-good, whether-refused}
 use Rattle.layout_v1.specs.Builder.{new_builder, built, has_no_rows}
 use Rattle.layout_v1.specs.Cursor.{open_block, cursor_or}
 use Rattle.basics.specs.Answers.{yes, says_verdict}

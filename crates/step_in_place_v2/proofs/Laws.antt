@@ -16,9 +16,10 @@ use Rattle.layout.specs.RowRead.{RowRead, key_of}
 use Rattle.layout.specs.Trailer.{Trailer, data_of, offset_at, Region, region_of}
 use Rattle.layout.specs.Number.{ended_by, number_at}
 use Rattle.layout.specs.Cursor.{Direction, ascending, cursor_is, marked, found, done, Step, step_is, step_up, Keyed, back_past, step_back_in, step_down, next}
-use Rattle.layout.specs.Laws.Carry.{Carries, read-carried, key_of-length, suffix_of, key-new, carries-on}
-use Rattle.layout.specs.Laws.Number.{number_in}
-use Rattle.layout.specs.Laws.Trailer.{trailer_of-tells, region_of-tells}
+use Rattle.layout.specs.Laws.Carry.{Carries, suffix_of}
+use Rattle.layout.proofs.Laws.Carry.{read-carried, key_of-length, key-new, carries-on}
+use Rattle.layout.proofs.Laws.Number.{number_in}
+use Rattle.layout.proofs.Laws.Trailer.{trailer_of-tells, region_of-tells}
 use Rattle.basics.specs.Answers.{yes}
 use Rattle.basics.specs.Number.{number}
 use Rattle.basics.specs.Says.{says_order}

@@ -4,7 +4,7 @@ use Rattle.std.proofs.Common.{ap, sym, arith}
 use Rattle.layout.specs.Res.{Res, ok, refuse}
 use Rattle.layout.specs.RowRead.{RowRead as RowReadL}
 use Rattle.layout.specs.Cursor.{Answer, found, done, Step}
-use Rattle.layout.specs.Laws.Res.{ok-inj}
+use Rattle.layout.proofs.Laws.Res.{ok-inj}
 use Rattle.basics.specs.Answers.{apart, refused-one}
 use Rattle.basics.specs.Number.{number}
 use Rattle.row_decode_v2.specs.Says.{row_from, row_from-one}

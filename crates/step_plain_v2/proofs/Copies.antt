@@ -12,8 +12,8 @@ use lib.ListN.{length, take, drop, length-append, length-drop}
 use lib.Seq.{take-take, take-add, take-append-le, drop-drop, length-take-le}
 use Rattle.layout.specs.Place.{splice}
 use borrow.Author.Tests.{ltb-false}
-use Rattle.layout.specs.Laws.Plain.{or-false}
-use Rattle.layout.specs.Laws.Splice.{length-splice, take-splice, drop-splice, drop-past-splice, take-past-splice, splice-none}
+use Rattle.layout.proofs.Laws.Plain.{or-false}
+use Rattle.layout.proofs.Laws.Splice.{length-splice, take-splice, drop-splice, drop-past-splice, take-past-splice, splice-none}
 use Rattle.step_plain_v2.specs.Ahead.{Moved}
 
 -- w, written over the end of u

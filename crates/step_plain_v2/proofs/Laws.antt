@@ -20,13 +20,16 @@ use Rattle.layout.specs.Trailer.{Trailer, trailer_of, data_of, Region, region_of
 use Rattle.layout.specs.Plain.{Plain, plain_at, plain_read}
 use Rattle.layout.specs.Number.{wrong_after}
 use Rattle.layout.specs.Cursor.{ascending, Cursor, cursor_is, found, Step, step_is, past_row, next}
-use Rattle.layout.specs.Laws.Res.{ok-inj, bool_cases, ltb-cases, eqb-cases, cond-ok}
-use Rattle.layout.specs.Laws.Carry.{Carries, read-carried, key_of-length, suffix_of, key-new}
-use Rattle.layout.specs.Laws.Cursor.{next_up, up-found}
-use Rattle.layout.specs.Laws.Number.{right-tells}
-use Rattle.layout.specs.Laws.Place.{four_at, fixed_at-eight}
-use Rattle.layout.specs.Laws.Plain.{or-false, fixed_at-is, PlainTells, plain_at-tells, plain-read}
-use Rattle.layout.specs.Laws.Trailer.{trailer_of-tells, region_of-tells}
+use Rattle.layout.proofs.Laws.Res.{ok-inj, bool_cases, ltb-cases, eqb-cases, cond-ok}
+use Rattle.layout.specs.Laws.Carry.{Carries, suffix_of}
+use Rattle.layout.proofs.Laws.Carry.{read-carried, key_of-length, key-new}
+use Rattle.layout.proofs.Laws.Cursor.{next_up, up-found}
+use Rattle.layout.proofs.Laws.Number.{right-tells}
+use Rattle.layout.specs.Laws.Place.{four_at}
+use Rattle.layout.proofs.Laws.Place.{fixed_at-eight}
+use Rattle.layout.specs.Laws.Plain.{PlainTells}
+use Rattle.layout.proofs.Laws.Plain.{or-false, fixed_at-is, plain_at-tells, plain-read}
+use Rattle.layout.proofs.Laws.Trailer.{trailer_of-tells, region_of-tells}
 use Rattle.trailer.specs.Plain.{region_or, region_by, region-is, region_by-tells}
 use Rattle.step_plain_v2.specs.declared.Ahead.{Ahead}
 use Rattle.step_plain_v2.specs.declared.Stepped.{Stepped}

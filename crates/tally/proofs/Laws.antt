@@ -15,7 +15,7 @@ use Rattle.demands.specs.Runs.{Walks, stands, gives}
 use Rattle.demands.specs.Rows.{Rows, BothWays}
 use Rattle.demands.specs.Proof2.{rows-room}
 use Rattle.demands.specs.Demand2.{has-rows, walk_steps}
-use Rattle.layout.specs.Laws.Res.{ok-inj}
+use Rattle.layout.proofs.Laws.Res.{ok-inj}
 use Rattle.basics.specs.Answers.{apart, yes, says_verdict}
 use Rattle.basics.specs.Says.{says_held}
 use Rattle.basics.specs.declared.IterationOrder.TheVariants.{Ascending}

@@ -16,10 +16,11 @@ use Rattle.layout.specs.Cursor.{Keyed}
 use Rattle.demands.specs.Reads.{region_rows, regions_rows, all_rows}
 use Rattle.demands.specs.Rows.{Rows}
 use Rattle.demands.specs.Demand2.{has-rows}
-use Rattle.layout.specs.Laws.Res.{bind-then, guard-then, ok-inj}
+use Rattle.layout.proofs.Laws.Res.{bind-then, guard-then, ok-inj}
 use Rattle.demands.specs.Laws.Reads.{RegionIs, over, more, region-is, RegionsAre, next, regions-are, regions-none, all_rows-none, all_rows-next}
-use Rattle.layout.specs.Laws.Tells.{head_at-tells, body_at-tells, times_at-ends, RowTells, row_at-tells, row_in-ends}
-use Rattle.layout.specs.Laws.Trailer.{region_of-tells, trailer_of-tells}
+use Rattle.layout.specs.Laws.Tells.{RowTells}
+use Rattle.layout.proofs.Laws.Tells.{head_at-tells, body_at-tells, times_at-ends, row_at-tells, row_in-ends}
+use Rattle.layout.proofs.Laws.Trailer.{region_of-tells, trailer_of-tells}
 use Rattle.tally.specs.declared.Tally.{Tally}
 use Rattle.tally.specs.Tally.{zero_tally, largest, counted, counted_rows, block_rows, tally_block}
 

@@ -4,8 +4,8 @@ use Rattle.std.specs.Prelude.{ℕ, ◌+◌, ◌*◌, ◌≤◌, ◌<◌, ◌≡�
 use borrow.Author.Tests.{not-false, ltb-true, lt-ltb, le-ltb, eqb-true, eq-eqb}
 use Rattle.layout.specs.Res.{Res, ok, refuse}
 use Rattle.layout.specs.Trailer.{Trailer, trailer_of, region_of, all_offsets}
-use Rattle.layout.specs.Laws.Res.{guard_ok}
-use Rattle.layout.specs.Laws.Trailer.{trailer_of-tells}
+use Rattle.layout.proofs.Laws.Res.{guard_ok}
+use Rattle.layout.proofs.Laws.Trailer.{trailer_of-tells}
 use Rattle.trailer.specs.Handed.{has_region, handed, region_at, offsets_at}
 
 both : (p q : Bool) → (p && q) ≡ true → (p ≡ true) × (q ≡ true)

@@ -5,9 +5,9 @@ use Rattle.std.proofs.Common.{ap, sym, ◌∙◌, ⊎_elim, arith, le-leb, leb-f
 use Rattle.std.proofs.lemmas.Bool.{lt-leb, eqb-false}
 use Rattle.layout.specs.Res.{Res, ok, refuse, bind}
 use Rattle.layout.specs.Trailer.{count_of, Trailer, trailer_is, trailer_of, offset_at, Region, region_is, first_of, region_of}
-use Rattle.layout.specs.Laws.Res.{ltb-cases, eqb-cases, bool_cases, clash, bind-then}
-use Rattle.layout.specs.Laws.Plain.{or-false}
-use Rattle.layout.specs.Laws.Trailer.{trailer-short, trailer-none, trailer-long, trailer-good, trailer_of-tells, region-first, region-far, region-falls, region-next-far, region-inner, region-last, region_of-tells}
+use Rattle.layout.proofs.Laws.Res.{ltb-cases, eqb-cases, bool_cases, clash, bind-then}
+use Rattle.layout.proofs.Laws.Plain.{or-false}
+use Rattle.layout.proofs.Laws.Trailer.{trailer-short, trailer-none, trailer-long, trailer-good, trailer_of-tells, region-first, region-far, region-falls, region-next-far, region-inner, region-last, region_of-tells}
 use Rattle.trailer.specs.Handed.{region_at}
 use Rattle.trailer.specs.Laws.{handed-known, handed-past, handed-tells, region-used}
 

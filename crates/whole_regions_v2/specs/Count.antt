@@ -9,9 +9,10 @@ use Rattle.layout.specs.Res.{ok, refuse}
 use Rattle.layout.specs.Plain.{RowSpan, span_of}
 use Rattle.layout.specs.Trailer.{Region, row_in}
 use Rattle.layout.specs.Number.{ended_by}
-use Rattle.layout.specs.Laws.Number.{Counting, counting-here}
-use Rattle.layout.specs.Laws.Plain.{span-row}
-use Rattle.layout.specs.Laws.Tells.{row_in-ends}
+use Rattle.layout.specs.Laws.Number.{Counting}
+use Rattle.layout.proofs.Laws.Number.{counting-here}
+use Rattle.layout.proofs.Laws.Plain.{span-row}
+use Rattle.layout.proofs.Laws.Tells.{row_in-ends}
 use Rattle.block_regions_v2.specs.Known.{known_is}
 use Rattle.block_regions_v2.specs.Parts.{Reaching, reaching_only, reaching_refused, reaching_found, reaching_more}
 use Rattle.block_regions_v2.specs.Count.{counting-ended, counting-span}

@@ -10,11 +10,11 @@ use Rattle.layout.specs.Trailer.{Trailer, trailer_of, data_of, Region, region_of
 use Rattle.layout.specs.Number.{ended_by, number_at}
 use Rattle.layout.specs.Cursor.{row_ending_at}
 use Rattle.layout.specs.Seek.{last_at_or_below}
-use Rattle.layout.specs.Laws.Res.{bind-then, ok-inj}
+use Rattle.layout.proofs.Laws.Res.{bind-then, ok-inj}
 use Rattle.layout.specs.Laws.Match.{match_after, above_after}
-use Rattle.layout.specs.Laws.MatchWalk.{MatchingDown, down-more}
-use Rattle.layout.specs.Laws.Number.{number_in}
-use Rattle.layout.specs.Laws.Trailer.{trailer_of-tells, region_of-tells}
+use Rattle.layout.proofs.Laws.MatchWalk.{MatchingDown, down-more}
+use Rattle.layout.proofs.Laws.Number.{number_in}
+use Rattle.layout.proofs.Laws.Trailer.{trailer_of-tells, region_of-tells}
 use Rattle.basics.specs.Answers.{apart}
 use Rattle.trailer.specs.Says.{region_from}
 use Rattle.trailer.specs.declared.Region.{Region as RegionC}

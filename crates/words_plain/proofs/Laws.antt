@@ -14,8 +14,8 @@ use Rattle.layout.specs.Limits.{max_key}
 use Rattle.layout.specs.Key.{Key}
 use Rattle.layout.specs.RowRead.{RowRead}
 use Rattle.layout.specs.Cursor.{ascending, Cursor, found, Step, next}
-use Rattle.layout.specs.Laws.Res.{cond-ok}
-use Rattle.layout.specs.Laws.Plain.{or-false}
+use Rattle.layout.proofs.Laws.Res.{cond-ok}
+use Rattle.layout.proofs.Laws.Plain.{or-false}
 use Rattle.basics.specs.declared.IterationOrder.TheVariants.{Ascending}
 use Rattle.basics.specs.declared.Time.TheVariants.{Absent}
 use Rattle.basics.specs.declared.ValueDeletable.TheVariants.{Value}

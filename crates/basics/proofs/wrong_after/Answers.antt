@@ -8,7 +8,7 @@ use native.Mathlib.Omega.{arith}
 use lib.Dec.{ltb}
 use borrow.Author.Tests.{lt-ltb, le-ltb, ne_eqb}
 use Rattle.layout.specs.Number.{wrong_after}
-use Rattle.layout.specs.Laws.Res.{ltb-cases}
+use Rattle.layout.proofs.Laws.Res.{ltb-cases}
 use Rattle.basics.proofs.wrong_after.Goals as goal
 
 none : (passed n : ℕ) → n ≡ 0 → ltb 0 passed ≡ wrong_after passed n

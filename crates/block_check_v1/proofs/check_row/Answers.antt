@@ -8,7 +8,7 @@ use lib.Seq.{length-take-le}
 use borrow.Author.Tests.{not-true, not-false}
 use Rattle.layout.specs.Res.{ok}
 use Rattle.layout.specs.Trailer.{data_of, region_of}
-use Rattle.layout.specs.Laws.Trailer.{trailer_of-tells}
+use Rattle.layout.proofs.Laws.Trailer.{trailer_of-tells}
 use Rattle.layout_v1.specs.RowRead.{read_row}
 use Rattle.basics.specs.Answers.{yes, no}
 use Rattle.trailer.specs.Plain.{known_is_lem, known-not}

@@ -1,7 +1,7 @@
 use Prim.Native.Nat.{◌-◌}
 use mathlib.Core.Path.{◌≡◌, subst}
 use native.Mathlib.Omega.{arith}
-use Rattle.layout_v1.specs.Laws.Check.{checking-start, checking-over}
+use Rattle.layout_v1.proofs.Laws.Check.{checking-start, checking-over}
 use Rattle.trailer.specs.Says.{trailer_from}
 use Rattle.block_check_v1.specs.declared.Walked.{Walked}
 use Rattle.block_check_v1.specs.Walk.{Leaves}

@@ -5,7 +5,7 @@ use mathlib.Core.Path.{◌≡◌, ap, sym, ◌∙◌}
 use lib.ListN.{length, take}
 use lib.Seq.{length-take-le}
 use Rattle.layout.specs.Key.{compare}
-use Rattle.layout_v1.specs.Laws.Joined.{joined-short, joined-less, joined-equal, joined_greater}
+use Rattle.layout_v1.proofs.Laws.Joined.{joined-short, joined-less, joined-equal, joined_greater}
 use Rattle.keys.specs.Says.{says_ordering}
 use Rattle.keys.specs.declared.Ordering.{Ordering}
 use Rattle.block_check_v1.proofs.compare_joined.Goals.{After-compare-order}

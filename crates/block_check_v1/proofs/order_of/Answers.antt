@@ -1,7 +1,8 @@
 -- `order_of` keeps its promise: bytes that both keys share tell nothing, and those that only one shares stand where the first key does.
 use mathlib.Core.Path.{ap, ◌∙◌}
 use native.Mathlib.Omega.{arith}
-use Rattle.layout_v1.specs.Laws.Joined.{flipped, compare-flip, shares-more}
+use Rattle.layout_v1.specs.Laws.Joined.{flipped}
+use Rattle.layout_v1.proofs.Laws.Joined.{compare-flip, shares-more}
 use Rattle.block_check_v1.proofs.order_of.Goals as goal
 
 pub returns-then-shared-last_shared : goal.returns-then-shared-last_shared

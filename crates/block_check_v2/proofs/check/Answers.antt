@@ -2,7 +2,7 @@
 use mathlib.Core.Path.{◌≡◌, sym, ◌∙◌}
 use Rattle.layout.specs.Res.{ok}
 use Rattle.layout.specs.Trailer.{trailer_of, all_offsets}
-use Rattle.layout.specs.Laws.Check.{check-trailer, check-offsets, check-rows}
+use Rattle.layout.proofs.Laws.Check.{check-trailer, check-offsets, check-rows}
 use Rattle.basics.specs.Answers.{yes, says_verdict}
 use Rattle.trailer.specs.Laws.{offsets-used}
 use Rattle.trailer.specs.Plain.{trailer-is, trailer-not}

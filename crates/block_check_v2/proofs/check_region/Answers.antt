@@ -8,9 +8,10 @@ use borrow.Author.Rules.{rules}
 use borrow.Author.Tests.{not-true, not-false}
 use Rattle.layout.specs.Res.{ok}
 use Rattle.layout.specs.Trailer.{data_of, region_of, row_in}
-use Rattle.layout.specs.Laws.Splice.{length-splice}
-use Rattle.layout.specs.Laws.Tells.{RowEnds, read_row-ends, row-shares}
-use Rattle.layout.specs.Laws.Trailer.{trailer_of-tells}
+use Rattle.layout.proofs.Laws.Splice.{length-splice}
+use Rattle.layout.specs.Laws.Tells.{RowEnds}
+use Rattle.layout.proofs.Laws.Tells.{read_row-ends, row-shares}
+use Rattle.layout.proofs.Laws.Trailer.{trailer_of-tells}
 use Rattle.buf_mut.proofs.Laws.{copied}
 use Rattle.trailer.specs.Plain.{known_is_lem, known-not}
 use Rattle.trailer.specs.Says.{trailer_from, region_from}

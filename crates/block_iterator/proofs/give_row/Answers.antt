@@ -3,7 +3,7 @@
 use mathlib.Core.Path.{ap, sym, ◌∙◌}
 use native.Mathlib.Omega.{arith}
 use lib.Seq.{length-take-le}
-use Rattle.layout.specs.Laws.Trailer.{trailer_of-tells}
+use Rattle.layout.proofs.Laws.Trailer.{trailer_of-tells}
 use Rattle.layout_v1.specs.Cursor.{step_to}
 use Rattle.basics.specs.Says.{says_order}
 use Rattle.block_iterator.specs.Says.{view_of}

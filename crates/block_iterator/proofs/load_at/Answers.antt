@@ -7,10 +7,10 @@ use lib.ListN.{length}
 use lib.Seq.{length-take-le}
 use Rattle.layout.specs.Res.{ok}
 use Rattle.layout.specs.Trailer.{data_of, region_of}
-use Rattle.layout.specs.Laws.Trailer.{trailer_of-tells}
+use Rattle.layout.proofs.Laws.Trailer.{trailer_of-tells}
 use Rattle.layout_v1.specs.RowRead.{read_row}
-use Rattle.layout_v1.specs.Laws.Cursor.{step-first}
-use Rattle.layout_v1.specs.Laws.RowReads.{read_row-ends}
+use Rattle.layout_v1.proofs.Laws.Cursor.{step-first}
+use Rattle.layout_v1.proofs.Laws.RowReads.{read_row-ends}
 use Rattle.basics.specs.Answers.{yes, no}
 use Rattle.row_decode_v2.specs.Says.{row_from, says_row, refusal_of_row, key_from, says_key, refusal_of_key}
 use Rattle.trailer.specs.Plain.{known-not, known_is_lem}

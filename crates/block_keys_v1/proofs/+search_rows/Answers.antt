@@ -1,7 +1,7 @@
 use mathlib.Core.Path.{ap, ◌∙◌}
 use native.Mathlib.Omega.{arith}
 use Rattle.layout.specs.Res.{ok}
-use Rattle.layout.specs.Laws.Search.{on-empty, on-no, on-up, on-down}
+use Rattle.layout.proofs.Laws.Search.{on-empty, on-no, on-up, on-down}
 use Rattle.basics.specs.Answers.{yes}
 use Rattle.block_keys_v1.specs.Parts.{says_kept}
 use Rattle.block_keys_v1.proofs.+search_rows.Goals as goal

@@ -8,9 +8,9 @@ use lib.ListN.{length}
 use lib.Seq.{length-take-le}
 use Rattle.layout.specs.Res.{ok}
 use Rattle.layout.specs.Trailer.{data_of, region_of}
-use Rattle.layout.specs.Laws.Key.{common-right}
+use Rattle.layout.proofs.Laws.Key.{common-right}
 use Rattle.layout_v1.specs.RowRead.{read_key}
-use Rattle.layout_v1.specs.Laws.Cursor.{read_key-lies}
+use Rattle.layout_v1.proofs.Laws.Cursor.{read_key-lies}
 use Rattle.basics.specs.Answers.{yes, no}
 use Rattle.row_decode_v2.specs.Says.{key_from, says_key, refusal_of_key}
 use Rattle.trailer.specs.Plain.{known-not, known_is_lem}

@@ -2,7 +2,7 @@ use mathlib.Core.Path.{refl, ap, ◌∙◌}
 use lib.ListN.{take}
 use Prim.Native.Nat.{ℕ, ◌-◌}
 use native.Mathlib.Omega.{arith}
-use Rattle.layout.specs.Laws.MatchWalk.{SpanTells, span-tells}
+use Rattle.layout.proofs.Laws.MatchWalk.{SpanTells, span-tells}
 use Rattle.row_span_v2.specs.Promise.{span_from}
 use Rattle.block_regions_v2.specs.Rows.{filling_none, filling_over, filling_read, filling_more}
 use borrow.Author.Rules.{rules}

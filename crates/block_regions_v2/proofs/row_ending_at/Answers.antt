@@ -1,7 +1,7 @@
 use mathlib.Core.Path.{◌≡◌, refl}
 use native.Mathlib.Omega.{arith}
 use Rattle.layout.specs.Res.{ok}
-use Rattle.layout.specs.Laws.Tells.{read_row-ends}
+use Rattle.layout.proofs.Laws.Tells.{read_row-ends}
 use Rattle.layout.specs.Trailer.{row_in}
 use Rattle.trailer.specs.Says.{region_from}
 use Rattle.basics.specs.Answers.{yes, no}

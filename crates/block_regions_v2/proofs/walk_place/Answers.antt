@@ -1,7 +1,7 @@
 use Prim.Native.Nat.{◌-◌}
 use native.Mathlib.Omega.{arith}
-use Rattle.layout.specs.Laws.MatchWalk.{SpanTells, span-tells}
-use Rattle.layout.specs.Laws.Number.{counting-start}
+use Rattle.layout.proofs.Laws.MatchWalk.{SpanTells, span-tells}
+use Rattle.layout.proofs.Laws.Number.{counting-start}
 use Rattle.row_span_v2.specs.Promise.{span_from}
 use Rattle.block_regions_v2.specs.Climb.{climbing_start, climbing_over, climbing_stop, climbing_more}
 use Rattle.block_regions_v2.specs.Count.{counting-span}

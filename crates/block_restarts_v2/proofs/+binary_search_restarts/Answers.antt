@@ -1,5 +1,5 @@
 use mathlib.Core.Path.{refl, sym, ◌∙◌}
-use Rattle.layout.specs.Laws.Search.{on-empty}
+use Rattle.layout.proofs.Laws.Search.{on-empty}
 use Rattle.basics.specs.Answers.{yes, no}
 use Rattle.block_restarts_v2.specs.Laws.{halved-no, halved-up, halved-down}
 use Rattle.block_restarts_v2.specs.Reading.{says_compared, refusal_of_compared}

@@ -8,8 +8,8 @@ use Rattle.layout.specs.Res.{ok}
 use Rattle.layout.specs.Plain.{plain_key_is}
 use Rattle.layout.specs.RowRead.{read_key}
 use Rattle.layout.specs.Trailer.{data_of, region_of}
-use Rattle.layout.specs.Laws.Plain.{plain-key-is}
-use Rattle.layout.specs.Laws.Restart.{read_key-ends}
+use Rattle.layout.proofs.Laws.Plain.{plain-key-is}
+use Rattle.layout.proofs.Laws.Restart.{read_key-ends}
 use Rattle.basics.specs.Answers.{yes, no}
 use Rattle.row_decode_v2.specs.Says.{key_from, says_key, refusal_of_key}
 use Rattle.trailer.specs.Plain.{known-not, known_is_lem}

@@ -3,7 +3,7 @@ use mathlib.Core.Path.{◌≡◌, refl, sym, ◌∙◌, ap}
 use mathlib.Core.Bool.{Bool, true, false, not}
 use native.Mathlib.Omega.{arith}
 use Rattle.layout.specs.Res.{ok}
-use Rattle.layout.specs.Laws.Seek.{running_start}
+use Rattle.layout.proofs.Laws.Seek.{running_start}
 use Rattle.basics.specs.Answers.{yes, no}
 use Rattle.keys.specs.Says.{says_ordering}
 use Rattle.trailer.specs.Says.{trailer_from}

@@ -1,7 +1,7 @@
 -- `last_equal` keeps its promise: the last of the run, with the count handed in.
 -- The loop's invariant: the run from `last` on ends where the run from `first` on ends.
 use Prim.Native.Nat.{◌-◌, ◌<◌}
-use Rattle.layout.specs.Laws.Seek.{Running}
+use Rattle.layout.proofs.Laws.Seek.{Running}
 use Rattle.trailer.specs.Says.{trailer_from}
 use Rattle.block_restarts_v2.proofs.last_equal.Given as goal
 

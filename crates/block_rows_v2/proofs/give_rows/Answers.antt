@@ -5,8 +5,8 @@ use native.Mathlib.Omega.{arith}
 use lib.ListN.{length}
 use borrow.Author.Rules.{rules}
 use Rattle.layout.specs.Limits.{max_key}
-use Rattle.layout.specs.Laws.Res.{bool_cases}
-use Rattle.layout.specs.Laws.Splice.{wrote-length}
+use Rattle.layout.proofs.Laws.Res.{bool_cases}
+use Rattle.layout.proofs.Laws.Splice.{wrote-length}
 use Rattle.place_v2.specs.Says.{view_in}
 use Rattle.row_words.specs.Words.{row_count}
 use Rattle.block_rows_v2.specs.declared.Went.{Went}

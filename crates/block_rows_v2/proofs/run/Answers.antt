@@ -7,8 +7,9 @@ use lib.ListN.{length, take}
 use borrow.Rule.Slice.PartMut.{put_mid, mid_len}
 use Rattle.layout.specs.Plain.{plain_read}
 use Rattle.layout.specs.RowRead.{may_share, key_of}
-use Rattle.layout.specs.Laws.Splice.{Wrote, wrote-length}
-use Rattle.layout.specs.Laws.Trailer.{trailer_of-tells}
+use Rattle.layout.specs.Laws.Splice.{Wrote}
+use Rattle.layout.proofs.Laws.Splice.{wrote-length}
+use Rattle.layout.proofs.Laws.Trailer.{trailer_of-tells}
 use Rattle.row_decode_v2.specs.Says.{row_from}
 use Rattle.row_plain_v2.specs.Promise.{plain_from}
 use Rattle.trailer.specs.Says.{region_from}

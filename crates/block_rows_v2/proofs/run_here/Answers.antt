@@ -1,7 +1,7 @@
 -- `run_here` keeps its promise: where the cursor goes on in a region, its plain rows are given; at the end of the last one no row is left; else nothing is done.
 use mathlib.Core.Path.{refl}
 use native.Mathlib.Omega.{arith}
-use Rattle.layout.specs.Laws.Res.{clash}
+use Rattle.layout.proofs.Laws.Res.{clash}
 use Rattle.trailer.specs.Says.{region_from}
 use Rattle.region_rows_v2.specs.Region.{bounds-inside, ends-here}
 use Rattle.block_rows_v2.proofs.run_here.Goals as goal

@@ -7,7 +7,7 @@ use lib.ListN.{length}
 use borrow.Rule.Slice.PartMut.{mid_of, put_mid}
 use Rattle.layout.specs.Res.{ok}
 use Rattle.layout.specs.Cursor.{done, step_is}
-use Rattle.layout.specs.Laws.Splice.{wrote-length}
+use Rattle.layout.proofs.Laws.Splice.{wrote-length}
 use Rattle.row_decode_v2.specs.Says.{row_from}
 use Rattle.place_v2.specs.Says.{view_in}
 use Rattle.place_v2.specs.declared.Place.{Place}

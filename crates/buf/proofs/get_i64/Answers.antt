@@ -8,7 +8,7 @@ use mir.Syntax.{w64}
 use mir.Facts.{to_z-of_z}
 use Rattle.layout.specs.Res.{ok}
 use Rattle.layout.specs.Fixed.{unbits}
-use Rattle.layout.specs.Laws.Res.{handed}
+use Rattle.layout.proofs.Laws.Res.{handed}
 use Rattle.layout.specs.Place.{num_at, fixed_at}
 use Rattle.layout.specs.Place.{signed, as_signed, signed_at}
 use Rattle.basics.specs.Answers.{yes, no}

@@ -1,7 +1,7 @@
 -- `get_u16` keeps its promise: two bytes, or 9 where the input ends.
 -- Its test is the definition's, said without a sum that may wrap.
 use native.Mathlib.Omega.{arith}
-use Rattle.layout.specs.Laws.Place.{fixed_at-none, fixed_at-two}
+use Rattle.layout.proofs.Laws.Place.{fixed_at-none, fixed_at-two}
 use borrow.Author.Rules.{rules}
 use Rattle.buf.proofs.get_u16.Goals as goal
 

@@ -1,7 +1,7 @@
 -- `get_u32` keeps its promise: four bytes, or 9 where the input ends.
 -- Its test is the definition's, said without a sum that may wrap.
 use native.Mathlib.Omega.{arith}
-use Rattle.layout.specs.Laws.Place.{fixed_at-none}
+use Rattle.layout.proofs.Laws.Place.{fixed_at-none}
 use Rattle.buf.proofs.Laws.{fixed_at-four}
 use borrow.Author.Rules.{rules}
 use Rattle.buf.proofs.get_u32.Goals as goal

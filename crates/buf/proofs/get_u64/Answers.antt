@@ -1,7 +1,7 @@
 -- `get_u64` keeps its promise: eight bytes, or 9 where the input ends.
 -- Its test is the definition's, said without a sum that may wrap; eight bytes are two fours.
 use native.Mathlib.Omega.{arith}
-use Rattle.layout.specs.Laws.Place.{fixed_at-none, fixed_at-eight}
+use Rattle.layout.proofs.Laws.Place.{fixed_at-none, fixed_at-eight}
 use Rattle.buf.proofs.get_u64.Goals as goal
 
 pub returns-then-rest_from-lt8 : goal.returns-then-rest_from-lt8

@@ -7,7 +7,7 @@ use native.Mathlib.Omega.{arith}
 use lib.ListN.{length}
 use borrow.Author.Tests.{leb-true, leb-false}
 use Rattle.basics.specs.declared.Refusal.TheVariants.{BufferTooSmall}
-use Rattle.layout.specs.Laws.Splice.{put-short, put-wrote}
+use Rattle.layout.proofs.Laws.Splice.{put-short, put-wrote}
 use Rattle.copies.specs.Promise.{CopiesAll}
 use Rattle.buf_mut.specs.declared.Put.TheVariants.{At, Refused}
 use Rattle.buf_mut.specs.Promise.{Puts}

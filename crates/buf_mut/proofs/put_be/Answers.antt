@@ -4,9 +4,9 @@ use native.Mathlib.Numerals.{add-one}
 use native.Mathlib.Omega.{arith}
 use lib.ListN.{length, length-set}
 use Rattle.layout.specs.Fixed.{big}
-use Rattle.layout.specs.Laws.Byte.{big-none, big-step}
-use Rattle.layout.specs.Laws.Fixed.{length-big}
-use Rattle.layout.specs.Laws.Splice.{sets-splice}
+use Rattle.layout.proofs.Laws.Byte.{big-none, big-step}
+use Rattle.layout.proofs.Laws.Fixed.{length-big}
+use Rattle.layout.proofs.Laws.Splice.{sets-splice}
 use Rattle.buf_mut.proofs.Laws.{puts-short, puts-wrote}
 use Rattle.buf_mut.proofs.put_be.Goals as goal
 

@@ -5,7 +5,7 @@ use lib.ListN.{length}
 use Rattle.layout_v1.specs.Builder.{grown}
 use Rattle.state_v1.specs.Says.{view_from}
 use Rattle.row_flags.specs.Says.{fields_from}
-use Rattle.layout_v1.specs.Laws.Builder.{Accepted}
+use Rattle.layout_v1.proofs.Laws.Builder.{Accepted}
 use Rattle.build_in_place_v1.proofs.Writes.{tells, tested-fits, grew}
 use Rattle.build_in_place_v1.proofs.grow.Goals.{Start}
 use Rattle.build_in_place_v1.proofs.grow.Goals as goal

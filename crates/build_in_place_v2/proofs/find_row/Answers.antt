@@ -6,7 +6,7 @@ use native.Mathlib.Omega.{arith}
 use lib.ListN.{length, replicate, length-drop, length-replicate}
 use Rattle.layout.specs.Res.{ok}
 use Rattle.layout.specs.Builder.{state_tests}
-use Rattle.layout.specs.Laws.Builder.{state-tells}
+use Rattle.layout.proofs.Laws.Builder.{state-tells}
 use Rattle.row_flags.specs.Says.{fields_from}
 use Rattle.row_size_v2.specs.Says.{says_sized}
 use Rattle.state_v2.specs.Says.{view_from}

@@ -7,7 +7,7 @@ use native.Mathlib.Omega.{arith}
 use lib.ListN.{length, replicate, length-drop, length-replicate}
 use Rattle.layout.specs.Res.{ok}
 use Rattle.layout.specs.Builder.{state_tests}
-use Rattle.layout.specs.Laws.Builder.{state-tells}
+use Rattle.layout.proofs.Laws.Builder.{state-tells}
 use Rattle.basics.specs.Answers.{no}
 use Rattle.row_flags.specs.Says.{fields_from}
 use Rattle.row_size_v2.specs.Says.{says_sized, sized_refusal}

@@ -1,7 +1,7 @@
 -- `write_plain` writes three lengths, the suffix, the value, the sequence number and flags of 0, one after another. Room for the row is room for each part where the one before it
 -- ended, so each writer wrote.
 use native.Mathlib.Omega.{arith}
-use Rattle.layout.specs.Laws.Splice.{wrote-length}
+use Rattle.layout.proofs.Laws.Splice.{wrote-length}
 use Rattle.build_in_place_v2.proofs.Plain.{first-room, second-room, third-room, cut-length, body-room, ends-room, flags-room, body-wrote, plain-wrote}
 use Rattle.build_in_place_v2.proofs.write_plain.Goals as goal
 

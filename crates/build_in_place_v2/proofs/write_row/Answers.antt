@@ -1,7 +1,7 @@
 -- `write_row` keeps its promise. A row whose flags are 0 is plain, and written as such. Any other: the free rest is lent to the encoder, which has room and refuses nothing; what it
 -- wrote at the start of the rest is a write at `used` of the whole.
 use native.Mathlib.Omega.{arith}
-use Rattle.layout.specs.Laws.Splice.{wrote_as}
+use Rattle.layout.proofs.Laws.Splice.{wrote_as}
 use Rattle.build_in_place_v2.proofs.Plain.{plain-bytes, plain_fits}
 use Rattle.build_in_place_v2.proofs.Writes.{row_wrote, row-refused}
 use mathlib.Core.Path.{sym}

@@ -1,5 +1,5 @@
 -- `is_over` keeps its promise: a cursor that goes on in a region, and stands at the end that it may reach there, has no row left.
-use Rattle.layout.specs.Laws.Res.{clash}
+use Rattle.layout.proofs.Laws.Res.{clash}
 use Rattle.layout.specs.Limits.{max_key}
 use Rattle.trailer.specs.Says.{region_from}
 use Rattle.region_rows_v2.specs.Region.{bounds-inside, ends-here}

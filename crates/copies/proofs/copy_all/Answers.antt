@@ -7,7 +7,7 @@ use native.Mathlib.Omega.{arith}
 use lib.ListN.{length}
 use borrow.Author.Tests.{lt-leb, le-leb}
 use Rattle.layout.specs.Place.{splice}
-use Rattle.layout.specs.Laws.Splice.{put-short, put-wrote}
+use Rattle.layout.proofs.Laws.Splice.{put-short, put-wrote}
 use Rattle.copies.specs.Promise.{CopiesAll}
 use Rattle.copies.proofs.copy_all.Goals as goal
 

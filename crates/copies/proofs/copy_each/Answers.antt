@@ -3,7 +3,7 @@ use mathlib.Core.Path.{◌≡◌, refl, ap, ◌∙◌}
 use native.Mathlib.Omega.{arith}
 use lib.ListN.{length-set, drop_of_length-le}
 use lib.Seq.{sets, drop-cons}
-use Rattle.layout.specs.Laws.Splice.{sets-splice}
+use Rattle.layout.proofs.Laws.Splice.{sets-splice}
 use Rattle.copies.proofs.copy_each.Goals as goal
 
 pub loop-i-init : goal.loop-i-init

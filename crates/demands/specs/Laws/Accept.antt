@@ -13,9 +13,10 @@ use Rattle.layout.specs.Trailer.{Trailer, trailer_of, data_of, Region, region_of
 use Rattle.layout.specs.Check.{Passed, passed_is, read_rank, passed_row, check_row, check_from, check}
 use Rattle.layout.specs.Cursor.{Keyed, keyed}
 use Rattle.demands.specs.Reads.{region_rows, regions_rows, Reads, all_rows, ranks_of, verdict, Accepts}
-use Rattle.layout.specs.Laws.Res.{bind-then, guard-then, ok-inj, ltb-cases, bool_cases}
-use Rattle.layout.specs.Laws.Trailer.{region_of-tells, trailer_of-tells, OffsetsTell, all_offsets-tell, region-good}
-use Rattle.layout.specs.Laws.Tells.{read_row-ends, row_in-ends}
+use Rattle.layout.proofs.Laws.Res.{bind-then, guard-then, ok-inj, ltb-cases, bool_cases}
+use Rattle.layout.specs.Laws.Trailer.{OffsetsTell}
+use Rattle.layout.proofs.Laws.Trailer.{region_of-tells, trailer_of-tells, all_offsets-tell, region-good}
+use Rattle.layout.proofs.Laws.Tells.{read_row-ends, row_in-ends}
 use Rattle.demands.specs.Laws.Reads.{region-at, region-cons, region-over, region-more, RegionsAre, next as next-region, regions-are, regions-cons, all_rows-none, all_rows-next}
 
 -- at a restart the key before is not used: neither its length nor its bytes

@@ -13,11 +13,12 @@ use Rattle.layout.specs.Cursor.{descending, Cursor, cursor_at, Keyed}
 use Rattle.layout.specs.Seek.{Found, tick, middle, search_in, search, restart_key, restart_below, search_restarts, last_equal, start_down, walk_up, walk_down, done_down}
 use Rattle.demands.specs.Reads.{region_rows, regions_rows, Reads, all_rows, keys_of}
 use Rattle.demands.specs.AnyOrder.{the_first_key, region_at, found_among, rows_onward, last_equal_among, start_among, through, left_down}
-use Rattle.layout.specs.Laws.Res.{bool_cases, ltb-cases, ok-inj}
-use Rattle.layout.specs.Laws.Key.{at-most-refl, le_below, below-le, same-is}
-use Rattle.layout.specs.Laws.Trailer.{region_of-tells, trailer_of-tells}
-use Rattle.layout.specs.Laws.Search.{Closed, middle-high}
-use Rattle.layout.specs.Laws.Seek.{below-is, start-past, start-earlier, start-run, falling-start, falling-found, falling-done}
+use Rattle.layout.proofs.Laws.Res.{bool_cases, ltb-cases, ok-inj}
+use Rattle.layout.proofs.Laws.Key.{at-most-refl, le_below, below-le, same-is}
+use Rattle.layout.proofs.Laws.Trailer.{region_of-tells, trailer_of-tells}
+use Rattle.layout.specs.Laws.Search.{Closed}
+use Rattle.layout.proofs.Laws.Search.{middle-high}
+use Rattle.layout.proofs.Laws.Seek.{below-is, start-past, start-earlier, start-run, falling-start, falling-found, falling-done}
 use Rattle.demands.specs.Laws.Reads.{ends_at, RegionsAre, next as next-region, regions-are, regions-none, regions-cons}
 use Rattle.demands.specs.Laws.Descend.{Front, none, front-more, After}
 use Rattle.demands.specs.Laws.Split.{Split, split_at}

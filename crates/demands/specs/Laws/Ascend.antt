@@ -10,12 +10,14 @@ use Rattle.layout.specs.Trailer.{Trailer, trailer_of, data_of, offset_at, Region
 use Rattle.layout.specs.Number.{wrong_after}
 use Rattle.layout.specs.Cursor.{ascending, Cursor, cursor_is, marked, opened_up, open_block, Keyed, keyed, found, done, step_is, past_row, step_up, next}
 use Rattle.demands.specs.Reads.{region_rows, regions_rows, Reads, all_rows, Names}
-use Rattle.layout.specs.Laws.Res.{ltb-cases}
-use Rattle.layout.specs.Laws.Trailer.{RegionTells, region_of-tells, trailer_of-tells, OffsetsTell, all_offsets-tell}
-use Rattle.layout.specs.Laws.Tells.{RowEnds, row_in-ends}
-use Rattle.layout.specs.Laws.Carry.{key_of-length}
-use Rattle.layout.specs.Laws.Number.{counting-right}
-use Rattle.layout.specs.Laws.Cursor.{open_along_lem, along-up, next_up, next-marked, up_done, up-found, up-short}
+use Rattle.layout.proofs.Laws.Res.{ltb-cases}
+use Rattle.layout.specs.Laws.Trailer.{RegionTells, OffsetsTell}
+use Rattle.layout.proofs.Laws.Trailer.{region_of-tells, trailer_of-tells, all_offsets-tell}
+use Rattle.layout.specs.Laws.Tells.{RowEnds}
+use Rattle.layout.proofs.Laws.Tells.{row_in-ends}
+use Rattle.layout.proofs.Laws.Carry.{key_of-length}
+use Rattle.layout.proofs.Laws.Number.{counting-right}
+use Rattle.layout.proofs.Laws.Cursor.{open_along_lem, along-up, next_up, next-marked, up_done, up-found, up-short}
 use Rattle.demands.specs.Laws.Reads.{region-at, region-over, RegionsAre, next as next-region, regions-are, regions-none, all_rows-none, all_rows-next}
 use Rattle.demands.specs.Laws.Counted.{Counted, counted_start, counted-on, names_up}
 

@@ -13,10 +13,11 @@ use Rattle.layout.specs.Number.{ended_by, number_at}
 use Rattle.layout.specs.Cursor.{Keyed, keyed, row_ending_at}
 use Rattle.layout.specs.Seek.{Stop, stop_is, walk_region}
 use Rattle.demands.specs.Reads.{row_number, Names}
-use Rattle.layout.specs.Laws.Res.{bind-then, guard-then, cond-ok, ok-inj}
-use Rattle.layout.specs.Laws.Carry.{key_of-length}
-use Rattle.layout.specs.Laws.Tells.{row_in-ends}
-use Rattle.layout.specs.Laws.Number.{Counting, counting-start, counting-on, counting-here, number_in}
+use Rattle.layout.proofs.Laws.Res.{bind-then, guard-then, cond-ok, ok-inj}
+use Rattle.layout.proofs.Laws.Carry.{key_of-length}
+use Rattle.layout.proofs.Laws.Tells.{row_in-ends}
+use Rattle.layout.specs.Laws.Number.{Counting}
+use Rattle.layout.proofs.Laws.Number.{counting-start, counting-on, counting-here, number_in}
 use Rattle.demands.specs.Laws.Numbered.{number-first, number-next}
 
 -- n rows of the region were read, up to `at`, the last of them with the key `before`

@@ -10,9 +10,10 @@ use Rattle.layout.specs.Trailer.{Trailer, trailer_of, data_of, offset_at, Region
 use Rattle.layout.specs.Number.{number_at}
 use Rattle.layout.specs.Cursor.{descending, Cursor, marked, opened_down, open_along, open_block, Keyed, keyed, found, done, step_is, row_ending_at, back_past, step_back_in, step_down, next}
 use Rattle.demands.specs.Reads.{region_rows, regions_rows, Reads, all_rows, Names}
-use Rattle.layout.specs.Laws.Trailer.{RegionTells, region_of-tells, trailer_of-tells}
-use Rattle.layout.specs.Laws.Tells.{row_in-ends}
-use Rattle.layout.specs.Laws.Cursor.{next_down, down-done, down-before_in, down_in, back_found, back-short, ended, open_along_lem, along-down}
+use Rattle.layout.specs.Laws.Trailer.{RegionTells}
+use Rattle.layout.proofs.Laws.Trailer.{region_of-tells, trailer_of-tells}
+use Rattle.layout.proofs.Laws.Tells.{row_in-ends}
+use Rattle.layout.proofs.Laws.Cursor.{next_down, down-done, down-before_in, down_in, back_found, back-short, ended, open_along_lem, along-down}
 use Rattle.demands.specs.Laws.Reads.{region-at, ends_at, ends_at-snoc, RegionsAre, next as next-region, regions-are, regions-none, all_rows-none}
 use Rattle.demands.specs.Laws.Counted.{none_passed, names_back}
 

@@ -6,7 +6,7 @@ use Rattle.std.proofs.Math.Logic.{⊎_elim}
 use Rattle.std.proofs.Common.{le_of_suc-le-suc, not-suc-le-zero}
 use borrow.Author.Tests.{not-true, not-false}
 use Rattle.layout.specs.Key.{Key, below, leading, is_below, not_above, first_at_or_above, first_above}
-use Rattle.layout.specs.Laws.Res.{bool_cases}
+use Rattle.layout.proofs.Laws.Res.{bool_cases}
 
 module _ (p : Key → Bool) where
   leading-before : (xs : List Key) (i : ℕ) → i < leading p xs → p (get_or xs i []) ≡ true

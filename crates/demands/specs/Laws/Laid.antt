@@ -15,11 +15,14 @@ use Rattle.layout.specs.Trailer.{Trailer, trailer_is, data_of, offset_at, Region
 use Rattle.layout.specs.Cursor.{Keyed, keyed}
 use Rattle.demands.specs.Reads.{region_rows, regions_rows, Reads, all_rows, content_of}
 use Rattle.demands.specs.AnyOrder.{put_first, cut_from, regions_from}
-use Rattle.layout.specs.Laws.Res.{ltb-cases, clash}
-use Rattle.layout.specs.Laws.Place.{past, within}
-use Rattle.layout.specs.Laws.Row.{places_of, read_row-law, places_of-fields, places_of-key}
-use Rattle.layout.specs.Laws.Block.{RowOk, AllOk, AllFit, shares-is, shares-ok, laid_row-least, first-restart, offsets-few}
-use Rattle.layout.specs.Laws.Trailer.{region_of-tells, OffsetsTell, TrailerLaid, trailer-laid, offsets-good, region-good}
+use Rattle.layout.proofs.Laws.Res.{ltb-cases, clash}
+use Rattle.layout.proofs.Laws.Place.{past, within}
+use Rattle.layout.specs.Laws.Row.{places_of}
+use Rattle.layout.proofs.Laws.Row.{read_row-law, places_of-fields, places_of-key}
+use Rattle.layout.specs.Laws.Block.{RowOk, AllOk, AllFit}
+use Rattle.layout.proofs.Laws.Block.{shares-is, shares-ok, laid_row-least, first-restart, offsets-few}
+use Rattle.layout.specs.Laws.Trailer.{OffsetsTell, TrailerLaid}
+use Rattle.layout.proofs.Laws.Trailer.{region_of-tells, trailer-laid, offsets-good, region-good}
 use Rattle.demands.specs.Laws.Reads.{region-over, regions-cons, all_rows-none, all_rows-next}
 use Rattle.demands.specs.Laws.Accept.{Stands, Next, stay, enter, end, past_row_lem, first-here, no_more, one_more}
 

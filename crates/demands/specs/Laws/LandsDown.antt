@@ -16,12 +16,14 @@ use Rattle.layout.specs.Cursor.{descending, Cursor, cursor_at, Keyed, keyed}
 use Rattle.layout.specs.Seek.{Found, restart_key, restart_below, last_equal, start_down, last_at_or_below, done_down, walk_down, sought_is, seek}
 use Rattle.demands.specs.Reads.{region_rows, regions_rows, Reads, all_rows, keys_of}
 use Rattle.demands.specs.AnyOrder.{with_some, through}
-use Rattle.layout.specs.Laws.Res.{bool_cases, ltb-cases, ok-inj, clash}
-use Rattle.layout.specs.Laws.Key.{AtMost, at-most-refl, below_false, le_below, below-le, same-is}
-use Rattle.layout.specs.Laws.Trailer.{RegionTells, region_of-tells, trailer_of-tells}
-use Rattle.layout.specs.Laws.Tells.{row_in-ends}
+use Rattle.layout.proofs.Laws.Res.{bool_cases, ltb-cases, ok-inj, clash}
+use Rattle.layout.specs.Laws.Key.{AtMost}
+use Rattle.layout.proofs.Laws.Key.{at-most-refl, below_false, le_below, below-le, same-is}
+use Rattle.layout.specs.Laws.Trailer.{RegionTells}
+use Rattle.layout.proofs.Laws.Trailer.{region_of-tells, trailer_of-tells}
+use Rattle.layout.proofs.Laws.Tells.{row_in-ends}
 use Rattle.layout.specs.Laws.Search.{Closed}
-use Rattle.layout.specs.Laws.Seek.{below-is, start-past, start-earlier, start-run, down-from, seek_is, falling-start, falling-found, falling-done}
+use Rattle.layout.proofs.Laws.Seek.{below-is, start-past, start-earlier, start-run, down-from, seek_is, falling-start, falling-found, falling-done}
 use Rattle.demands.specs.Laws.Reads.{region-at, region-over, ends_at, RegionsAre, next as next-region, regions-are, regions-none, all_rows-none, all_rows-next}
 use Rattle.demands.specs.Laws.Descend.{Front, none, then, After}
 use Rattle.demands.specs.Laws.Split.{Split, split_at, searched}

@@ -12,12 +12,12 @@ use Rattle.layout.specs.Trailer.{Trailer, trailer_of, data_of, Region, region_of
 use Rattle.layout.specs.Cursor.{ascending, Cursor, cursor_at, Keyed, keyed}
 use Rattle.layout.specs.Seek.{restart_below, Stop, stop_is, walk_region, done_up, walk_up, sought_is, seek}
 use Rattle.demands.specs.Reads.{region_rows, regions_rows, Reads, all_rows, keys_of}
-use Rattle.layout.specs.Laws.Res.{ltb-cases, ok-inj}
-use Rattle.layout.specs.Laws.Trailer.{region_of-tells}
-use Rattle.layout.specs.Laws.Tells.{row_in-ends}
-use Rattle.layout.specs.Laws.Carry.{key_of-length}
+use Rattle.layout.proofs.Laws.Res.{ltb-cases, ok-inj}
+use Rattle.layout.proofs.Laws.Trailer.{region_of-tells}
+use Rattle.layout.proofs.Laws.Tells.{row_in-ends}
+use Rattle.layout.proofs.Laws.Carry.{key_of-length}
 use Rattle.demands.specs.Laws.Split.{split_at, searched}
-use Rattle.layout.specs.Laws.Seek.{below-is, up_from, seek_is}
+use Rattle.layout.proofs.Laws.Seek.{below-is, up_from, seek_is}
 use Rattle.demands.specs.Laws.Reads.{region-at, region-over, RegionsAre, next as next-region, regions-are, regions-none, regions-cons, all_rows-none, all_rows-next}
 use Rattle.demands.specs.Laws.Counted.{counted_stop}
 use Rattle.demands.specs.Laws.Ascend.{Before}

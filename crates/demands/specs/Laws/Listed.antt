@@ -14,11 +14,11 @@ use Rattle.layout.specs.Cursor.{Keyed, keyed}
 use Rattle.demands.specs.Reads.{region_rows, row_number, Reads, Names}
 use Rattle.demands.specs.AnyOrder.{region_at}
 use Rattle.demands.specs.Pairs.{ended_of}
-use Rattle.layout.specs.Laws.Res.{bind-then, ltb-cases, ok-inj}
-use Rattle.layout.specs.Laws.Carry.{key_of-length}
-use Rattle.layout.specs.Laws.Number.{number_in}
-use Rattle.layout.specs.Laws.Tells.{row_in-ends}
-use Rattle.layout.specs.Laws.Trailer.{region_of-tells}
+use Rattle.layout.proofs.Laws.Res.{bind-then, ltb-cases, ok-inj}
+use Rattle.layout.proofs.Laws.Carry.{key_of-length}
+use Rattle.layout.proofs.Laws.Number.{number_in}
+use Rattle.layout.proofs.Laws.Tells.{row_in-ends}
+use Rattle.layout.proofs.Laws.Trailer.{region_of-tells}
 use Rattle.demands.specs.Laws.Reads.{region-at, region-first}
 use Rattle.demands.specs.Laws.Numbered.{number-first, number-next}
 use Rattle.demands.specs.Laws.AnyOrder.{many, cut_at}

@@ -11,10 +11,10 @@ use Rattle.layout.specs.Limits.{max_value}
 use Rattle.layout.specs.Varint.{read_varint}
 use Rattle.layout.specs.Place.{NumAt, varint_at, fixed_at, SignedAt, signed_at}
 use Rattle.layout.specs.RowRead.{Lengths, seq_at, lengths_at, may_share, head_tests, head_at, Flags, Body, body_tests, body_at, TimeAt, time_at, Times, times_at, RowRead, row_at, read_row}
-use Rattle.layout.specs.Laws.Res.{bind-then, guard-then, ok-inj}
-use Rattle.layout.specs.Laws.Varint.{read_varint-local}
-use Rattle.layout.specs.Laws.Place.{varint_at-ends, fixed_at-ends}
-use Rattle.layout.specs.Laws.Tells.{body_at-tells, time_at-ends, times_at-ends}
+use Rattle.layout.proofs.Laws.Res.{bind-then, guard-then, ok-inj}
+use Rattle.layout.proofs.Laws.Varint.{read_varint-local}
+use Rattle.layout.proofs.Laws.Place.{varint_at-ends, fixed_at-ends}
+use Rattle.layout.proofs.Laws.Tells.{body_at-tells, time_at-ends, times_at-ends}
 
 module _ (p s s' : List ℕ) where
   varint_at-local : (at : ℕ) (r : NumAt) → varint_at (p ++ s) at ≡ ok r → r.next ≤ length p → varint_at (p ++ s') at ≡ ok r

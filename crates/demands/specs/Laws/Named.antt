@@ -14,10 +14,11 @@ use Rattle.layout.specs.Cursor.{Cursor, Keyed, keyed}
 use Rattle.demands.specs.Reads.{region_rows, row_number, regions_rows, Reads, all_rows, Names}
 use Rattle.demands.specs.Runs.{Walks, stands, gives, backwards}
 use Rattle.demands.specs.Pairs.{Pair, pair_is, pairs_of, pairs_in, pairs_from, NamesEach, none, also}
-use Rattle.layout.specs.Laws.Res.{bind-then, ok-inj, ltb-cases}
-use Rattle.layout.specs.Laws.Number.{number_in}
-use Rattle.layout.specs.Laws.Tells.{row_in-ends}
-use Rattle.layout.specs.Laws.Trailer.{region_of-tells, OffsetsTell, all_offsets-tell}
+use Rattle.layout.proofs.Laws.Res.{bind-then, ok-inj, ltb-cases}
+use Rattle.layout.proofs.Laws.Number.{number_in}
+use Rattle.layout.proofs.Laws.Tells.{row_in-ends}
+use Rattle.layout.specs.Laws.Trailer.{OffsetsTell}
+use Rattle.layout.proofs.Laws.Trailer.{region_of-tells, all_offsets-tell}
 use Rattle.demands.specs.Laws.Reads.{RegionsAre, next as next-region, regions-are, regions-none, all_rows-none, all_rows-next, region-first}
 use Rattle.demands.specs.Laws.Counted.{Counted, counted_start, counted-on, counted-here, names_up}
 

@@ -11,7 +11,7 @@ use Rattle.layout.specs.RowRead.{RowRead, key_of}
 use Rattle.layout.specs.Trailer.{Region, row_in}
 use Rattle.layout.specs.Cursor.{Keyed, keyed}
 use Rattle.demands.specs.Reads.{region_rows, row_number}
-use Rattle.layout.specs.Laws.Res.{ok-inj}
+use Rattle.layout.proofs.Laws.Res.{ok-inj}
 use Rattle.demands.specs.Laws.Reads.{RegionIs, over, more, region-is}
 
 module _ (d : List ℕ) (g : Region) where

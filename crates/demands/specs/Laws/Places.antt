@@ -11,9 +11,10 @@ use Rattle.layout.specs.Cursor.{Keyed, keyed}
 use Rattle.demands.specs.Reads.{region_rows, regions_rows, Reads, all_rows}
 use Rattle.demands.specs.Runs.{backwards}
 use Rattle.demands.specs.Walked.{StartsAt, NoneTwice}
-use Rattle.layout.specs.Laws.Res.{ltb-cases}
-use Rattle.layout.specs.Laws.Trailer.{RegionTells, region_of-tells}
-use Rattle.layout.specs.Laws.Tells.{row_in-ends}
+use Rattle.layout.proofs.Laws.Res.{ltb-cases}
+use Rattle.layout.specs.Laws.Trailer.{RegionTells}
+use Rattle.layout.proofs.Laws.Trailer.{region_of-tells}
+use Rattle.layout.proofs.Laws.Tells.{row_in-ends}
 use Rattle.demands.specs.Laws.Reads.{region-at, ends_at, RegionsAre, next as next-region, regions-are, regions-none, all_rows-none, all_rows-next}
 use Rattle.demands.specs.Laws.Descend.{reaches_end}
 

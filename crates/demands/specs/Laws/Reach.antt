@@ -15,12 +15,14 @@ use Rattle.layout.specs.RowRead.{RowRead, read_row, key_of}
 use Rattle.layout.specs.Trailer.{Trailer, trailer_of, data_of, offset_at, Region, region_of, row_in}
 use Rattle.layout.specs.Cursor.{ascending, Cursor, cursor_at}
 use Rattle.layout.specs.Seek.{Found, restart_key, restart_below, search_restarts, stop_is, walk_region, done_up, walk_up, seek_up, last_equal, start_down, last_at_or_below, walk_down, seek_down}
-use Rattle.layout.specs.Laws.Res.{bind-then, cond-ok, ltb-cases, ok-inj}
-use Rattle.layout.specs.Laws.Key.{below-le, le_below, at-most-refl, same-is}
-use Rattle.layout.specs.Laws.Trailer.{region_of-tells, trailer_of-tells}
-use Rattle.layout.specs.Laws.Tells.{key_part, read_key-of-read_row, row_in-ends}
-use Rattle.layout.specs.Laws.Search.{Closed, search-closed}
-use Rattle.layout.specs.Laws.Seek.{restart-is}
+use Rattle.layout.proofs.Laws.Res.{bind-then, cond-ok, ltb-cases, ok-inj}
+use Rattle.layout.proofs.Laws.Key.{below-le, le_below, at-most-refl, same-is}
+use Rattle.layout.proofs.Laws.Trailer.{region_of-tells, trailer_of-tells}
+use Rattle.layout.specs.Laws.Tells.{key_part}
+use Rattle.layout.proofs.Laws.Tells.{read_key-of-read_row, row_in-ends}
+use Rattle.layout.specs.Laws.Search.{Closed}
+use Rattle.layout.proofs.Laws.Search.{search-closed}
+use Rattle.layout.proofs.Laws.Seek.{restart-is}
 use Rattle.demands.specs.Walked.{StopsUp, in_before, at-start, nowhere, StartsDown, earlier, in_run}
 use Rattle.demands.specs.Laws.LandsUp.{walk_here, up-here}
 

@@ -9,9 +9,9 @@ use Rattle.layout.specs.RowRead.{RowRead, read_row, key_of}
 use Rattle.layout.specs.Trailer.{Trailer, data_of, Region, region_of, row_in}
 use Rattle.layout.specs.Cursor.{Keyed, keyed}
 use Rattle.demands.specs.Reads.{region_rows, regions_rows, all_rows, AllOf}
-use Rattle.layout.specs.Laws.Res.{bind-then, ok-inj, ltb-cases}
-use Rattle.layout.specs.Laws.Trailer.{region_of-tells}
-use Rattle.layout.specs.Laws.Tells.{row_in-ends}
+use Rattle.layout.proofs.Laws.Res.{bind-then, ok-inj, ltb-cases}
+use Rattle.layout.proofs.Laws.Trailer.{region_of-tells}
+use Rattle.layout.proofs.Laws.Tells.{row_in-ends}
 
 -- ---- a region
 

@@ -12,8 +12,9 @@ use Rattle.layout.specs.RowRead.{lengths_at, head_tests, head_at, flags_at, body
 use Rattle.layout.specs.Trailer.{Trailer, trailer_of, Region, region_of}
 use Rattle.layout.specs.Cursor.{Direction, ascending, descending}
 use Rattle.layout.specs.Seek.{search_in, search as search_span, restart_key, restart_below, search_restarts, walk_region, walk_up, seek_up, last_equal, start_down, last_at_or_below, walk_down, seek_down, Sought, seek_along, seek}
-use Rattle.layout.specs.Laws.Varint.{VarintAnswer, reads, ends, spells_wrong, read_varint-answers}
-use Rattle.layout.specs.Laws.Res.{ltb-cases, clash}
+use Rattle.layout.specs.Laws.Varint.{VarintAnswer, reads, ends, spells_wrong}
+use Rattle.layout.proofs.Laws.Varint.{read_varint-answers}
+use Rattle.layout.proofs.Laws.Res.{ltb-cases, clash}
 
 -- 1 to 3, or 9 to 16
 abbrev pub listed : ℕ → Bool

@@ -9,9 +9,10 @@ use Rattle.std.proofs.Math.Logic.{⊎_elim}
 use Rattle.layout.specs.Key.{Key, below, Rank, rank_is, no_rank, may_follow, Rising, leading, is_below, not_above}
 use Rattle.layout.specs.Cursor.{Keyed}
 use Rattle.demands.specs.Reads.{ranks_of, AllOf, keys_of}
-use Rattle.layout.specs.Laws.Res.{bool_cases, clash}
-use Rattle.layout.specs.Laws.Key.{AtMost, at-most-refl, at-most-trans, below_false, le_below, below-le, below-trans, below-most}
-use Rattle.layout.specs.Laws.Order.{may-tells, greater_may, newer-may}
+use Rattle.layout.proofs.Laws.Res.{bool_cases, clash}
+use Rattle.layout.specs.Laws.Key.{AtMost}
+use Rattle.layout.proofs.Laws.Key.{at-most-refl, at-most-trans, below_false, le_below, below-le, below-trans, below-most}
+use Rattle.layout.proofs.Laws.Order.{may-tells, greater_may, newer-may}
 
 -- ---- rows in order
 

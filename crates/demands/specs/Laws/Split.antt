@@ -11,10 +11,12 @@ use Rattle.layout.specs.Trailer.{Trailer, data_of, Region, region_of}
 use Rattle.layout.specs.Cursor.{Keyed, keyed}
 use Rattle.layout.specs.Seek.{Found, restart_key, restart_below, search_restarts, search}
 use Rattle.demands.specs.Reads.{region_rows, regions_rows, Reads, all_rows}
-use Rattle.layout.specs.Laws.Trailer.{region_of-tells}
-use Rattle.layout.specs.Laws.Tells.{key_part, read_key-of-read_row}
-use Rattle.layout.specs.Laws.Search.{Closed, search-closed, search-answers}
-use Rattle.layout.specs.Laws.Seek.{restart-is, below-is}
+use Rattle.layout.proofs.Laws.Trailer.{region_of-tells}
+use Rattle.layout.specs.Laws.Tells.{key_part}
+use Rattle.layout.proofs.Laws.Tells.{read_key-of-read_row}
+use Rattle.layout.specs.Laws.Search.{Closed}
+use Rattle.layout.proofs.Laws.Search.{search-closed, search-answers}
+use Rattle.layout.proofs.Laws.Seek.{restart-is, below-is}
 use Rattle.demands.specs.Laws.Reads.{region-at, RegionsAre, next as next-region, regions-are, all_rows-next}
 use Rattle.demands.specs.Laws.Descend.{Front, none, then, all_rows-end, region-some}
 

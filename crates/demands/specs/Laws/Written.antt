@@ -9,8 +9,8 @@ use Rattle.layout.specs.Res.{ok}
 use Rattle.layout.specs.Varint.{varint, read_varint}
 use Rattle.layout.specs.Place.{NumAt, varint_at}
 use Rattle.layout.specs.RowRead.{Lengths, lengths_is, lengths_at}
-use Rattle.layout.specs.Laws.Res.{bind-then, ok-inj}
-use Rattle.layout.specs.Laws.Varint.{varint-read-is-written}
+use Rattle.layout.proofs.Laws.Res.{bind-then, ok-inj}
+use Rattle.layout.proofs.Laws.Varint.{varint-read-is-written}
 
 module _ (d : List ℕ) (bytes : (i : ℕ) → get_or d i 0 < 256) where
   varint_at-written : (at : ℕ) (r : NumAt) → varint_at d at ≡ ok r → drop at d ≡ varint r.val ++ drop r.next d

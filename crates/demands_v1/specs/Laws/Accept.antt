@@ -14,8 +14,8 @@ use Rattle.layout.specs.Cursor.{Keyed, keyed}
 use Rattle.layout_v1.specs.Check.{before, row_numbered, Passed, passed_is, check_row, check_from, check}
 use Rattle.demands.specs.Reads.{ranks_of, verdict}
 use Rattle.demands_v1.specs.Reads.{RowsFrom, first_key_of, Reads, Accepts}
-use Rattle.layout.specs.Laws.Res.{bind-then, guard-then, ok-inj}
-use Rattle.layout.specs.Laws.Trailer.{trailer_of-tells}
+use Rattle.layout.proofs.Laws.Res.{bind-then, guard-then, ok-inj}
+use Rattle.layout.proofs.Laws.Trailer.{trailer_of-tells}
 use Rattle.demands.specs.Laws.Accept.{verdict-none, verdict-next, after-guard, verdict-rising}
 
 abbrev rank_of : Keyed → Rank

@@ -13,7 +13,8 @@ use Rattle.layout_v1.specs.Check.{before}
 use Rattle.demands.specs.Reads.{content_of}
 use Rattle.demands_v1.specs.Reads.{Names, RowsFrom, Reads}
 use Rattle.layout.specs.Laws.Block.{RowOk, AllOk, AllFit}
-use Rattle.layout_v1.specs.Laws.Block.{StandsAt, placed_row, row_laid, key-laid, fields_laid, RestAt, rest-after, rest-stands, BlockLaid, block-laid}
+use Rattle.layout_v1.specs.Laws.Block.{StandsAt, placed_row, RestAt, BlockLaid}
+use Rattle.layout_v1.proofs.Laws.Block.{row_laid, key-laid, fields_laid, rest-after, rest-stands, block-laid}
 
 pub record LaidBlock (b : List ℕ) (rows : List Row) : Type 0 where
   pub t : Trailer

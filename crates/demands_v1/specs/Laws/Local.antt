@@ -11,10 +11,10 @@ use Rattle.layout.specs.Row.{Kind, value, tombstone, merge}
 use Rattle.layout.specs.RowRead.{head_tests, times_at, RowRead}
 use Rattle.layout_v1.specs.RowRead.{Head, head_at, seq_at, Body, body_at, HeldAt, Span, value_at, held_at, row_at}
 use Rattle.demands.specs.Laws.Local.{fixed_at-local, times_at-local}
-use Rattle.layout.specs.Laws.Res.{bind-then, guard-then, ok-inj}
-use Rattle.layout.specs.Laws.Place.{fixed_at-ends}
-use Rattle.layout.specs.Laws.Tells.{times_at-ends}
-use Rattle.layout_v1.specs.Laws.RowReads.{body_at-tells, value_at-tells, held_at-ends}
+use Rattle.layout.proofs.Laws.Res.{bind-then, guard-then, ok-inj}
+use Rattle.layout.proofs.Laws.Place.{fixed_at-ends}
+use Rattle.layout.proofs.Laws.Tells.{times_at-ends}
+use Rattle.layout_v1.proofs.Laws.RowReads.{body_at-tells, value_at-tells, held_at-ends}
 
 module _ (p s s' : List ℕ) where
   head_at-local : (at most : ℕ) (h : Head) → head_at (p ++ s) at most ≡ ok h → h.suffix_at ≤ length p → head_at (p ++ s') at most ≡ ok h

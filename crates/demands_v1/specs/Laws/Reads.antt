@@ -11,9 +11,9 @@ use Rattle.layout_v1.specs.Check.{before}
 use Rattle.layout_v1.specs.Cursor.{key_numbered, the_first_key}
 use Rattle.demands.specs.Reads.{AllOf, keys_of}
 use Rattle.demands_v1.specs.Reads.{Names, RowsFrom, first_key_of, Reads}
-use Rattle.layout.specs.Laws.Res.{ok-inj}
-use Rattle.layout.specs.Laws.Trailer.{trailer_of-tells}
-use Rattle.layout_v1.specs.Laws.Rows.{key-numbered, numbered-length}
+use Rattle.layout.proofs.Laws.Res.{ok-inj}
+use Rattle.layout.proofs.Laws.Trailer.{trailer_of-tells}
+use Rattle.layout_v1.proofs.Laws.Rows.{key-numbered, numbered-length}
 
 -- a row's key is read alone
 pub names_key : (b : List ℕ) (t : Trailer) (first : Key) (i : ℕ) (k : Keyed) → Names b t first i k → key_numbered b t first i ≡ ok k.key

@@ -11,9 +11,10 @@ use Rattle.layout.specs.Seek.{Found, search}
 use Rattle.layout_v1.specs.Seek.{key_passes, search_rows}
 use Rattle.demands.specs.Reads.{keys_of}
 use Rattle.demands_v1.specs.Reads.{RowsFrom, first_key_of, Reads}
-use Rattle.layout.specs.Laws.Res.{ok-inj, ltb-cases, clash}
-use Rattle.layout.specs.Laws.Search.{Closed, search-answers, search-closed}
-use Rattle.layout_v1.specs.Laws.Cursor.{passes-is}
+use Rattle.layout.proofs.Laws.Res.{ok-inj, ltb-cases, clash}
+use Rattle.layout.specs.Laws.Search.{Closed}
+use Rattle.layout.proofs.Laws.Search.{search-answers, search-closed}
+use Rattle.layout_v1.proofs.Laws.Cursor.{passes-is}
 use Rattle.demands_v1.specs.Laws.Reads.{rows-key}
 
 module _ (b : List ℕ) (t : Trailer) (first : Key) where

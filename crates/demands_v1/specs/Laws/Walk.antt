@@ -17,9 +17,9 @@ use Rattle.demands.specs.Runs.{RoomFor, backwards, steps_by}
 use Rattle.demands.specs.RunsProof.{backwards-end, room-first, room-last}
 use Rattle.demands_v1.specs.Reads.{Names, RowsFrom}
 use Rattle.demands_v1.specs.Runs.{Walks, stands, gives, WalksAll, GivesFirst}
-use Rattle.layout.specs.Laws.Res.{bind-then, guard-then, cond-ok, ok-inj, ltb-cases}
+use Rattle.layout.proofs.Laws.Res.{bind-then, guard-then, cond-ok, ok-inj, ltb-cases}
 use Rattle.demands.specs.Laws.Descend.{FromEnd, empty, ending, from_end}
-use Rattle.layout_v1.specs.Laws.Cursor.{next-done, next-on}
+use Rattle.layout_v1.proofs.Laws.Cursor.{next-done, next-on}
 use Rattle.demands_v1.specs.Laws.Reads.{rows_last}
 
 module _ (b : List ℕ) (t : Trailer) (first : Key) (good : trailer_of b ≡ ok t) (read : the_first_key b t ≡ ok first) (room : ℕ) where

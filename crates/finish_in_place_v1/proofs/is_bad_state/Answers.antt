@@ -1,7 +1,7 @@
 -- `is_bad_state` keeps its promise: each test that fails breaks one fact of a good state (`state_bad`), whatever the order; where none fails, all of them hold.
 -- The rows are few before they are multiplied, so no product wraps.
 use native.Mathlib.Omega.{arith}
-use Rattle.layout_v1.specs.Laws.Builder.{state_bad}
+use Rattle.layout_v1.proofs.Laws.Builder.{state_bad}
 use Rattle.finish_in_place_v1.proofs.Ends.{state-none, state-some}
 use Rattle.finish_in_place_v1.proofs.is_bad_state.Goals as goal
 

@@ -2,7 +2,7 @@
 -- Restarts that are counted right hold all rows, so these are few, and twelve times their number does not wrap.
 use native.Mathlib.Omega.{arith}
 use Rattle.layout.specs.Builder.{restarts_of}
-use Rattle.layout.specs.Laws.Builder.{state_bad}
+use Rattle.layout.proofs.Laws.Builder.{state_bad}
 use Rattle.finish_in_place_v2.proofs.Counts.{product_small, rows-held, miscounted_not, counted_is}
 use Rattle.finish_in_place_v2.proofs.Ends.{stray_none, stray_some, state-passed}
 use Rattle.finish_in_place_v2.proofs.is_bad_state.Goals as goal

@@ -2,7 +2,7 @@
 use Rattle.std.specs.Prelude.{ℕ, ◌+◌, ◌≤◌, ◌<◌, ◌≡◌, refl, Bool, true, false, cond, List, ◌⊎◌, ltb, leb, eqb, length}
 use Rattle.std.proofs.Common.{ap, sym, ◌∙◌, ⊎_elim, arith}
 use borrow.Author.Tests.{lt-ltb, le-ltb, le-leb, lt-leb, eq-eqb, ne_eqb, ltb-false, eqb-false}
-use Rattle.layout.specs.Laws.Res.{eqb-cases}
+use Rattle.layout.proofs.Laws.Res.{eqb-cases}
 use Rattle.journal.specs.declared.Refusal.TheVariants.{UnknownKind}
 use Rattle.journal.specs.declared.Record.{Record}
 use Rattle.journal.specs.declared.Record.TheVariants.{Debit, TopUp, Close}

@@ -6,8 +6,8 @@ use native.Mathlib.Omega.{arith}
 use lib.ListN.{length, set, length-set}
 use Rattle.layout.specs.Fixed.{big}
 use Rattle.layout.specs.Place.{splice}
-use Rattle.layout.specs.Laws.Fixed.{length-big}
-use Rattle.layout.specs.Laws.Splice.{length-splice}
+use Rattle.layout.proofs.Laws.Fixed.{length-big}
+use Rattle.layout.proofs.Laws.Splice.{length-splice}
 use Rattle.buf_mut.specs.declared.Put.{Put}
 use Rattle.buf_mut.specs.Promise.{Puts}
 use Rattle.buf_mut.proofs.Laws.{copied}

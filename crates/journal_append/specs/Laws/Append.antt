@@ -2,8 +2,8 @@
 use Rattle.std.specs.Prelude.{ℕ, suc, ◌+◌, ◌≤◌, ◌<◌, ◌≡◌, refl, Bool, true, false, cond, List, [], ◌∷◌, ltb, length, take, set}
 use Rattle.std.proofs.Common.{ap, sym, ◌∙◌, arith, length-append, lt-ltb, le-ltb, ltb-true, ltb-false}
 use Rattle.layout.specs.Place.{splice}
-use Rattle.layout.specs.Laws.Fixed.{length-big}
-use Rattle.layout.specs.Laws.Splice.{then-write, set-splice}
+use Rattle.layout.proofs.Laws.Fixed.{length-big}
+use Rattle.layout.proofs.Laws.Splice.{then-write, set-splice}
 use Rattle.journal.specs.declared.Refusal.{Refusal}
 use Rattle.journal.specs.declared.Refusal.TheVariants.{UsedPastBuffer, EndsInside, NoRoom}
 use Rattle.journal.specs.declared.Record.{Record}

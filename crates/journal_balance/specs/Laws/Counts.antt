@@ -1,7 +1,7 @@
 -- What the sums take in of one record, case by case: nothing after the card's close, of another card, of a close, of a double; else its amount, to the sum of its kind.
 use Rattle.std.specs.Prelude.{ℕ, ◌+◌, ◌≡◌, refl, Bool, true, false, cond, not, ◌&&◌, ◌||◌, List, ◌∷◌, eqb}
 use Rattle.std.proofs.Common.{ap, sym, ◌∙◌, ⊎_elim, add-zero, arith, eq-eqb, ne_eqb}
-use Rattle.layout.specs.Laws.Res.{eqb-cases}
+use Rattle.layout.proofs.Laws.Res.{eqb-cases}
 use Rattle.journal.specs.declared.Record.{Record}
 use Rattle.journal_balance.specs.declared.Sums.{Sums}
 use Rattle.journal.specs.Record.{debit_kind, top_up_kind, close_kind, kind_of, card_of, amount_of}

@@ -3,7 +3,7 @@
 use Rattle.std.specs.Prelude.{ℕ, zero, suc, ◌+◌, ◌*◌, ◌/◌, ◌≤◌, ◌<◌, ◌≡◌, refl, Bool, true, false, ◌&&◌, ◌||◌, List, [], ◌∷◌, eqb, length, get_or, set, replicate}
 use Rattle.std.proofs.Common.{ap, sym, ◌∙◌, ⊎_elim, arith, length-set, get_or-set_same, get_or-set_other, eq-eqb, eqb-true}
 use Rattle.std.proofs.lemmas.List.{length-replicate}
-use Rattle.layout.specs.Laws.Res.{eqb-cases, clash}
+use Rattle.layout.proofs.Laws.Res.{eqb-cases, clash}
 use Rattle.journal.specs.declared.Record.{Record}
 use Rattle.journal.specs.declared.Found.TheVariants.{Whole}
 use Rattle.journal.specs.Record.{length_of, kind_of, card_of, retry_of, number_at, kind_at, body_at, found_in, max_journal}

@@ -2,7 +2,7 @@
 -- loop meets.
 use Rattle.std.specs.Prelude.{ℕ, zero, suc, ◌+◌, ◌≤◌, ◌<◌, ◌≡◌, refl, List, [], length}
 use Rattle.std.proofs.Common.{ap, sym, ◌∙◌, arith, lt-ltb, le-ltb}
-use Rattle.layout.specs.Laws.Res.{spend}
+use Rattle.layout.proofs.Laws.Res.{spend}
 use Rattle.journal.specs.declared.Refusal.TheVariants.{TooLong, UnknownKind}
 use Rattle.journal.specs.Record.{length_of, kind_at, body_at, found_in, max_journal}
 use Rattle.journal_read.specs.Reader.{Journal, holds, refused, after, onward, records_from, journal_of}

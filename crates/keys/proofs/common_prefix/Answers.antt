@@ -1,6 +1,6 @@
 use Prim.Native.Nat.{◌-◌}
 use native.Mathlib.Omega.{arith}
-use Rattle.layout.specs.Laws.Key.{common-ended, common-over, common_differs, common-more}
+use Rattle.layout.proofs.Laws.Key.{common-ended, common-over, common_differs, common-more}
 use Rattle.keys.proofs.common_prefix.Goals as goal
 
 pub loop-n-init : goal.loop-n-init

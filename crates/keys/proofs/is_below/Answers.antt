@@ -1,7 +1,8 @@
 -- `is_below` says whether the comparison answers `less`.
 -- Each arm knows the answer that was given.
 use mathlib.Core.Path.{sym, ap, ◌∙◌}
-use Rattle.layout.specs.Laws.Compare.{is_less, compare-less-below}
+use Rattle.layout.specs.Laws.Compare.{is_less}
+use Rattle.layout.proofs.Laws.Compare.{compare-less-below}
 use Rattle.keys.proofs.Laws.{compared}
 use Rattle.keys.proofs.is_below.Goals as goal
 

@@ -1,6 +1,6 @@
--- What a comparison's answer tells: the one key is below the other exactly when it is `less`, and they are the same exactly when it is `equal`.
-use Rattle.std.specs.Prelude.{◌≡◌, refl, Bool, true, false, cond, not}
-use Rattle.layout.specs.Key.{Key, below, same, Ordering, less, equal, greater, compare}
+-- What the contracts and the theorems say by the laws of `Compare`: definitions.
+use Rattle.std.specs.Prelude.{Bool, true, false}
+use Rattle.layout.specs.Key.{Ordering, less, equal, greater}
 
 abbrev pub is_less : Ordering → Bool
 is_less less = true
@@ -11,21 +11,3 @@ abbrev pub is_equal : Ordering → Bool
 is_equal less = false
 is_equal equal = true
 is_equal greater = false
-
-pub compare-less-below : (a b : Key) → is_less (compare a b) ≡ below a b
-unfolding compare
-compare-less-below a b = go (below a b) (below b a)
-  where
-    go : (p q : Bool) → is_less (cond p less (cond q greater equal)) ≡ p
-    go true q = refl
-    go false true = refl
-    go false false = refl
-
-pub compare-equal-same : (a b : Key) → is_equal (compare a b) ≡ same a b
-unfolding compare
-compare-equal-same a b = go (below a b) (below b a)
-  where
-    go : (p q : Bool) → is_equal (cond p less (cond q greater equal)) ≡ cond p false (not q)
-    go true q = refl
-    go false true = refl
-    go false false = refl

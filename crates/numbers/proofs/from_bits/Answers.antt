@@ -7,7 +7,7 @@ use lib.IntN.{ℤ, negsuc, ◌-ℤ◌}
 use mir.Syntax.{w64}
 use mir.Val.{SFits, to_z}
 use mir.Facts.{to_z-of_z, to_z_pos}
-use Rattle.layout.specs.Laws.Fixed.{unbits-low, unbits-high}
+use Rattle.layout.proofs.Laws.Fixed.{unbits-low, unbits-high}
 use Rattle.numbers.proofs.Signed.{less-pos}
 use Rattle.numbers.proofs.from_bits.Goals as goal
 

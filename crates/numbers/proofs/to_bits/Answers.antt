@@ -9,7 +9,7 @@ use lib.Signed.{non_neg}
 use mir.Syntax.{w64}
 use mir.Val.{Fits, to_z, of_z}
 use Rattle.layout.specs.Fixed.{bits}
-use Rattle.layout.specs.Laws.Byte.{bits-neg}
+use Rattle.layout.proofs.Laws.Byte.{bits-neg}
 use Rattle.numbers.proofs.Signed.{read, read_fits, not-below, not-below-bits, below, flipped, flipped-fits}
 use Rattle.numbers.proofs.to_bits.Goals as goal
 

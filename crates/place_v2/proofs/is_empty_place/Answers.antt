@@ -3,7 +3,7 @@
 use mathlib.Core.Path.{◌≡◌, refl, sym}
 use Rattle.layout.specs.Res.{ok}
 use Rattle.layout.specs.Trailer.{trailer_of}
-use Rattle.layout.specs.Laws.Cursor.{empty-trailer}
+use Rattle.layout.proofs.Laws.Cursor.{empty-trailer}
 use Rattle.basics.specs.Answers.{yes, no}
 use Rattle.trailer.specs.Says.{trailer_from, says_trailer, refusal_of_trailer}
 use Rattle.place_v2.proofs.Opens.{empty-marked, empty-up, empty-down}

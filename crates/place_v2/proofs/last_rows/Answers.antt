@@ -4,8 +4,8 @@ use mathlib.Core.Path.{◌≡◌, sym}
 use native.Mathlib.Omega.{arith}
 use lib.ListN.{length}
 use lib.Seq.{length-take-le}
-use Rattle.layout.specs.Laws.Res.{handed}
-use Rattle.layout.specs.Laws.Trailer.{trailer_of-tells}
+use Rattle.layout.proofs.Laws.Res.{handed}
+use Rattle.layout.proofs.Laws.Trailer.{trailer_of-tells}
 use Rattle.trailer.specs.Plain.{known_is_lem, known-not}
 use Rattle.place_v2.proofs.last_rows.Goals.{After-plain_region-region}
 use Rattle.place_v2.proofs.last_rows.Goals as goal

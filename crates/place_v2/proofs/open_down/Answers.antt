@@ -1,6 +1,6 @@
 -- `open_down` keeps its promise: both exits are laws of the opening, over how many rows the last region has.
 use native.Mathlib.Omega.{arith}
-use Rattle.layout.specs.Laws.Trailer.{trailer_of-tells}
+use Rattle.layout.proofs.Laws.Trailer.{trailer_of-tells}
 use Rattle.basics.specs.Answers.{yes}
 use Rattle.whole_regions_v2.specs.Says.{says_count}
 use Rattle.place_v2.proofs.Opens.{down-good, down-not}

@@ -3,7 +3,7 @@
 use mathlib.Core.Path.{◌≡◌, refl, sym, ◌∙◌}
 use Rattle.layout.specs.Res.{ok}
 use Rattle.layout.specs.Trailer.{trailer_of, all_offsets}
-use Rattle.layout.specs.Laws.Cursor.{open_trailer, open_offsets, open_along_lem}
+use Rattle.layout.proofs.Laws.Cursor.{open_trailer, open_offsets, open_along_lem}
 use Rattle.basics.specs.Answers.{yes, no, says_verdict}
 use Rattle.trailer.specs.Says.{trailer_from, says_trailer, refusal_of_trailer}
 use Rattle.trailer.specs.Laws.{offsets-used}

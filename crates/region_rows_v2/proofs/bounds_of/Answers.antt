@@ -7,7 +7,7 @@ use lib.ListN.{length}
 use Rattle.layout.specs.Res.{ok}
 use Rattle.layout.specs.Trailer.{trailer_of, region_of}
 use Rattle.layout.specs.Cursor.{ascending, Cursor}
-use Rattle.layout.specs.Laws.Trailer.{trailer_of-tells}
+use Rattle.layout.proofs.Laws.Trailer.{trailer_of-tells}
 use Rattle.basics.specs.Says.{says_order}
 use Rattle.trailer.specs.Plain.{trailer-is, trailer-not, known_is_lem, known-not}
 use Rattle.trailer.specs.Says.{trailer_from, region_from}

@@ -6,9 +6,9 @@ use native.Mathlib.Omega.{arith}
 use lib.ListN.{length}
 use Rattle.layout.specs.Res.{ok}
 use Rattle.layout.specs.Place.{num_at, fixed_at}
-use Rattle.layout.specs.Laws.Place.{fixed_at-ends}
+use Rattle.layout.proofs.Laws.Place.{fixed_at-ends}
 use Rattle.layout_v1.specs.RowRead.{seq_at}
-use Rattle.layout_v1.specs.Laws.RowReads.{body-short, body-word, body-flags, body-good}
+use Rattle.layout_v1.proofs.Laws.RowReads.{body-short, body-word, body-flags, body-good}
 use Rattle.basics.specs.Answers.{yes, no}
 use Rattle.buf.specs.Says.{says_word, refusal_of_word}
 use Rattle.row_flags_decode.specs.Says.{says_flags, refusal_of_flags}

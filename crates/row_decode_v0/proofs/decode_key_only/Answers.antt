@@ -4,7 +4,7 @@ use mathlib.Core.Path.{◌≡◌, refl}
 use native.Mathlib.Omega.{arith}
 use Rattle.layout.specs.Res.{ok}
 use Rattle.layout_v1.specs.RowRead.{head_at}
-use Rattle.layout_v1.specs.Laws.RowReads.{head_at-tells, key-head, key-short, key-past, key-good}
+use Rattle.layout_v1.proofs.Laws.RowReads.{head_at-tells, key-head, key-short, key-past, key-good}
 use Rattle.basics.specs.Answers.{yes, no}
 use Rattle.row_decode_v0.specs.Reading.{head_from, says_head, refusal_of_head}
 use Rattle.row_decode_v0.proofs.decode_key_only.Goals.{In-Read}

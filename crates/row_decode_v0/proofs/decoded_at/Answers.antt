@@ -3,7 +3,7 @@ use mathlib.Core.Path.{◌≡◌, refl}
 use native.Mathlib.Omega.{arith}
 use Rattle.layout.specs.Res.{ok}
 use Rattle.layout_v1.specs.RowRead.{row_at}
-use Rattle.layout_v1.specs.Laws.RowReads.{read_no, read_past, read-early, read-good}
+use Rattle.layout_v1.proofs.Laws.RowReads.{read_no, read_past, read-early, read-good}
 use Rattle.basics.specs.Answers.{yes, no}
 use Rattle.row_decode_v2.specs.Says.{row_from, says_row, refusal_of_row}
 use Rattle.row_decode_v0.proofs.decoded_at.Goals.{In-Read}

@@ -5,7 +5,7 @@ use mathlib.Core.Path.{◌≡◌, refl}
 use native.Mathlib.Omega.{arith}
 use Rattle.layout.specs.Res.{ok}
 use Rattle.layout.specs.Place.{num_at, fixed_at}
-use Rattle.layout_v1.specs.Laws.RowReads.{head-one, head-two, head-share, head-empty, head-long, head-good}
+use Rattle.layout_v1.proofs.Laws.RowReads.{head-one, head-two, head-share, head-empty, head-long, head-good}
 use Rattle.basics.specs.Answers.{no}
 use Rattle.buf.specs.Says.{says_word, refusal_of_word}
 use Rattle.row_decode_v0.proofs.Laws.{number-known}

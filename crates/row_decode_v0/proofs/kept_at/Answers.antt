@@ -5,10 +5,10 @@ use mathlib.Core.Path.{◌≡◌, refl, ap}
 use native.Mathlib.Omega.{arith}
 use Rattle.layout.specs.Res.{ok}
 use Rattle.layout.specs.Place.{num_at, fixed_at}
-use Rattle.layout.specs.Laws.Place.{fixed_at-ends}
+use Rattle.layout.proofs.Laws.Place.{fixed_at-ends}
 use Rattle.layout.specs.RowRead.{Held}
 use Rattle.layout_v1.specs.RowRead.{held_is}
-use Rattle.layout_v1.specs.Laws.RowReads.{value_none, value-long, value-short, value-good}
+use Rattle.layout_v1.proofs.Laws.RowReads.{value_none, value-long, value-short, value-good}
 use Rattle.basics.specs.Answers.{yes, no}
 use Rattle.buf.specs.Says.{says_word, refusal_of_word}
 use Rattle.row_decode_v0.specs.Reading.{kept_at}

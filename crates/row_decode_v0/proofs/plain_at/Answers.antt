@@ -5,7 +5,7 @@ use mathlib.Core.Path.{◌≡◌, ◌∙◌}
 use native.Mathlib.Omega.{arith}
 use lib.ListN.{length}
 use Rattle.layout_v1.specs.Plain.{spelt, plain_value}
-use Rattle.layout_v1.specs.Laws.Plain.{plain-short, plain-enough, plain_late, plain-starts, plain-odd, plain-room, plain_flagged, plain-good}
+use Rattle.layout_v1.proofs.Laws.Plain.{plain-short, plain-enough, plain_late, plain-starts, plain-odd, plain-room, plain_flagged, plain-good}
 use Rattle.row_decode_v0.proofs.Laws.{bytes-spelt}
 use Rattle.row_decode_v0.proofs.plain_at.Goals.{After-four-written, After-two-unshared, Else-end-at, Else-most-shared}
 use Rattle.row_decode_v0.proofs.plain_at.Goals as goal

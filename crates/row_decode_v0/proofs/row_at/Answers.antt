@@ -5,7 +5,7 @@ use native.Mathlib.Omega.{arith}
 use Rattle.layout.specs.Res.{ok}
 use Rattle.layout.specs.RowRead.{RowRead}
 use Rattle.layout_v1.specs.RowRead.{head_at, body_at}
-use Rattle.layout_v1.specs.Laws.RowReads.{head_at-tells, row-head, row-body, row-times, row-held, row-good}
+use Rattle.layout_v1.proofs.Laws.RowReads.{head_at-tells, row-head, row-body, row-times, row-held, row-good}
 use Rattle.basics.specs.Answers.{yes, no}
 use Rattle.row_flags_decode.specs.Says.{says_times, refusal_of_times}
 use Rattle.row_decode_v0.specs.Reading.{head_from, says_head, body_from, says_body, says_held_at, refusal_of_head, refusal_of_body, refusal_of_held}

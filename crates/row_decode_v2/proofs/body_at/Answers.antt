@@ -7,8 +7,8 @@ use lib.ListN.{length}
 use Rattle.layout.specs.Res.{ok}
 use Rattle.layout.specs.Place.{num_at, fixed_at}
 use Rattle.layout.specs.RowRead.{Held, body_is, seq_at}
-use Rattle.layout.specs.Laws.Place.{fixed_at-ends}
-use Rattle.layout.specs.Laws.RowExits.{body-long, body-short, body-word, body-flags, body-good}
+use Rattle.layout.proofs.Laws.Place.{fixed_at-ends}
+use Rattle.layout.proofs.Laws.RowExits.{body-long, body-short, body-word, body-flags, body-good}
 use Rattle.basics.specs.Answers.{yes, no}
 use Rattle.buf.specs.Says.{says_word, refusal_of_word}
 use Rattle.row_flags_decode.specs.Says.{flags_from, says_flags, refusal_of_flags}

@@ -4,8 +4,8 @@ use mathlib.Core.Path.{◌≡◌, refl, ap, ◌∙◌}
 use native.Mathlib.Omega.{arith}
 use Rattle.layout.specs.Res.{ok}
 use Rattle.layout.specs.RowRead.{RowRead, head_at, body_at}
-use Rattle.layout.specs.Laws.Tells.{head_at-tells}
-use Rattle.layout.specs.Laws.RowExits.{row-head, row-body, row-times, row-past, row-good}
+use Rattle.layout.proofs.Laws.Tells.{head_at-tells}
+use Rattle.layout.proofs.Laws.RowExits.{row-head, row-body, row-times, row-past, row-good}
 use Rattle.basics.specs.Answers.{yes, no}
 use Rattle.row_flags_decode.specs.Says.{says_times, refusal_of_times}
 use Rattle.row_decode_v2.specs.Reading.{lengths_from, says_head, body_from, says_body, refusal_of_head, refusal_of_body}

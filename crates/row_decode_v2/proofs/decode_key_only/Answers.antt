@@ -4,8 +4,8 @@ use mathlib.Core.Path.{◌≡◌, refl}
 use native.Mathlib.Omega.{arith}
 use Rattle.layout.specs.Res.{ok}
 use Rattle.layout.specs.RowRead.{head_at}
-use Rattle.layout.specs.Laws.Tells.{head_at-tells}
-use Rattle.layout.specs.Laws.RowExits.{key-head, key-short, key-past, key-good}
+use Rattle.layout.proofs.Laws.Tells.{head_at-tells}
+use Rattle.layout.proofs.Laws.RowExits.{key-head, key-short, key-past, key-good}
 use Rattle.basics.specs.Answers.{yes, no}
 use Rattle.row_decode_v2.specs.Reading.{lengths_from, says_head, refusal_of_head}
 use Rattle.row_decode_v2.proofs.decode_key_only.Goals.{In-Read}

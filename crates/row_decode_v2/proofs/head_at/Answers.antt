@@ -4,7 +4,7 @@ use Prim.Native.Nat.{◌≤◌}
 use mathlib.Core.Path.{◌≡◌, refl}
 use Rattle.layout.specs.Res.{ok}
 use Rattle.layout.specs.RowRead.{lengths_is, lengths_at, may_share}
-use Rattle.layout.specs.Laws.RowExits.{head-no, head-share, head-empty, head-long, head-good}
+use Rattle.layout.proofs.Laws.RowExits.{head-no, head-share, head-empty, head-long, head-good}
 use Rattle.basics.specs.Answers.{yes, no}
 use Rattle.row_decode_v2.specs.Reading.{says_lengths, refusal_of_lengths}
 use Rattle.row_decode_v2.proofs.head_at.Goals.{Else-most-shared, In-Read}

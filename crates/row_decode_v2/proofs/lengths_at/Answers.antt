@@ -3,7 +3,7 @@
 use mathlib.Core.Path.{◌≡◌, refl}
 use Rattle.layout.specs.Res.{ok}
 use Rattle.layout.specs.Place.{num_at, varint_at}
-use Rattle.layout.specs.Laws.RowExits.{lengths-one, lengths-two, lengths-three, lengths-good}
+use Rattle.layout.proofs.Laws.RowExits.{lengths-one, lengths-two, lengths-three, lengths-good}
 use Rattle.basics.specs.Answers.{yes, no}
 use Rattle.utils_decode.specs.Says.{says_varint, refusal_of_varint}
 use Rattle.row_decode_v2.proofs.lengths_at.Goals.{In-Number, In-Number-two}

@@ -3,7 +3,7 @@
 use mathlib.Core.Path.{refl}
 use native.Mathlib.Omega.{arith}
 use lib.ListN.{length}
-use Rattle.layout_v1.specs.Laws.RowWrites.{size-tells, size-bytes, encode-share, encode_unsized, encode-over, encode-sized}
+use Rattle.layout_v1.proofs.Laws.RowWrites.{size-tells, size-bytes, encode-share, encode_unsized, encode-over, encode-sized}
 use Rattle.basics.specs.Answers.{yes, no}
 use Rattle.basics.specs.Says.{says_kind}
 use Rattle.row_flags.specs.Says.{fields_from}

@@ -4,7 +4,7 @@ use mathlib.Core.List.{List, ◌++◌}
 use Prim.Native.Nat.{ℕ}
 use lib.ListN.{length}
 use Rattle.layout.specs.Fixed.{big}
-use Rattle.layout.specs.Laws.Splice.{wrote_then}
+use Rattle.layout.proofs.Laws.Splice.{wrote_then}
 use Rattle.buf_mut.proofs.Laws.{room-first, room_next, put_one, put_three}
 use Rattle.row_encode_v0.proofs.write_key.Goals as goal
 

@@ -1,7 +1,7 @@
 -- `write_row` writes the row's three parts one after another at the start of the buffer: what stands before the flags, flags and times, and the value.
 -- Room for the row is room for each part in its turn, by the laws of `Parts`, and the three writes are one.
 use mathlib.Core.Path.{sym}
-use Rattle.layout.specs.Laws.Splice.{wrote_then, wrote_as}
+use Rattle.layout.proofs.Laws.Splice.{wrote_then, wrote_as}
 use Rattle.buf_mut.proofs.Laws.{put_one}
 use Rattle.row_encode_v0.proofs.Parts.{row-parts, key-room, marks-room, value_room}
 use Rattle.row_encode_v0.proofs.write_row.Goals as goal

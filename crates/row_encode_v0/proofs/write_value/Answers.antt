@@ -3,7 +3,7 @@ use Prim.Native.Nat.{ℕ}
 use mathlib.Core.Path.{◌≡◌, ap, sym}
 use mathlib.Core.List.{List}
 use native.Mathlib.Omega.{arith}
-use Rattle.layout.specs.Laws.Splice.{wrote_as, wrote_none}
+use Rattle.layout.proofs.Laws.Splice.{wrote_as, wrote_none}
 use Rattle.layout_v1.specs.Row.{value_bytes_of}
 use Rattle.basics.specs.Says.{says_kind}
 use Rattle.basics.specs.declared.Kind.{Kind}

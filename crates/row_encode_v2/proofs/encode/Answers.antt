@@ -3,8 +3,8 @@
 use mathlib.Core.Path.{refl}
 use native.Mathlib.Omega.{arith}
 use lib.ListN.{length}
-use Rattle.layout.specs.Laws.RowExits.{encode-share}
-use Rattle.layout.specs.Laws.RowWrite.{size-tells, size-bytes, encode_unsized, encode-over, encode-sized}
+use Rattle.layout.proofs.Laws.RowExits.{encode-share}
+use Rattle.layout.proofs.Laws.RowWrite.{size-tells, size-bytes, encode_unsized, encode-over, encode-sized}
 use Rattle.basics.specs.Answers.{yes, no}
 use Rattle.basics.specs.Says.{says_kind}
 use Rattle.row_flags.specs.Says.{fields_from}

@@ -3,7 +3,7 @@
 use mathlib.Core.Path.{sym}
 use native.Mathlib.Omega.{arith}
 use lib.Seq.{length-take-le}
-use Rattle.layout.specs.Laws.Splice.{wrote_then, wrote_as}
+use Rattle.layout.proofs.Laws.Splice.{wrote_then, wrote_as}
 use Rattle.buf_mut.proofs.Laws.{put_one}
 use Rattle.row_encode_v2.proofs.Parts.{row-parts, lengths-room, body-room, marks-room}
 use Rattle.row_encode_v2.proofs.write_row.Goals as goal

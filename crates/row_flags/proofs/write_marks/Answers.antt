@@ -7,8 +7,9 @@ use mathlib.Core.List.{List, [], ◌∷◌, ◌++◌}
 use native.Mathlib.Omega.{arith}
 use lib.ListN.{length, set, length-append}
 use Rattle.layout.specs.Row.{if_so, present, time_bytes}
-use Rattle.layout.specs.Laws.Row.{length-time_bytes}
-use Rattle.layout.specs.Laws.Splice.{Wrote, wrote-set}
+use Rattle.layout.proofs.Laws.Row.{length-time_bytes}
+use Rattle.layout.specs.Laws.Splice.{Wrote}
+use Rattle.layout.proofs.Laws.Splice.{wrote-set}
 use Rattle.basics.specs.Says.{says_time}
 use Rattle.buf_mut.specs.declared.Put.{Put}
 use Rattle.buf_mut.specs.Promise.{Puts}

@@ -8,8 +8,8 @@ use mir.Syntax.{w64}
 use mir.Val.{to_z, of_z}
 use borrow.Author.Rules.{rules}
 use Rattle.layout.specs.Row.{time_bytes}
-use Rattle.layout.specs.Laws.RowWrite.{time_absent, time-present}
-use Rattle.layout.specs.Laws.Splice.{wrote_none}
+use Rattle.layout.proofs.Laws.RowWrite.{time_absent, time-present}
+use Rattle.layout.proofs.Laws.Splice.{wrote_none}
 use Rattle.basics.specs.Says.{says_time}
 use Rattle.basics.specs.declared.Time.{Time}
 use Rattle.buf_mut.proofs.Laws.{puts-short, puts-wrote}

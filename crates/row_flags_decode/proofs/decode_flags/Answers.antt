@@ -8,8 +8,8 @@ use native.Mathlib.Omega.{arith}
 use Rattle.layout.specs.Res.{Res, ok, refuse}
 use Rattle.layout.specs.Row.{Kind, value, tombstone, merge, flags_of}
 use Rattle.layout.specs.RowRead.{Flags, flags_is, flags_at}
-use Rattle.layout.specs.Laws.Row.{flags_at-law}
-use Rattle.layout.specs.Laws.RowExits.{flags_at-both, flags_at_unknown}
+use Rattle.layout.proofs.Laws.Row.{flags_at-law}
+use Rattle.layout.proofs.Laws.RowExits.{flags_at-both, flags_at_unknown}
 use Rattle.row_flags_decode.proofs.decode_flags.Goals as goal
 
 good : (k : Kind) (e c : Bool) {x : Res Flags} {f : ℕ} → x ≡ ok (flags_is k e c) → f ≡ flags_of k e c → x ≡ flags_at f

@@ -7,7 +7,7 @@ use mir.Val.{to_z, of_z}
 use Rattle.layout.specs.Res.{ok}
 use Rattle.layout.specs.Row.{At}
 use Rattle.layout.specs.RowRead.{time_is}
-use Rattle.layout.specs.Laws.RowExits.{time-short, time-read, time-none}
+use Rattle.layout.proofs.Laws.RowExits.{time-short, time-read, time-none}
 use Rattle.basics.specs.Answers.{yes, no}
 use Rattle.buf.specs.Says.{says_signed, refusal_of_signed}
 use borrow.Author.Rules.{rules}

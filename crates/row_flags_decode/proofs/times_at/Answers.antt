@@ -3,7 +3,7 @@
 use mathlib.Core.Path.{◌≡◌, refl}
 use Rattle.layout.specs.Res.{ok}
 use Rattle.layout.specs.RowRead.{time_is, time_at}
-use Rattle.layout.specs.Laws.RowExits.{times-one, times-two, times-good}
+use Rattle.layout.proofs.Laws.RowExits.{times-one, times-two, times-good}
 use Rattle.basics.specs.Answers.{yes, no}
 use Rattle.basics.specs.Says.{says_time}
 use Rattle.row_flags_decode.specs.Parts.{says_time_at, refusal_of_time}

@@ -2,7 +2,7 @@
 -- The first two tests put the three length bytes inside the data; the joined one puts the flags byte there, before it is looked at.
 use mathlib.Core.Path.{◌∙◌}
 use native.Mathlib.Omega.{arith}
-use Rattle.layout.specs.Laws.Plain.{plain-short, plain-enough, plain_late, plain-starts, plain-odd, plain-flags, plain_flagged, plain-good}
+use Rattle.layout.proofs.Laws.Plain.{plain-short, plain-enough, plain_late, plain-starts, plain-odd, plain-flags, plain_flagged, plain-good}
 use Rattle.row_plain_v2.proofs.plain_at.Goals as goal
 
 pub returns-then-region_end-s : goal.returns-then-region_end-s

@@ -1,7 +1,7 @@
 -- `plain_key_at` keeps its promise: each exit is one law of `Laws.Plain`, over the three lengths as numbers.
 -- The first two tests put the three length bytes inside the data, so that they can be read.
 use native.Mathlib.Omega.{arith}
-use Rattle.layout.specs.Laws.Plain.{key-short, key-enough, key_late, key-starts, key-odd, key-plain}
+use Rattle.layout.proofs.Laws.Plain.{key-short, key-enough, key_late, key-starts, key-odd, key-plain}
 use Rattle.row_plain_v2.proofs.plain_key_at.Goals as goal
 
 pub returns-then-region_end-s : goal.returns-then-region_end-s

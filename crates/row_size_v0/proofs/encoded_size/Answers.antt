@@ -6,7 +6,7 @@ use native.Mathlib.Omega.{arith}
 use Rattle.layout.specs.Row.{Kind, value, tombstone, merge, kept_length, present}
 use Rattle.layout.specs.Res.{ok}
 use Rattle.layout_v1.specs.Row.{value_size}
-use Rattle.layout_v1.specs.Laws.RowWrites.{row_size-sum, size-no, size_is}
+use Rattle.layout_v1.proofs.Laws.RowWrites.{row_size-sum, size-no, size_is}
 use Rattle.basics.specs.Answers.{yes}
 use Rattle.basics.specs.Says.{says_kind, says_time}
 use Rattle.row_size_v2.specs.Says.{says_sized}

@@ -4,8 +4,8 @@
 use mathlib.Core.Path.{ap, sym, ◌∙◌}
 use native.Mathlib.Omega.{arith}
 use lib.ListN.{length}
-use Rattle.layout.specs.Laws.Byte.{varint-small}
-use Rattle.layout.specs.Laws.Varint.{length-varint, varint-few}
+use Rattle.layout.proofs.Laws.Byte.{varint-small}
+use Rattle.layout.proofs.Laws.Varint.{length-varint, varint-few}
 use Rattle.row_size_v2.proofs.length_len.Goals as goal
 
 pub returns-then-n-lt128 : goal.returns-then-n-lt128

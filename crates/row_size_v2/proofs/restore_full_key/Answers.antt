@@ -4,7 +4,7 @@ use mathlib.Core.Path.{refl, sym}
 use native.Mathlib.Omega.{arith}
 use lib.ListN.{take, length-append}
 use lib.Seq.{length-take-le}
-use Rattle.layout.specs.Laws.RowExits.{restore_share, restore_no, restore_short, restore_is}
+use Rattle.layout.proofs.Laws.RowExits.{restore_share, restore_no, restore_short, restore_is}
 use Rattle.basics.specs.Answers.{yes, no}
 use Rattle.buf_mut.proofs.Laws.{put_two}
 use Rattle.row_size_v2.specs.Says.{says_sized, sized_refusal}

@@ -1,7 +1,7 @@
 -- `decoded_numbered` keeps its promise: the numbers of the row that was decoded, and all 0 where it was refused.
 -- What `decoded_in` promised of its answer's case is the read that they are taken of.
 use mathlib.Core.Path.{sym, ap}
-use Rattle.layout.specs.Laws.Plain.{span-read, span-refused}
+use Rattle.layout.proofs.Laws.Plain.{span-read, span-refused}
 use Rattle.basics.specs.Answers.{yes}
 use Rattle.row_decode_v2.specs.Says.{says_row}
 use Rattle.row_span_v2.specs.Promise.{seq_of}

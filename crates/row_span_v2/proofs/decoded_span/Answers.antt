@@ -1,6 +1,6 @@
 -- `decoded_span` keeps its promise: the four numbers of the row that was decoded, and all 0 where it was refused.
 -- What `decoded_in` promised of its answer's case is the read that the span is taken of.
-use Rattle.layout.specs.Laws.Plain.{span-read, span-refused}
+use Rattle.layout.proofs.Laws.Plain.{span-read, span-refused}
 use Rattle.basics.specs.Answers.{yes}
 use Rattle.row_decode_v2.specs.Says.{says_row}
 use Rattle.row_span_v2.proofs.decoded_span.Goals as goal

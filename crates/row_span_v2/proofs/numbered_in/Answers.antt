@@ -1,7 +1,7 @@
 -- `numbered_in` keeps its promise: a plain row is the row that the rules read, so its numbers are the span's, and the eight bytes before its flags are its
 -- sequence number; any other is decoded. A plain row stands inside the data, so these bytes are there and no place wraps.
 use native.Mathlib.Omega.{arith}
-use Rattle.layout.specs.Laws.Plain.{span-plain}
+use Rattle.layout.proofs.Laws.Plain.{span-plain}
 use Rattle.row_plain_v2.specs.Promise.{plain_from}
 use Rattle.row_span_v2.proofs.Laws.{plain-room}
 use Rattle.row_span_v2.proofs.Whole.{plain-least, plain-number}

@@ -4,7 +4,7 @@ use mathlib.Core.Path.{◌≡◌, refl, ap, sym}
 use Rattle.layout.specs.Res.{ok}
 use Rattle.layout.specs.Seek.{seek}
 use Rattle.layout.specs.Trailer.{trailer_of}
-use Rattle.layout.specs.Laws.Seek.{seek-trailer}
+use Rattle.layout.proofs.Laws.Seek.{seek-trailer}
 use Rattle.basics.specs.Says.{says_order}
 use Rattle.basics.specs.declared.IterationOrder.{IterationOrder}
 use Rattle.trailer.specs.Plain.{trailer-is, trailer-not}

@@ -8,9 +8,9 @@ use Rattle.layout.specs.Res.{ok}
 use Rattle.layout.specs.Seek.{last_at_or_below}
 use Rattle.layout.specs.Trailer.{data_of, region_of}
 use Rattle.layout.specs.Number.{ended_by, number_at}
-use Rattle.layout.specs.Laws.Number.{number_in}
-use Rattle.layout.specs.Laws.Seek.{falling-start, falling-region, falling-no, falling-found, falling-done, falling-more}
-use Rattle.layout.specs.Laws.Trailer.{trailer_of-tells}
+use Rattle.layout.proofs.Laws.Number.{number_in}
+use Rattle.layout.proofs.Laws.Seek.{falling-start, falling-region, falling-no, falling-found, falling-done, falling-more}
+use Rattle.layout.proofs.Laws.Trailer.{trailer_of-tells}
 use Rattle.basics.specs.Answers.{no}
 use Rattle.basics.specs.declared.IterationOrder.TheVariants.{Descending}
 use Rattle.trailer.specs.Plain.{known-not, known_is_lem}

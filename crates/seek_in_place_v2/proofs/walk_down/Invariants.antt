@@ -2,7 +2,7 @@
 -- Each exit is a law over where the last row at or below the target ends in that region.
 use Prim.Native.Nat.{◌<◌}
 use mathlib.Core.List.{[]}
-use Rattle.layout.specs.Laws.Seek.{Falling}
+use Rattle.layout.proofs.Laws.Seek.{Falling}
 use Rattle.trailer.specs.Says.{trailer_from}
 use Rattle.seek_in_place_v2.proofs.walk_down.Given as goal
 

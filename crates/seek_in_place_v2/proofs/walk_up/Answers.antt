@@ -9,8 +9,8 @@ use Rattle.layout.specs.Res.{ok}
 use Rattle.layout.specs.Key.{Key}
 use Rattle.layout.specs.Place.{splice}
 use Rattle.layout.specs.Trailer.{region_of}
-use Rattle.layout.specs.Laws.Seek.{climbing_start, climbing_over, climbing_region, climbing_no, climbing_found, climbing_more}
-use Rattle.layout.specs.Laws.Trailer.{trailer_of-tells}
+use Rattle.layout.proofs.Laws.Seek.{climbing_start, climbing_over, climbing_region, climbing_no, climbing_found, climbing_more}
+use Rattle.layout.proofs.Laws.Trailer.{trailer_of-tells}
 use Rattle.basics.specs.Answers.{no}
 use Rattle.basics.specs.declared.IterationOrder.TheVariants.{Ascending}
 use Rattle.trailer.specs.Plain.{known-not, known_is_lem}

@@ -1,6 +1,6 @@
 use Prim.Native.Nat.{◌-◌}
 use mathlib.Core.Path.{◌≡◌}
-use Rattle.layout.specs.Laws.Seek.{Climbing}
+use Rattle.layout.proofs.Laws.Seek.{Climbing}
 use Rattle.trailer.specs.Says.{trailer_from}
 use Rattle.seek_in_place_v2.proofs.Walks.{PastLast}
 use Rattle.seek_in_place_v2.proofs.walk_up.Given as goal

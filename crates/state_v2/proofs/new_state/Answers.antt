@@ -1,6 +1,6 @@
 -- `new_state` keeps its promise: an empty builder with these settings, or 8 and the zero one.
 -- The three tests are the definition's, in its order, and each exit is one of its laws.
-use Rattle.layout.specs.Laws.Builder.{new_large, new_none, new-long, new-good}
+use Rattle.layout.proofs.Laws.Builder.{new_large, new_none, new-long, new-good}
 use Rattle.state_v2.proofs.Made.{made-not, made-good}
 use Rattle.state_v2.proofs.new_state.Goals as goal
 

@@ -3,7 +3,7 @@
 use mathlib.Core.Path.{sym}
 use native.Mathlib.Omega.{arith}
 use lib.Seq.{length-take-le}
-use Rattle.layout.specs.Laws.Trailer.{trailer_of-tells}
+use Rattle.layout.proofs.Laws.Trailer.{trailer_of-tells}
 use Rattle.step_in_place_v2.proofs.Laws.{back_to, back-not}
 use Rattle.step_in_place_v2.proofs.back.Goals as goal
 

@@ -1,6 +1,6 @@
 -- `down_in_place` keeps the promise of a step of a descending cursor, whatever its key bytes are, as many as are lent: what `stand` answers, or the step down.
 use mathlib.Core.Path.{◌∙◌}
-use Rattle.layout.specs.Laws.Cursor.{next_down}
+use Rattle.layout.proofs.Laws.Cursor.{next_down}
 use Rattle.step_in_place_v2.specs.Lent.{lent-whole}
 use Rattle.step_in_place_v2.proofs.Laws.{moves_not, moves-over, moves_as, stand-said, heads-on}
 use Rattle.step_in_place_v2.proofs.down_in_place.Goals as goal

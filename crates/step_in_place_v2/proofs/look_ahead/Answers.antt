@@ -9,9 +9,9 @@ use lib.Seq.{length-take-le}
 use Rattle.layout.specs.Res.{ok}
 use Rattle.layout.specs.Number.{wrong_after}
 use Rattle.layout.specs.Trailer.{region_of, row_in}
-use Rattle.layout.specs.Laws.Cursor.{up-region, up-before, up-past, up_wrong, up_done, up-row, up-short, up-found}
-use Rattle.layout.specs.Laws.Tells.{read_row-ends}
-use Rattle.layout.specs.Laws.Trailer.{trailer_of-tells}
+use Rattle.layout.proofs.Laws.Cursor.{up-region, up-before, up-past, up_wrong, up_done, up-row, up-short, up-found}
+use Rattle.layout.proofs.Laws.Tells.{read_row-ends}
+use Rattle.layout.proofs.Laws.Trailer.{trailer_of-tells}
 use Rattle.basics.specs.Answers.{yes, no}
 use Rattle.row_decode_v2.specs.Says.{row_from, says_row, refusal_of_row}
 use Rattle.trailer.specs.Plain.{known-not, known_is_lem}

@@ -5,7 +5,7 @@ use mathlib.Core.Path.{◌≡◌}
 use native.Mathlib.Omega.{arith}
 use Rattle.layout.specs.Res.{ok}
 use Rattle.layout.specs.Trailer.{region_of}
-use Rattle.layout.specs.Laws.Cursor.{down-region, down-before, down-past, down_wrong, down-done, down-before-no, down-before_in, down_in}
+use Rattle.layout.proofs.Laws.Cursor.{down-region, down-before, down-past, down_wrong, down-done, down-before-no, down-before_in, down_in}
 use Rattle.trailer.specs.Plain.{known-not, known_is_lem}
 use Rattle.trailer.specs.Says.{trailer_from, region_from}
 use Rattle.step_in_place_v2.proofs.Laws.{stands-has, before-has, behind-not, behind-start, behind_in, before-starts}

@@ -4,9 +4,9 @@ use Prim.Native.Nat.{◌-◌}
 use mathlib.Core.Path.{sym}
 use native.Mathlib.Omega.{arith}
 use lib.Seq.{length-take-le}
-use Rattle.layout.specs.Laws.Number.{right-tells}
-use Rattle.layout.specs.Laws.Tells.{read_row-ends}
-use Rattle.layout.specs.Laws.Trailer.{trailer_of-tells}
+use Rattle.layout.proofs.Laws.Number.{right-tells}
+use Rattle.layout.proofs.Laws.Tells.{read_row-ends}
+use Rattle.layout.proofs.Laws.Trailer.{trailer_of-tells}
 use Rattle.step_in_place_v2.proofs.Laws.{key-held, pass-over, pass-stay}
 use Rattle.step_in_place_v2.proofs.pass.Goals as goal
 

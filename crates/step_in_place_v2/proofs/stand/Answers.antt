@@ -4,7 +4,7 @@ use mathlib.Core.Path.{◌≡◌, sym}
 use Rattle.layout.specs.Res.{ok, refuse}
 use Rattle.layout.specs.Cursor.{step_is, done}
 use Rattle.layout.specs.Trailer.{trailer_of}
-use Rattle.layout.specs.Laws.Cursor.{next-trailer, next-region, next-key, next-marked}
+use Rattle.layout.proofs.Laws.Cursor.{next-trailer, next-region, next-key, next-marked}
 use Rattle.trailer.specs.Plain.{trailer-is, trailer-not}
 use Rattle.trailer.specs.Says.{trailer_from}
 use Rattle.place_v2.specs.Says.{view_in}

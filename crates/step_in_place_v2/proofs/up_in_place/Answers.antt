@@ -1,6 +1,6 @@
 -- `up_in_place` keeps the promise of a step of an ascending cursor: what `stand` answers, or the step up.
 use mathlib.Core.Path.{refl}
-use Rattle.layout.specs.Laws.Cursor.{next_up}
+use Rattle.layout.proofs.Laws.Cursor.{next_up}
 use Rattle.step_in_place_v2.specs.Lent.{lent-whole}
 use Rattle.step_in_place_v2.proofs.Laws.{moves_not, moves-over, moves_as, stand-said, heads-on}
 use Rattle.step_in_place_v2.proofs.up_in_place.Goals as goal

@@ -8,8 +8,8 @@ use native.Mathlib.Omega.{arith}
 use lib.Dec.{ltb, leb, eqb}
 use borrow.Author.Tests.{lt-ltb, le-ltb, lt-leb, ltb-false, leb-false, eq-eqb, ne_eqb}
 use Rattle.layout.specs.Trailer.{trailer_is}
-use Rattle.layout.specs.Laws.Res.{ltb-cases, eqb-cases, clash}
-use Rattle.layout.specs.Laws.Plain.{or-false}
+use Rattle.layout.proofs.Laws.Res.{ltb-cases, eqb-cases, clash}
+use Rattle.layout.proofs.Laws.Plain.{or-false}
 use Rattle.trailer.specs.Handed.{has_region}
 use Rattle.trailer.proofs.has_region.Goals as goal
 

@@ -4,7 +4,8 @@ use mathlib.Core.List.{List}
 use native.Mathlib.Omega.{arith}
 use Rattle.layout.specs.Res.{Res, refuse}
 use Rattle.layout.specs.Trailer.{Trailer, short_at, offset_at, rising_from, all_offsets}
-use Rattle.layout.specs.Laws.Trailer.{RisesFrom, rising-start, rising-over, rising-falls, rising-past, rising-next, offsets-first, offsets-rest}
+use Rattle.layout.specs.Laws.Trailer.{RisesFrom}
+use Rattle.layout.proofs.Laws.Trailer.{rising-start, rising-over, rising-falls, rising-past, rising-next, offsets-first, offsets-rest}
 use Rattle.trailer.proofs.offsets_rise.Goals as goal
 
 module _ (b : List ℕ) (t : Trailer) (first : ℕ) (read : first ≡ short_at b t.size) where

@@ -1,7 +1,7 @@
 -- `plain_trailer` keeps its promise: all 0 where the definition refuses, else its numbers.
 -- The joined test is the definition's two once the count that was read is the definition's.
 use mathlib.Core.Path.{ap, ◌∙◌}
-use Rattle.layout.specs.Laws.Trailer.{trailer-short}
+use Rattle.layout.proofs.Laws.Trailer.{trailer-short}
 use Rattle.trailer.specs.Plain.{trailer_or, trailer_bad, trailer-fine, trailer-fits}
 use Rattle.trailer.proofs.plain_trailer.Goals as goal
 

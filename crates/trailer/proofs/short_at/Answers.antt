@@ -1,8 +1,8 @@
 -- `short_at` keeps its promise: the two bytes that its caller knows to be there.
 -- Both are bytes, so that no sum of them wraps, and the number that they make is the definition's.
 use mathlib.Core.Path.{sym}
-use Rattle.layout.specs.Laws.Place.{fixed_at-two}
-use Rattle.layout.specs.Laws.Trailer.{short-read}
+use Rattle.layout.proofs.Laws.Place.{fixed_at-two}
+use Rattle.layout.proofs.Laws.Trailer.{short-read}
 use borrow.Author.Rules.{rules}
 use Rattle.trailer.proofs.short_at.Goals as goal
 

@@ -6,10 +6,11 @@ use lib.ListN.{length, take, get_or, length-take}
 use lib.Seq.{take-take, take-length}
 use Rattle.layout.specs.Block.{offset_bytes, trailer}
 use Rattle.layout.specs.Fixed.{big}
-use Rattle.layout.specs.Laws.Fixed.{length-big}
-use Rattle.layout.specs.Laws.Offsets.{offsets-none, offsets-more, trailer-counted}
-use Rattle.layout.specs.Laws.Splice.{Wrote, wrote_none, wrote_then, wrote_as, wrote-length}
-use Rattle.layout.specs.Laws.Trailer.{length-trailer}
+use Rattle.layout.proofs.Laws.Fixed.{length-big}
+use Rattle.layout.proofs.Laws.Offsets.{offsets-none, offsets-more, trailer-counted}
+use Rattle.layout.specs.Laws.Splice.{Wrote}
+use Rattle.layout.proofs.Laws.Splice.{wrote_none, wrote_then, wrote_as, wrote-length}
+use Rattle.layout.proofs.Laws.Trailer.{length-trailer}
 use Rattle.basics.specs.declared.Refusal.{Refusal}
 use Rattle.buf_mut.specs.Promise.{Puts}
 use Rattle.buf_mut.specs.declared.Put.{Put}

@@ -1,6 +1,6 @@
 -- `encode_varint` keeps its promise: the bytes of the varint, or 6 and an untouched buffer.
 -- A number below 128 is one byte, itself; any other is left to `put_varint`, whose promise is the same.
-use Rattle.layout.specs.Laws.Byte.{varint-small}
+use Rattle.layout.proofs.Laws.Byte.{varint-small}
 use Rattle.utils.proofs.encode_varint.Goals as goal
 
 pub returns-then-v-lt128 : goal.returns-then-v-lt128

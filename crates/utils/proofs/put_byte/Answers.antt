@@ -1,7 +1,7 @@
 -- `put_byte` keeps its promise for any place and byte.
 -- The test of its room is the promise's own, for one byte; one store is a write of that byte.
 use native.Mathlib.Omega.{arith}
-use Rattle.layout.specs.Laws.Splice.{wrote-set}
+use Rattle.layout.proofs.Laws.Splice.{wrote-set}
 use Rattle.buf_mut.proofs.Laws.{puts-short, puts-wrote}
 use Rattle.utils.proofs.put_byte.Goals as goal
 

@@ -7,9 +7,9 @@ use native.Mathlib.Omega.{arith}
 use lib.ListN.{length, set, length-set}
 use lib.Seq.{sets}
 use Rattle.layout.specs.Varint.{varint, varint_in}
-use Rattle.layout.specs.Laws.Byte.{varint_in-last, varint_in-more, varint-whole}
-use Rattle.layout.specs.Laws.Splice.{sets-splice}
-use Rattle.layout.specs.Laws.Varint.{varint_in-few, varint-few}
+use Rattle.layout.proofs.Laws.Byte.{varint_in-last, varint_in-more, varint-whole}
+use Rattle.layout.proofs.Laws.Splice.{sets-splice}
+use Rattle.layout.proofs.Laws.Varint.{varint_in-few, varint-few}
 use Rattle.buf_mut.proofs.Laws.{puts-short, puts-wrote}
 use Rattle.utils.proofs.put_varint.Invariants.{Going}
 use Rattle.utils.proofs.put_varint.Goals as goal

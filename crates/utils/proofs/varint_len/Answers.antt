@@ -3,8 +3,8 @@
 use mathlib.Core.Path.{sym, ◌∙◌}
 use native.Mathlib.Omega.{arith}
 use lib.Count.{leading_le}
-use Rattle.layout.specs.Laws.Byte.{varint_length-zero, varint_length-some}
-use Rattle.layout.specs.Laws.Varint.{length-varint}
+use Rattle.layout.proofs.Laws.Byte.{varint_length-zero, varint_length-some}
+use Rattle.layout.proofs.Laws.Varint.{length-varint}
 use Rattle.utils.proofs.varint_len.Goals as goal
 
 pub returns-then-v-eq0 : goal.returns-then-v-eq0

@@ -9,8 +9,8 @@ use lib.ListN.{length, get_or}
 use Rattle.layout.specs.Res.{ok}
 use Rattle.layout.specs.Place.{num_at, varint_at}
 use Rattle.layout.specs.Varint.{num}
-use Rattle.layout.specs.Laws.Place.{varint_at-is, varint_at-none}
-use Rattle.layout.specs.Laws.Varint.{reading_start, reading_good}
+use Rattle.layout.proofs.Laws.Place.{varint_at-is, varint_at-none}
+use Rattle.layout.proofs.Laws.Varint.{reading_start, reading_good}
 use Rattle.utils_decode.proofs.decode_varint.Goals as goal
 
 one_byte : (d : List ℕ) (at b : ℕ) → at < length d → b ≡ get_or d at 0 → b < 128 → ok (num_at b (at + 1)) ≡ varint_at d at

@@ -5,9 +5,9 @@ use mathlib.Core.Logic.{⊎_elim, inl, inr}
 use native.Mathlib.Omega.{arith}
 use lib.ListN.{length, get_or}
 use Rattle.layout.specs.Place.{varint_at}
-use Rattle.layout.specs.Laws.Place.{varint_at-is, varint_at-no}
-use Rattle.layout.specs.Laws.Res.{eqb-cases}
-use Rattle.layout.specs.Laws.Varint.{IsLast, Reading, reading_start, reading_low, reading_fits32, reading_fits-last, reading_end, reading_good, reading_zero, reading_more, reading_fifth}
+use Rattle.layout.proofs.Laws.Place.{varint_at-is, varint_at-no}
+use Rattle.layout.proofs.Laws.Res.{eqb-cases}
+use Rattle.layout.proofs.Laws.Varint.{IsLast, Reading, reading_start, reading_low, reading_fits32, reading_fits-last, reading_end, reading_good, reading_zero, reading_more, reading_fifth}
 use Rattle.utils_decode.specs.Parts.{ended_by}
 use Rattle.utils_decode.specs.Says.{says_varint}
 use Rattle.utils_decode.proofs.get_varint.Goals as goal

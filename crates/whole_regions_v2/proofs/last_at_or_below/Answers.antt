@@ -1,9 +1,9 @@
 use Prim.Native.Nat.{◌-◌}
 use mathlib.Core.Path.{sym, ◌∙◌}
 use native.Mathlib.Omega.{arith}
-use Rattle.layout.specs.Laws.Res.{handed}
-use Rattle.layout.specs.Laws.Number.{counting-start, counting-here}
-use Rattle.layout.specs.Laws.MatchWalk.{down-start, down-over, down-no, SpanTells, span-tells}
+use Rattle.layout.proofs.Laws.Res.{handed}
+use Rattle.layout.proofs.Laws.Number.{counting-start, counting-here}
+use Rattle.layout.proofs.Laws.MatchWalk.{down-start, down-over, down-no, SpanTells, span-tells}
 use Rattle.row_span_v2.specs.Promise.{span_from}
 use Rattle.block_regions_v2.specs.Count.{counting-span}
 use Rattle.whole_regions_v2.specs.Count.{counting-best}

@@ -6,7 +6,7 @@ use mathlib.Core.Path.{◌≡◌}
 use lib.ListN.{length}
 use Rattle.layout.specs.Number.{ended_by}
 use Rattle.layout.specs.Laws.Number.{Counting}
-use Rattle.layout.specs.Laws.MatchWalk.{MatchingDown}
+use Rattle.layout.proofs.Laws.MatchWalk.{MatchingDown}
 use Rattle.trailer.specs.Says.{region_from}
 use Rattle.whole_regions_v2.proofs.last_at_or_below.Given as goal
 

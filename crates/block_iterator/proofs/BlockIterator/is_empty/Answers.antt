@@ -1,6 +1,6 @@
 -- `is_empty` keeps its promise: 14, else whether no fewer rows are passed than the trailer counts.
 use mathlib.Core.Path.{sym}
-use Rattle.layout_v1.specs.Laws.Cursor.{empty-trailer, empty-is}
+use Rattle.layout_v1.proofs.Laws.Cursor.{empty-trailer, empty-is}
 use Rattle.trailer.specs.Plain.{trailer-is, trailer-not}
 use Rattle.trailer.specs.Says.{trailer_from}
 use Rattle.block_iterator.proofs.BlockIterator.is_empty.Goals as goal

@@ -3,7 +3,7 @@
 use mathlib.Core.Path.{◌≡◌, refl, sym, ◌∙◌}
 use Rattle.layout.specs.Res.{ok}
 use Rattle.layout.specs.Trailer.{trailer_of, all_offsets}
-use Rattle.layout_v1.specs.Laws.Cursor.{open_trailer, open_offsets, open_first, open_good}
+use Rattle.layout_v1.proofs.Laws.Cursor.{open_trailer, open_offsets, open_first, open_good}
 use Rattle.basics.specs.Answers.{yes, no, says_verdict}
 use Rattle.row_decode_v2.specs.Says.{says_key}
 use Rattle.trailer.specs.Laws.{offsets-used}

@@ -4,7 +4,7 @@ use mathlib.Core.Path.{◌≡◌, sym}
 use native.Mathlib.Omega.{arith}
 use Rattle.layout.specs.Res.{ok}
 use Rattle.layout.specs.Trailer.{trailer_of}
-use Rattle.layout_v1.specs.Laws.Cursor.{next-trailer, next_strange, next-done, next-on}
+use Rattle.layout_v1.proofs.Laws.Cursor.{next-trailer, next_strange, next-done, next-on}
 use Rattle.trailer.specs.Plain.{trailer-is, trailer-not}
 use Rattle.trailer.specs.Says.{trailer_from}
 use Rattle.block_iterator.proofs.Laws.{steps-not, steps-done, steps_as}

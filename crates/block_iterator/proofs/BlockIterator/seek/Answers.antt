@@ -3,7 +3,7 @@
 use mathlib.Core.Path.{◌≡◌, sym}
 use Rattle.layout.specs.Res.{ok}
 use Rattle.layout.specs.Trailer.{trailer_of}
-use Rattle.layout_v1.specs.Laws.Cursor.{seek-trailer}
+use Rattle.layout_v1.proofs.Laws.Cursor.{seek-trailer}
 use Rattle.basics.specs.Answers.{yes}
 use Rattle.trailer.specs.Plain.{trailer-is, trailer-not}
 use Rattle.trailer.specs.Says.{trailer_from}

@@ -5,12 +5,12 @@ use Rattle.layout.specs.Res.{ok}
 use Rattle.layout.specs.Key.{Key}
 use Rattle.layout.specs.RowRead.{times_at, RowRead, key_length, key_of}
 use Rattle.layout.specs.Trailer.{Trailer, data_of, Region, region_of}
-use Rattle.layout.specs.Laws.Res.{bind-then, ok-inj}
+use Rattle.layout.proofs.Laws.Res.{bind-then, ok-inj}
 use Rattle.layout.specs.Laws.Tells.{key_part}
 use Rattle.layout_v1.specs.RowRead.{head_at, seq_at, body_at, held_at, row_is, row_at, read_key}
 use Rattle.layout_v1.specs.Check.{before, row_numbered}
 use Rattle.layout_v1.specs.Cursor.{key_numbered}
-use Rattle.layout_v1.specs.Laws.RowReads.{RowEnds, row_at-ends, read_row-tells}
+use Rattle.layout_v1.proofs.Laws.RowReads.{RowEnds, row_at-ends, read_row-tells}
 
 pub read_key-of-row : (d : List ℕ) (at end most : ℕ) (r : RowRead) → row_at d at most ≡ ok r → r.next ≤ end → read_key d at end most ≡ ok (key_part r)
 unfolding row_at read_key

@@ -8,9 +8,9 @@ use Rattle.layout.specs.Trailer.{Trailer, trailer_of, data_of, Region, region_of
 use Rattle.layout.specs.Plain.{Plain, plain_at, plain_read}
 use Rattle.layout.specs.Number.{wrong_after}
 use Rattle.layout.specs.Cursor.{ascending, Cursor, found, step_is, past_row, next}
-use Rattle.layout.specs.Laws.Trailer.{region_of-tells}
-use Rattle.layout.specs.Laws.Cursor.{next_up, up-found}
-use Rattle.layout.specs.Laws.Plain.{plain-is}
+use Rattle.layout.proofs.Laws.Trailer.{region_of-tells}
+use Rattle.layout.proofs.Laws.Cursor.{next_up, up-found}
+use Rattle.layout.proofs.Laws.Plain.{plain-is}
 
 -- the row by the numbers that were met: p is what the test for a plain row gave
 pub plain-reads : (d : List ℕ) (at end prev_len start : ℕ) {most : ℕ} (p : Plain) → most ≡ may_share (eqb at start) prev_len → p ≡ plain_at d at end most → 0 < p.next

@@ -6,8 +6,8 @@ use Rattle.layout.specs.Key.{Key, same}
 use Rattle.layout.specs.RowRead.{value_at, head_at, KeyRead, read_key}
 use Rattle.layout.specs.Trailer.{Trailer}
 use Rattle.layout.specs.Seek.{Found, restart_key, restart_below, search_restarts, last_equal, start_down}
-use Rattle.layout.specs.Laws.Res.{bind-then, guard-then, cond-ok, ok-inj, ltb-cases}
-use Rattle.layout.specs.Laws.Search.{search-closed}
+use Rattle.layout.proofs.Laws.Res.{bind-then, guard-then, cond-ok, ok-inj, ltb-cases}
+use Rattle.layout.proofs.Laws.Search.{search-closed}
 
 -- ---- the key read alone
 

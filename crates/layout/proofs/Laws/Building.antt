@@ -8,10 +8,10 @@ use Rattle.layout.specs.Key.{Key, common}
 use Rattle.layout.specs.Row.{Fields, value_of, if_so, present, row_bytes, length_tests}
 use Rattle.layout.specs.Block.{is_restart, share_of, laid_row}
 use Rattle.layout.specs.Builder.{Builder, has_no_rows, state_tests, would_fit, add}
-use Rattle.layout.specs.Laws.Res.{bind-then}
-use Rattle.layout.specs.Laws.Builder.{StateOk, state-tells}
-use Rattle.layout.specs.Laws.Row.{length-row_bytes}
-use Rattle.layout.specs.Laws.Varint.{varint-few}
+use Rattle.layout.proofs.Laws.Res.{bind-then}
+use Rattle.layout.proofs.Laws.Builder.{StateOk, state-tells}
+use Rattle.layout.proofs.Laws.Row.{length-row_bytes}
+use Rattle.layout.proofs.Laws.Varint.{varint-few}
 
 pub restart-rule : (interval i : ℕ) → eqb (i % interval) 0 ≡ is_restart interval i
 unfolding is_restart

@@ -6,11 +6,12 @@ use borrow.Author.Tests.{lt-ltb, le-ltb}
 use Rattle.layout.specs.Res.{Res, ok, refuse}
 use Rattle.layout.specs.Fixed.{big}
 use Rattle.layout.specs.Row.{Kind, Fields, kept_length, value_of, if_so, present, flags_of, time_bytes, length_tests}
-use Rattle.layout.specs.Laws.Res.{handed}
-use Rattle.layout.specs.Laws.Row.{length-kept}
-use Rattle.layout.specs.Laws.RowWrite.{Tested, tests-refused, tests-tell}
+use Rattle.layout.proofs.Laws.Res.{handed}
+use Rattle.layout.proofs.Laws.Row.{length-kept}
+use Rattle.layout.specs.Laws.RowWrite.{Tested}
+use Rattle.layout.proofs.Laws.RowWrite.{tests-refused, tests-tell}
 use Rattle.layout_v1.specs.Row.{value_bytes_of, value_size, row_bytes, row_size, size_alone, encode_row}
-use Rattle.layout_v1.specs.Laws.Codec.{length-row_bytes}
+use Rattle.layout_v1.proofs.Laws.Codec.{length-row_bytes}
 
 -- ---- bytes
 

@@ -11,8 +11,8 @@ use Rattle.layout.specs.Trailer.{Trailer, data_of, Region, region_of, row_in}
 use Rattle.layout.specs.Check.{Passed, passed_is, read_rank, check_row, check_from}
 use Rattle.layout.specs.Cursor.{row_ending_at}
 use Rattle.layout.specs.Seek.{walk_region, last_equal, last_at_or_below}
-use Rattle.layout.specs.Laws.Res.{bind-then, guard-then, ok-inj, ltb-cases}
-use Rattle.layout.specs.Laws.Tells.{row_in-ends}
+use Rattle.layout.proofs.Laws.Res.{bind-then, guard-then, ok-inj, ltb-cases}
+use Rattle.layout.proofs.Laws.Tells.{row_in-ends}
 
 -- a fold over places up to `end`, with what it carries: past the end it stops, and a step goes on from a later place
 module _ {S A : Type 0} (fold : ℕ → ℕ → S → A) (end : ℕ) (over : (n at : ℕ) (s : S) → end ≤ at → fold n at s ≡ fold 0 at s)

@@ -11,7 +11,7 @@ use Rattle.layout.specs.Limits.{max_key, max_block, max_interval, max_offset, ma
 use Rattle.layout.specs.Key.{Key}
 use Rattle.layout.specs.Row.{Fields, value_of, length_tests}
 use Rattle.layout.specs.Builder.{Builder, fresh, new_builder, restarts_of, state_tests, at_restart, present_size, grown_size, fits, would_fit, grown, add, build}
-use Rattle.layout.specs.Laws.Res.{guard-then, eqb-cases}
+use Rattle.layout.proofs.Laws.Res.{guard-then, eqb-cases}
 
 -- ---- new
 

@@ -9,12 +9,12 @@ use Rattle.layout.specs.Place.{num_at, fixed_at}
 use Rattle.layout.specs.Row.{value, Absent}
 use Rattle.layout.specs.RowRead.{flags_is, flags_at, holds, Times, times_is, times_at}
 use Rattle.layout.specs.Plain.{Plain, plain_is, not_plain}
-use Rattle.layout.specs.Laws.Res.{ltb-cases, clash}
-use Rattle.layout.specs.Laws.Plain.{or-false, fixed_at-is, flags_at-plain}
-use Rattle.layout.specs.Laws.RowExits.{time-none, times-good}
+use Rattle.layout.proofs.Laws.Res.{ltb-cases, clash}
+use Rattle.layout.proofs.Laws.Plain.{or-false, fixed_at-is, flags_at-plain}
+use Rattle.layout.proofs.Laws.RowExits.{time-none, times-good}
 use Rattle.layout_v1.specs.RowRead.{Head, head_is, head_at, Body, body_is, body_at, span_is, HeldAt, held_is, held_at, read_row}
 use Rattle.layout_v1.specs.Plain.{spelt, plain_value, not_plain_by, not_plain_held, plain_of, plain_at, plain_read}
-use Rattle.layout_v1.specs.Laws.RowReads.{head-good, body-good, value-good, held-good, row-good, read-good}
+use Rattle.layout_v1.proofs.Laws.RowReads.{head-good, body-good, value-good, held-good, row-good, read-good}
 
 -- ---- what a plain row is
 

@@ -10,14 +10,14 @@ use Rattle.layout.specs.RowRead.{RowRead, KeyRead, key_length, key_of, joined}
 use Rattle.layout.specs.Trailer.{Trailer, trailer_of, data_of, Region, region_of, all_offsets}
 use Rattle.layout.specs.Cursor.{Direction, ascending, descending}
 use Rattle.layout.specs.Seek.{Found}
-use Rattle.layout.specs.Laws.Res.{bind-then, guard-then, ok-inj, eqb-cases}
-use Rattle.layout.specs.Laws.Match.{past-below, past-above, on_below, on-above}
-use Rattle.layout.specs.Laws.Search.{search-closed}
+use Rattle.layout.proofs.Laws.Res.{bind-then, guard-then, ok-inj, eqb-cases}
+use Rattle.layout.proofs.Laws.Match.{past-below, past-above, on_below, on-above}
+use Rattle.layout.proofs.Laws.Search.{search-closed}
 use Rattle.layout_v1.specs.RowRead.{head_at, seq_at, read_row, read_key}
 use Rattle.layout_v1.specs.Check.{before, row_numbered}
 use Rattle.layout_v1.specs.Cursor.{Cursor, cursor_is, key_numbered, the_first_key, found, done, step_is, number_of, step_to, next, open_block, is_empty}
 use Rattle.layout_v1.specs.Seek.{keeps_upper, key_passes, search_rows, passed_by, sought_is, seek}
-use Rattle.layout_v1.specs.Laws.RowReads.{head_at-tells, read_row-ends}
+use Rattle.layout_v1.proofs.Laws.RowReads.{head_at-tells, read_row-ends}
 
 -- ---- what a key that is read alone tells: its suffix lies in the data, and it shares no more than it may
 

@@ -9,9 +9,9 @@ use Rattle.layout.specs.Limits.{max_key, max_value}
 use Rattle.layout.specs.Place.{NumAt, fixed_at}
 use Rattle.layout.specs.Row.{Kind, value, tombstone, merge, key_length_tests}
 use Rattle.layout.specs.RowRead.{head_tests, held_as, gone, Flags, flags_at, Times, times_at, RowRead, key_length}
-use Rattle.layout.specs.Laws.Res.{bind-then, guard-then, ok-inj}
-use Rattle.layout.specs.Laws.Place.{fixed_at-ends}
-use Rattle.layout.specs.Laws.Tells.{head_tests-tell, times_at-ends}
+use Rattle.layout.proofs.Laws.Res.{bind-then, guard-then, ok-inj}
+use Rattle.layout.proofs.Laws.Place.{fixed_at-ends}
+use Rattle.layout.proofs.Laws.Tells.{head_tests-tell, times_at-ends}
 use Rattle.layout_v1.specs.RowRead.{Head, head_is, head_at, seq_at, Body, body_is, body_at, Span, span_is, value_at, HeldAt, held_is, held_at, row_is, row_at, read_row, key_is, read_key}
 
 -- ---- the two lengths

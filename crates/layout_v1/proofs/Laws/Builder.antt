@@ -10,8 +10,8 @@ use Rattle.layout.specs.Res.{Res, ok, refuse, bind, guard}
 use Rattle.layout.specs.Limits.{max_key, max_value, max_block, max_offset, max_restarts}
 use Rattle.layout.specs.Key.{Key, common}
 use Rattle.layout.specs.Row.{Kind, value, tombstone, merge, Fields, kept_length, value_of, if_so, key_length_tests, length_tests}
-use Rattle.layout.specs.Laws.Res.{bind-then, guard-then, ok-inj, eqb-cases}
-use Rattle.layout.specs.Laws.Tells.{key_length_tests-tells}
+use Rattle.layout.proofs.Laws.Res.{bind-then, guard-then, ok-inj, eqb-cases}
+use Rattle.layout.proofs.Laws.Tells.{key_length_tests-tells}
 use Rattle.layout_v1.specs.Row.{least_row, value_size, row_bytes, row_size}
 use Rattle.layout_v1.specs.Block.{laid_row}
 use Rattle.layout_v1.specs.Builder.{Builder, fresh, new_builder, has_no_rows, state_tests, shared_key, next_row, present_size, fits, would_fit, grown, add, build}

@@ -10,9 +10,9 @@ use Rattle.layout.specs.RowRead.{RowRead, key_length, key_of}
 use Rattle.layout.specs.Trailer.{Trailer, trailer_of, data_of, Region, region_of, all_offsets, row_in}
 use Rattle.layout.specs.Number.{number_at, wrong_after}
 use Rattle.layout.specs.Cursor.{Direction, ascending, descending, Cursor, marked, found, done, step_is, past_row, step_up, Keyed, keyed, row_ending_at, back_past, step_back_in, step_down, next, opened_up, opened_down, open_along, open_block, exhausted, is_empty}
-use Rattle.layout.specs.Laws.Res.{bind-then, guard-then, cond-ok, ok-inj}
-use Rattle.layout.specs.Laws.Carry.{key_of-length}
-use Rattle.layout.specs.Laws.Tells.{row_in-ends}
+use Rattle.layout.proofs.Laws.Res.{bind-then, guard-then, cond-ok, ok-inj}
+use Rattle.layout.proofs.Laws.Carry.{key_of-length}
+use Rattle.layout.proofs.Laws.Tells.{row_in-ends}
 
 -- ---- opening
 
