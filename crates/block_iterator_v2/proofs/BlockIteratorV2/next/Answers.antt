@@ -5,4 +5,4 @@ use Rattle.block_iterator_v2.proofs.BlockIteratorV2.next.Goals as goal
 
 pub returns : goal.returns
 returns c =
-    steps-put c.args.t1 _ _ _ _ c.next_in_array-moved.ensures c.place_after-place.ensures c.answer_of.ensures
+    steps-put c.args.self _ _ _ _ c.next_in_array-moved.ensures c.place_after-place.ensures c.answer_of.ensures

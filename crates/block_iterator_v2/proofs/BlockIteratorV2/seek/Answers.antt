@@ -4,4 +4,4 @@ use Rattle.block_iterator_v2.proofs.Laws.{seeks-put}
 use Rattle.block_iterator_v2.proofs.BlockIteratorV2.seek.Goals as goal
 
 pub returns : goal.returns
-returns c = seeks-put c.args.t1 _ _ _ c.seek_in_array-found.ensures c.place_sought-left.ensures c.answer_sought.ensures
+returns c = seeks-put c.args.self _ _ _ c.seek_in_array-found.ensures c.place_sought-left.ensures c.answer_sought.ensures

@@ -8,7 +8,7 @@ use Rattle.block_v1.proofs.Writes.{adds}
 use Rattle.block_v1.proofs.BlockBuilderV1.add.Goals.{Start}
 use Rattle.block_v1.proofs.BlockBuilderV1.add.Goals as goal
 
-long : (c : Start) → length c.args.t1.first_key ≡ max_key
+long : (c : Start) → length c.args.self.first_key ≡ max_key
 long c = search rules
 
 pub returns : goal.returns

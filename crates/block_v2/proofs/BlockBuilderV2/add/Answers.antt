@@ -8,7 +8,7 @@ use Rattle.block_v2.proofs.Writes.{adds-not, adds-good}
 use Rattle.block_v2.proofs.BlockBuilderV2.add.Goals.{Start}
 use Rattle.block_v2.proofs.BlockBuilderV2.add.Goals as goal
 
-long : (c : Start) → length c.args.t1.last_key ≡ max_key
+long : (c : Start) → length c.args.self.last_key ≡ max_key
 long c = search rules
 
 pub returns-in-Row : goal.returns-in-Row
