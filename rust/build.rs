@@ -11,11 +11,11 @@ fn fail(why: String) -> ! {
     exit(1)
 }
 
-fn folder() -> PathBuf {
+fn folder(name: &str) -> PathBuf {
     let crate_folder = env::var_os("CARGO_MANIFEST_DIR").unwrap_or_default();
     // a relative name starts at the crate's folder, where a build script runs
     let named = env::var_os(FOLDER).map(PathBuf::from);
-    Path::new(&crate_folder).join(named.unwrap_or_else(|| Path::new("..").join("target").join("staticlib")))
+    Path::new(&crate_folder).join(named.unwrap_or_else(|| Path::new("..").join("crates").join(name).join("out")))
 }
 
 fn main() {
@@ -27,17 +27,17 @@ fn main() {
             fail("the library is for 64-bit Linux on x86-64: give --target x86_64-unknown-linux-gnu (README.md says what that needs)".into());
         }
     }
-    let folder = folder();
     for name in ["slatedb_block", "slatedb_block_v1", "slatedb_journal"] {
+        let folder = folder(name);
         let library = folder.join(format!("lib{name}.a"));
         if !library.is_file() {
             fail(format!(
-                "{} is missing: run `rt staticlib {name}` in the project's folder, or name the libraries' folder in {FOLDER}",
+                "{} is missing: run `rt lib` in the project's crates/{name}, or name the libraries' folder in {FOLDER}",
                 library.display()
             ));
         }
         println!("cargo:rerun-if-changed={}", library.display());
+        println!("cargo:rustc-link-search=native={}", folder.display());
         println!("cargo:rustc-link-lib=static={name}");
     }
-    println!("cargo:rustc-link-search=native={}", folder.display());
 }
