@@ -12,13 +12,13 @@ use Rattle.compare_walks.proofs.run.Goals as goal
 
 share-is : (j : Joined-at-g)
     → j.if-at-g.most ≡ may_share (eqb j.loop-rows.p.at j.args.b.region.start) j.loop-rows.p.key_len
-share-is j = elim j.if-at-g.branch [ then-at-g b ↦ b.share-is ∙ share-none j.loop-rows.p.at j.args.b.region.start j.loop-rows.p.key_len b.if-at-g.true | else-at-g b ↦ b.share-is ∙ share-key j.loop-rows.p.at j.args.b.region.start j.loop-rows.p.key_len b.if-at-g.false ]
+share-is j = elim j.if-at-g.branch [ then-at-g b ↦ b.most-is ∙ share-none j.loop-rows.p.at j.args.b.region.start j.loop-rows.p.key_len b.if-at-g.true | else-at-g b ↦ b.most-is ∙ share-key j.loop-rows.p.at j.args.b.region.start j.loop-rows.p.key_len b.if-at-g.false ]
 
 -- a plain row that was met
 fits : (k : Else-row-eq0) → PlainFits (length (take k.args.b.size k.args.block.now)) k.loop-rows.p.at k.plain_at-row.result
 fits k =
     let l = k.loop-rows in
-    plain_fits k.args.block.now k.args.b.size (region_from k.args.b.region) l.p l.key l.invariant.1 l.invariant.2 k.plain_at-row.result (elim k.if-at-g.branch [ then-at-g b ↦ b.share-is ∙ share-none k.loop-rows.p.at k.args.b.region.start k.loop-rows.p.key_len b.if-at-g.true | else-at-g b ↦ b.share-is ∙ share-key k.loop-rows.p.at k.args.b.region.start k.loop-rows.p.key_len b.if-at-g.false ]) k.plain_at-row.ensures k.if-row-eq0.false
+    plain_fits k.args.block.now k.args.b.size (region_from k.args.b.region) l.p l.key l.invariant.1 l.invariant.2 k.plain_at-row.result (elim k.if-at-g.branch [ then-at-g b ↦ b.most-is ∙ share-none k.loop-rows.p.at k.args.b.region.start k.loop-rows.p.key_len b.if-at-g.true | else-at-g b ↦ b.most-is ∙ share-key k.loop-rows.p.at k.args.b.region.start k.loop-rows.p.key_len b.if-at-g.false ]) k.plain_at-row.ensures k.if-row-eq0.false
 
 pub loop-rows-init : goal.loop-rows-init
 loop-rows-init c =
