@@ -49,7 +49,7 @@ steps-stop s zero left h l stop = absurd (omega arith)
 steps-stop {b} {room} {c} none (suc n) left h l stop =
     let same : left ≡ room = omega arith in
     (rw same at stop) (λ d key. rows_from n d b (room - length key))
-steps-stop (more {ks = ks} d k e s) (suc n) left h l stop = rw e (ap (with_row k) (steps-stop s n left (omega arith) (omega (arith, length-append k.key (keys_of ks))) stop))
+steps-stop {room = room} (more {ks = ks} d k e s) (suc n) left h l stop = rw e (ap (with_row k) (steps-stop {room = room - length k.key} s n left (omega arith) (omega (arith, length-append k.key (keys_of ks))) stop))
 
 -- what a call answers then
 pub rows-given : {b : List ℕ} {room : ℕ} {c d : Cursor} {ks : List Given} → Steps b room c ks d → (n : ℕ) → (length ks ≡ 0 → n ≡ 0) → rows_from n c b room ≡ run_is false d ks

@@ -1,6 +1,6 @@
 use Prim.Native.Nat.{◌+◌, ◌-◌, ◌^◌, ◌<◌}
+use borrow.Author.Rules.{rules}
 use mathlib.Core.Path.{◌≡◌, refl, sym, ◌∙◌}
-use mathlib.Core.Logic.{⊎_elim}
 use native.Mathlib.Omega.{arith}
 use lib.Dec.{eqb}
 use lib.ListN.{length, take}
@@ -16,21 +16,18 @@ use Rattle.trailer.specs.Says.{region_from}
 use Rattle.place_v2.specs.Says.{view_in}
 use Rattle.region_rows_v2.specs.Region.{PlainFits, here-fits, inside-long, inside-region, inside-counts, share-none, share-key}
 use Rattle.block_rows_v2.proofs.Plain.{runs_to, given-key, given-over, given_stays, given_inside}
-use Rattle.block_rows_v2.proofs.run.Goals.{After-put_nth, Else-row-eq0, Joined-at-g}
+use Rattle.block_rows_v2.proofs.run.Goals.{then-at-g, else-at-g, After-put_nth, Else-row-eq0, Joined-at-g}
 use Rattle.block_rows_v2.proofs.run.Goals as goal
 
 share-is : (j : Joined-at-g)
     → j.if-at-g.share ≡ may_share (eqb j.loop-n.p.at j.args.b.region.start) j.loop-n.p.key_len
-share-is j =
-    let p = j.loop-n.p in
-    let g = j.args.b.region in
-    ⊎_elim (λ w. w.1 ∙ share-none p.at g.start p.key_len w.0.taken) (λ w. w.1 ∙ share-key p.at g.start p.key_len w.0.left) j.if-at-g.branch
+share-is j = elim j.if-at-g.branch [ then-at-g b ↦ b.share-is ∙ share-none j.loop-n.p.at j.args.b.region.start j.loop-n.p.key_len b.if-at-g.true | else-at-g b ↦ b.share-is ∙ share-key j.loop-n.p.at j.args.b.region.start j.loop-n.p.key_len b.if-at-g.false ]
 
 -- a plain row that was met
 fits : (k : Else-row-eq0) → PlainFits (length (take k.args.b.size k.args.block.now)) k.loop-n.p.at k.plain_at-row.result
 fits k =
     let l = k.loop-n in
-    here-fits k.args.block.now k.args.b.size (region_from k.args.b.region) l.p l.key l.invariant.1 (plain_from k.plain_at-row.result) (let p = k.loop-n.p in let g = k.args.b.region in ⊎_elim (λ w. w.1 ∙ share-none p.at g.start p.key_len w.0.taken) (λ w. w.1 ∙ share-key p.at g.start p.key_len w.0.left) k.if-at-g.branch) k.plain_at-row.ensures k.if-row-eq0.false k.plain_at-row.result refl
+    here-fits k.args.block.now k.args.b.size (region_from k.args.b.region) l.p l.key l.invariant.1 (plain_from k.plain_at-row.result) (elim k.if-at-g.branch [ then-at-g b ↦ b.share-is ∙ share-none k.loop-n.p.at k.args.b.region.start k.loop-n.p.key_len b.if-at-g.true | else-at-g b ↦ b.share-is ∙ share-key k.loop-n.p.at k.args.b.region.start k.loop-n.p.key_len b.if-at-g.false ]) k.plain_at-row.ensures k.if-row-eq0.false k.plain_at-row.result refl
 
 data_long : (k : Else-row-eq0) → length (take k.args.b.size k.args.block.now) ≡ k.args.b.size
 data_long k =
@@ -46,7 +43,7 @@ key-given : (w : After-put_nth) → let l = w.loop-n in
     (put_mid l.used (length l.keys - l.used) l.keys w.carry.new.out) (l.used + (w.plain_at-row.result.shared + w.plain_at-row.result.unshared))
 key-given w =
     let l = w.loop-n in
-    given-key w.args.block.now w.args.b.size (region_from w.args.b.region) l.p l.key l.invariant.1 l.invariant.2 w.plain_at-row.result (let p = w.loop-n.p in let g = w.args.b.region in ⊎_elim (λ w. w.1 ∙ share-none p.at g.start p.key_len w.0.taken) (λ w. w.1 ∙ share-key p.at g.start p.key_len w.0.left) w.if-at-g.branch) w.plain_at-row.ensures w.if-row-eq0.false l.keys l.used l.n l.invariant.3 w.if-keys-used.false w.carry.ensures (w.row_of.ensures) w.put_nth.ensures
+    given-key w.args.block.now w.args.b.size (region_from w.args.b.region) l.p l.key l.invariant.1 l.invariant.2 w.plain_at-row.result (elim w.if-at-g.branch [ then-at-g b ↦ b.share-is ∙ share-none w.loop-n.p.at w.args.b.region.start w.loop-n.p.key_len b.if-at-g.true | else-at-g b ↦ b.share-is ∙ share-key w.loop-n.p.at w.args.b.region.start w.loop-n.p.key_len b.if-at-g.false ]) w.plain_at-row.ensures w.if-row-eq0.false l.keys l.used l.n l.invariant.3 w.if-keys-used.false w.carry.ensures (w.row_of.ensures) w.put_nth.ensures
 
 pub loop-n-init : goal.loop-n-init
 loop-n-init c =
@@ -107,14 +104,14 @@ overflow_add-n c =
 pub overflow_add-used : goal.overflow_add-used
 overflow_add-used c =
     let l = c.loop-n in
-    let long : length c.args.keys.now < 2 ^ 64 = c.well_formed.1.1.1.0.0 in
+    let long : length c.args.keys.now < 2 ^ 64 = search rules in
     let same : length l.keys ≡ length c.args.keys.now = l.invariant.4 in
     omega (arith, c.if-keys-used.false, l.invariant.3)
 
 pub overflow_add-p : goal.overflow_add-p
 overflow_add-p c =
     let l = c.loop-n in
-    let long : length c.args.block.now < 2 ^ 64 = c.well_formed.0.0 in
+    let long : length c.args.block.now < 2 ^ 64 = search rules in
     omega (arith, inside-region c.args.block.now c.args.b.size (region_from c.args.b.region) (view_in l.p l.key) l.invariant.1)
 
 pub shape_of-key-then-g-row : goal.shape_of-key-then-g-row
@@ -140,7 +137,7 @@ returns-then-g-row c =
 pub overflow_add-p-in-loop-n : goal.overflow_add-p-in-loop-n
 overflow_add-p-in-loop-n c =
     let l = c.loop-n in
-    let long : length c.args.block.now < 2 ^ 64 = c.well_formed.0.0 in
+    let long : length c.args.block.now < 2 ^ 64 = search rules in
     let f = fits (goal.at.overflow_add-p-in-loop-n c).Else-row-eq0 in
     omega (arith, inside-counts c.args.block.now c.args.b.size (region_from c.args.b.region) (view_in l.p l.key) l.invariant.1, f.ends, f.inside, data_long (goal.at.overflow_add-p-in-loop-n c).Else-row-eq0, (trailer_of-tells c.args.block.now _ l.invariant.1.read).0)
 

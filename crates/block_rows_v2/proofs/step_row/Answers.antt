@@ -1,4 +1,5 @@
 -- `step_row` keeps its promise: a row that is found is given behind those before it; each exit where none is, is one law of what was given (`Gone`).
+use borrow.Author.Rules.{rules}
 use Prim.Native.Nat.{ℕ, ◌+◌, ◌-◌, ◌^◌, ◌<◌}
 use mathlib.Core.Path.{◌≡◌, refl, ap, sym, ◌∙◌}
 use mathlib.Core.List.{List}
@@ -43,12 +44,12 @@ overflow_add-result c = omega (arith, (row-found (goal.at.overflow_add-result c)
 
 pub overflow_add-result-in-Found : goal.overflow_add-result-in-Found
 overflow_add-result-in-Found c =
-    let long : length c.args.keys.now < 2 ^ 64 = c.well_formed.1.1.0.0 in
+    let long : length c.args.keys.now < 2 ^ 64 = search rules in
     omega (arith, key_fits c.args.here.used c.args.keys.now c.requires.roomy.inside (row-found (goal.at.overflow_add-result-in-Found c).In-Found))
 
 pub overflow_add-result-in-Found-2 : goal.overflow_add-result-in-Found-2
 overflow_add-result-in-Found-2 c =
-    let long : length c.args.rows.now < 2 ^ 64 = c.well_formed.1.1.1.0.0 in
+    let long : length c.args.rows.now < 2 ^ 64 = search rules in
     omega (arith, c.requires.roomy.words)
 
 pub returns-in-Found : goal.returns-in-Found

@@ -16,5 +16,5 @@ returns-then-key-ne-MAX_KEY c = iterator_no-key _ _ _ c.if-cursor-ne-CURSOR_WORD
 
 pub returns : goal.returns
 returns c =
-    let whole : length c.args.t3.key ≡ max_key = search rules in
-    iterator_put c.args.t3 _ _ c.if-cursor-ne-CURSOR_WORDS.false c.if-key-ne-MAX_KEY.false (stored c.if-cursor-ne-CURSOR_WORDS.false c.put_cursor.ensures) (copied-whole c.args.t3.key c.if-key-ne-MAX_KEY.false whole c.copy_in.ensures)
+    let whole : length c.args.c.key ≡ max_key = search rules in
+    iterator_put c.args.c _ _ c.if-cursor-ne-CURSOR_WORDS.false c.if-key-ne-MAX_KEY.false (stored c.if-cursor-ne-CURSOR_WORDS.false c.put_cursor.ensures) (copied-whole c.args.c.key c.if-key-ne-MAX_KEY.false whole c.copy_in.ensures)

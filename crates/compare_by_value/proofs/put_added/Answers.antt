@@ -10,8 +10,8 @@ use Rattle.compare_by_value.proofs.put_added.Goals as goal
 
 pub returns : goal.returns
 returns c =
-    let whole : length c.args.t3.last_key ≡ max_key = search rules in
+    let whole : length c.args.b.last_key ≡ max_key = search rules in
     record {
       words = stored c.requires.0 c.put_state.ensures;
-      bytes = copied-whole c.args.t3.last_key c.requires.1 whole c.copy_in.ensures;
+      bytes = copied-whole c.args.b.last_key c.requires.1 whole c.copy_in.ensures;
     }

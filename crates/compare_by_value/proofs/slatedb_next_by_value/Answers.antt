@@ -30,12 +30,12 @@ told k =
     step-tells s.cursor.now s.key.now s.row.now _ (yes (says_cursor s.key.now) k.step_in-loaded.ensures k.in-Is.is)
 
 -- what is put back with the cursor
-module _ (k : tie.After-loaded) {c : BlockIteratorV2} {r : Bool} {ws' key' : List ℕ} (p : PutsIterator c (entry k.before.before).args.cursor.now (entry k.before.before).args.key.now r ws' key') where
+module _ (k : In-Is) {c : BlockIteratorV2} {r : Bool} {ws' key' : List ℕ} (p : PutsIterator c k.args.cursor.now k.args.key.now r ws' key') where
   words-put : ws' ≡ cursor_words (view_of c)
-  words-put = put-words c (entry k.before.before).args.cursor.now (entry k.before.before).args.key.now (cursor-counts _ _ _ (told k).2) (told k).1 p
+  words-put = put-words c k.args.cursor.now k.args.key.now (cursor-counts _ _ _ (told k).2) (told k).1 p
 
   bytes-put : key' ≡ c.key
-  bytes-put = put-bytes c (entry k.before.before).args.cursor.now (entry k.before.before).args.key.now (cursor-counts _ _ _ (told k).2) (told k).1 p
+  bytes-put = put-bytes c k.args.cursor.now k.args.key.now (cursor-counts _ _ _ (told k).2) (told k).1 p
 
 pub returns-in_default : goal.returns-in_default
 returns-in_default c =
@@ -48,12 +48,12 @@ iterator_over-requires c = (told (goal.at.iterator_over-requires c).In-Is).1
 pub returns-in-Found : goal.returns-in-Found
 returns-in-Found c =
     let t = told (goal.at.returns-in-Found c).In-Is in
-    next-found _ c.args.cursor.now c.args.key.now c.args.out.now c.args.row.now _ t.0 t.1 t.2 _ _ (rw c.iterator_over.ensures at c.next-next.ensures) c.in-Found.is (words-put c c.put_iterator.ensures) (bytes-put c c.put_iterator.ensures) (stored t.0 c.put_row.ensures)
+    next-found _ c.args.cursor.now c.args.key.now c.args.out.now c.args.row.now _ t.0 t.1 t.2 _ _ (rw c.iterator_over.ensures at c.next-next.ensures) c.in-Found.is (words-put (goal.at.returns-in-Found c).In-Is c.put_iterator.ensures) (bytes-put (goal.at.returns-in-Found c).In-Is c.put_iterator.ensures) (stored t.0 c.put_row.ensures)
 
 pub returns-in-Done : goal.returns-in-Done
 returns-in-Done c =
     let t = told (goal.at.returns-in-Done c).In-Is in
-    next-done _ c.args.cursor.now c.args.key.now c.args.out.now c.args.row.now _ t.0 t.1 t.2 _ _ (rw c.iterator_over.ensures at c.next-next.ensures) c.in-Done.is (words-put c c.put_iterator-in-Done.ensures) (bytes-put c c.put_iterator-in-Done.ensures)
+    next-done _ c.args.cursor.now c.args.key.now c.args.out.now c.args.row.now _ t.0 t.1 t.2 _ _ (rw c.iterator_over.ensures at c.next-next.ensures) c.in-Done.is (words-put (goal.at.returns-in-Done c).In-Is c.put_iterator-in-Done.ensures) (bytes-put (goal.at.returns-in-Done c).In-Is c.put_iterator-in-Done.ensures)
 
 pub returns-in-Refused : goal.returns-in-Refused
 returns-in-Refused c =

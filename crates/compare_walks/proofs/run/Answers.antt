@@ -1,4 +1,4 @@
-use Rattle.std.proofs.Common.{◌≡◌, ◌+◌, ◌-◌, ◌^◌, ◌<◌, eqb, length, take, sym, ◌∙◌, ⊎_elim, arith, rules}
+use Rattle.std.proofs.Common.{◌≡◌, ◌+◌, ◌-◌, ◌^◌, ◌<◌, eqb, length, take, sym, ◌∙◌, arith, rules}
 use Rattle.layout.specs.Res.{Res}
 use Rattle.layout.specs.RowRead.{may_share}
 use Rattle.trailer.specs.Says.{region_from}
@@ -7,21 +7,18 @@ use Rattle.region_rows_v2.specs.Region.{PlainFits, moved_to, inside-long, inside
 use Rattle.compare_walks.specs.Walk.{Walk}
 use Rattle.compare_walks.specs.Loop.{Walking}
 use Rattle.compare_walks.proofs.Plain.{plain_fits, plain_over, plain-stays, plain-inside}
-use Rattle.compare_walks.proofs.run.Goals.{Else-row-eq0, Joined-at-g}
+use Rattle.compare_walks.proofs.run.Goals.{then-at-g, else-at-g, Else-row-eq0, Joined-at-g}
 use Rattle.compare_walks.proofs.run.Goals as goal
 
 share-is : (j : Joined-at-g)
     → j.if-at-g.most ≡ may_share (eqb j.loop-rows.p.at j.args.b.region.start) j.loop-rows.p.key_len
-share-is j =
-    let p = j.loop-rows.p in
-    let g = j.args.b.region in
-    ⊎_elim (λ w. w.1 ∙ share-none p.at g.start p.key_len w.0.taken) (λ w. w.1 ∙ share-key p.at g.start p.key_len w.0.left) j.if-at-g.branch
+share-is j = elim j.if-at-g.branch [ then-at-g b ↦ b.most-is ∙ share-none j.loop-rows.p.at j.args.b.region.start j.loop-rows.p.key_len b.if-at-g.true | else-at-g b ↦ b.most-is ∙ share-key j.loop-rows.p.at j.args.b.region.start j.loop-rows.p.key_len b.if-at-g.false ]
 
 -- a plain row that was met
 fits : (k : Else-row-eq0) → PlainFits (length (take k.args.b.size k.args.block.now)) k.loop-rows.p.at k.plain_at-row.result
 fits k =
     let l = k.loop-rows in
-    plain_fits k.args.block.now k.args.b.size (region_from k.args.b.region) l.p l.key l.invariant.1 l.invariant.2 k.plain_at-row.result (let p = k.loop-rows.p in let g = k.args.b.region in ⊎_elim (λ w. w.1 ∙ share-none p.at g.start p.key_len w.0.taken) (λ w. w.1 ∙ share-key p.at g.start p.key_len w.0.left) k.if-at-g.branch) k.plain_at-row.ensures k.if-row-eq0.false
+    plain_fits k.args.block.now k.args.b.size (region_from k.args.b.region) l.p l.key l.invariant.1 l.invariant.2 k.plain_at-row.result (elim k.if-at-g.branch [ then-at-g b ↦ b.most-is ∙ share-none k.loop-rows.p.at k.args.b.region.start k.loop-rows.p.key_len b.if-at-g.true | else-at-g b ↦ b.most-is ∙ share-key k.loop-rows.p.at k.args.b.region.start k.loop-rows.p.key_len b.if-at-g.false ]) k.plain_at-row.ensures k.if-row-eq0.false
 
 pub loop-rows-init : goal.loop-rows-init
 loop-rows-init c =
@@ -48,7 +45,7 @@ pass_plain-sum-requires c = (c.loop-rows.invariant.2, fits (goal.at.pass_plain-s
 pub overflow_add-p : goal.overflow_add-p
 overflow_add-p c =
     let l = c.loop-rows in
-    let long : length c.args.block.now < 2 ^ 64 = c.well_formed.0.0 in
+    let long : length c.args.block.now < 2 ^ 64 = search rules in
     omega (arith, inside-region c.args.block.now c.args.b.size (region_from c.args.b.region) (view_in l.p l.key) l.invariant.1)
 
 pub returns-then-g-row : goal.returns-then-g-row

@@ -42,7 +42,7 @@ returns-then-out-ne-MAX_KEY c = (so_far (goal.at.returns-then-out-ne-MAX_KEY c).
 
 pub step_row-went-requires : goal.step_row-went-requires
 step_row-went-requires c =
-    (whole (goal.at.step_row-went-requires c).After-run_here-here ∙ c.requires, c.if-out-ne-MAX_KEY.false, omega (arith, few (goal.at.step_row-went-requires c).Then-here-before, c.well_formed.1.1.1.1.0))
+    (whole (goal.at.step_row-went-requires c).After-run_here-here ∙ c.requires, c.if-out-ne-MAX_KEY.false, omega (arith, few (goal.at.step_row-went-requires c).Then-here-before))
 
 pub shape_of-carried-in_default : goal.shape_of-carried-in_default
 shape_of-carried-in_default c = carried-kept (goal.at.shape_of-carried-in_default c).After-step_row-went
@@ -56,7 +56,7 @@ returns-in_default c =
 
 pub loop-here-smaller-then-here-before : goal.loop-here-smaller-then-here-before
 loop-here-smaller-then-here-before c =
-    omega (arith, one_more _ c.step_row-went.ensures.1 c.in-On.is, few (goal.at.loop-here-smaller-then-here-before c).Then-here-before, c.if-here-before.true)
+    omega (arith, one_more c.run_here-here.result c.step_row-went.ensures.1 c.in-On.is, few (goal.at.loop-here-smaller-then-here-before c).Then-here-before, c.if-here-before.true)
 
 pub loop-here-preserved-then-here-before : goal.loop-here-preserved-then-here-before
 loop-here-preserved-then-here-before c =

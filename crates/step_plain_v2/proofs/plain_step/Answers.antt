@@ -28,10 +28,10 @@ pub overflow_sub-seq_at : goal.overflow_sub-seq_at
 overflow_sub-seq_at c = let f = facts (goal.at.overflow_sub-seq_at c).Else-row-eq0 in omega (arith, f.ends)
 
 pub overflow_add-region : goal.overflow_add-region
-overflow_add-region c = let good = c.well_formed in omega (arith, (facts (goal.at.overflow_add-region c).Else-row-eq0).counted)
+overflow_add-region c = omega (arith, (facts (goal.at.overflow_add-region c).Else-row-eq0).counted)
 
 pub overflow_add-number : goal.overflow_add-number
-overflow_add-number c = let f = facts (goal.at.overflow_add-number c).Else-row-eq0 in let good = c.well_formed in omega (arith, f.passed, f.ends, f.inside)
+overflow_add-number c = let f = facts (goal.at.overflow_add-number c).Else-row-eq0 in omega (arith, f.passed, f.ends, f.inside)
 
 pub overflow_add-row : goal.overflow_add-row
 overflow_add-row c = let f = facts (goal.at.overflow_add-row c).Else-row-eq0 in omega (arith, f.shared-small, f.unshared-small)

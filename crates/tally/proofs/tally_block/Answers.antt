@@ -9,7 +9,8 @@ loop-left-init c = (fold_start c.args.t.now c.args.block.now c.open-opened.resul
 pub loop-left-preserved : goal.loop-left-preserved
 loop-left-preserved c =
     let l = c.loop-left in
-    (fold-passed _ _ _ _ _ _ l.invariant.0 c.loop-left-test.true l.invariant.1 l.invariant.2 _ _ _ c.step-passed.ensures _ c.tally_row.ensures, ?, ?)
+    (fold-passed _ _ _ _ _ _ l.invariant.0 c.loop-left-test.true l.invariant.1 l.invariant.2 _ _ _ c.step-passed.ensures _ c.tally_row.ensures,
+    c.type_inv.carried, c.type_inv.key)
 
 pub returns : goal.returns
 returns c = fold-whole _ _ _ _ c.loop-left.invariant.0 (omega arith)
