@@ -7,7 +7,7 @@ use Rattle.std.proofs.Math.Bool.{true, false}
 use mathlib.Core.List.{List, [], ◌++◌}
 use Rattle.std.proofs.Math.Seq.{take-nil}
 use Rattle.layout.specs.Res.{Res, ok, refuse, bind, guard}
-use Rattle.layout.specs.Key.{Key, common}
+use Rattle.layout.specs.Key.{Key}
 use Rattle.layout.specs.RowRead.{KeyRead, joined}
 use Rattle.layout.specs.Trailer.{Trailer, trailer_of, data_of, Region, region_of}
 use Rattle.layout.specs.Cursor.{Direction}

@@ -1,11 +1,9 @@
 -- A cursor's words that are loaded, and a row's words that are stored, over plain variables: what the exits of the functions here, and of the exports above, use.
 -- What is loaded is the definition's once its tests are known; the row's number is stored behind a single row's words.
 use Prim.Native.Nat.{ℕ}
-use mathlib.Core.Bool.{not}
 use mathlib.Core.Path.{◌≡◌, refl, sym, subst, ◌∙◌}
 use mathlib.Core.List.{List, [], ◌∷◌, ◌++◌}
 use native.Mathlib.Omega.{arith}
-use lib.Dec.{eqb}
 use lib.ListN.{length, set, drop, length-append, length-drop}
 use Rattle.layout.specs.Res.{ok, refuse}
 use Rattle.layout.specs.RowRead.{RowRead}

@@ -1,5 +1,5 @@
 -- What each case of an answer says: the words as the cases and structs of the crates below. No two cases say the same.
-use Rattle.std.specs.Prelude.{ℕ, ◌≡◌, refl}
+use Rattle.std.specs.Prelude.{◌≡◌, refl}
 use Rattle.std.proofs.Common.{ap, sym}
 use Rattle.layout.specs.Res.{Res, ok, refuse}
 use Rattle.layout.specs.Cursor.{Direction}

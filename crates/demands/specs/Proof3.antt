@@ -1,6 +1,6 @@
 -- Demand 3, proved: a run makes the block of its accepted rows (`Made`), such a block is read back (`laid-block`), and a read has one outcome; so equal blocks have
 -- equal rows. Rows after one key: what is read of one's bytes depends on no byte past its end.
-use Rattle.std.specs.Prelude.{ℕ, ◌+◌, ◌≤◌, ◌≡◌, refl, Bool, false, List, [], ◌∷◌, ◌++◌, map, ltb, length}
+use Rattle.std.specs.Prelude.{ℕ, ◌≤◌, ◌≡◌, refl, Bool, false, List, [], ◌∷◌, ◌++◌, map, ltb, length}
 use Rattle.std.proofs.Common.{ap, sym, ◌∙◌, append-nil, arith, length-append, le-ltb, ltb-false}
 use Rattle.layout.specs.Res.{ok}
 use Rattle.layout.specs.Limits.{max_key}

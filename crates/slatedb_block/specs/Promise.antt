@@ -1,7 +1,7 @@
 -- What each function promises: the code that it answers, and what each lent word and byte is after it, as equations to the definitions of `layout`.
 -- `AddsFlat` and `StepsFlat`, which the functions by value keep too, are in `Exports` of `builder_words` and of `block_words`, `SeeksFlat` in `seek_words`.
 use Rattle.std.specs.Prelude.{ℕ, ◌≡◌, List, [], length}
-use Rattle.layout.specs.Res.{Res, ok, refuse, bind}
+use Rattle.layout.specs.Res.{Res, ok, bind}
 use Rattle.layout.specs.Limits.{max_key}
 use Rattle.layout.specs.Key.{Key}
 use Rattle.layout.specs.Row.{encode_row, written}

@@ -10,7 +10,7 @@ use borrow.Author.Tests.{eq-eqb, ne_eqb}
 use Rattle.layout.specs.Res.{Res, ok, refuse, bind}
 use Rattle.layout.specs.RowRead.{RowRead as RowReadL}
 use Rattle.layout.proofs.Laws.Res.{ok-inj}
-use Rattle.layout_v1.specs.Cursor.{Cursor, Answer, found, done, Step, step_is, next, key_after, is_empty}
+use Rattle.layout_v1.specs.Cursor.{Cursor, Answer, found, done, Step, step_is, next, key_after}
 use Rattle.layout_v1.specs.Seek.{Sought as SoughtL, sought_is, seek}
 use Rattle.basics.specs.Answers.{apart, yes}
 use Rattle.basics.specs.Number.{number}

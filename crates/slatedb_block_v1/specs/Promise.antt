@@ -9,7 +9,7 @@ use Rattle.layout_v1.specs.Row.{size_alone, encode_row}
 use Rattle.layout_v1.specs.RowRead.{decode_row}
 use Rattle.layout_v1.specs.Builder.{Builder, new_builder, has_no_rows, would_fit, add, build, data_after_of, places_after_of, block_after_of}
 use Rattle.layout_v1.specs.Check.{check}
-use Rattle.layout_v1.specs.Cursor.{Cursor, Answer, found, done, Step, open_block, is_empty, next, key_after}
+use Rattle.layout_v1.specs.Cursor.{Answer, found, done, Step, open_block, is_empty, next, key_after}
 use Rattle.layout_v1.specs.Seek.{Sought, seek}
 use Rattle.row_words.specs.Words.{done_code, code_of, set_by, counted, truth_word, order_in, fields_in, single_words, single_count}
 use Rattle.row_words.specs.Flat.{Sets}

@@ -73,9 +73,8 @@ pub overflow_add-result : goal.overflow_add-result
 overflow_add-result c = omega (arith, (its (goal.at.overflow_add-result c).Start).1, (its (goal.at.overflow_add-result c).Start).0)
 
 pub returns : goal.returns
-returns c =
-    (
-      omega arith,
-      walk-on c.args.block.now (trailer_from c.args.t) c.args.p c.requires.stands (its (goal.at.returns c).Start).1 _ (used (goal.at.returns c).Else-g-eq0) _ (read (goal.at.returns c).In-Read)
-          c.order_of-order.ensures c.may_follow.ensures (not-false _ (ap not c.if-not-may_follow.false)) c.requires.t_value _ c.first_after.ensures,
-    )
+returns c = (
+  omega arith,
+  walk-on c.args.block.now (trailer_from c.args.t) c.args.p c.requires.stands (its (goal.at.returns c).Start).1 _ (used (goal.at.returns c).Else-g-eq0) _ (read (goal.at.returns c).In-Read)
+      c.order_of-order.ensures c.may_follow.ensures (not-false _ (ap not c.if-not-may_follow.false)) c.requires.t_value _ c.first_after.ensures,
+)

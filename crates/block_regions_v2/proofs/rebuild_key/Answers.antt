@@ -1,6 +1,6 @@
 use mathlib.Core.Path.{refl, ap, ◌∙◌}
 use lib.ListN.{take}
-use Prim.Native.Nat.{ℕ, ◌-◌}
+use Prim.Native.Nat.{ℕ}
 use native.Mathlib.Omega.{arith}
 use Rattle.layout.proofs.Laws.MatchWalk.{SpanTells, span-tells}
 use Rattle.row_span_v2.specs.Promise.{span_from}

@@ -1,4 +1,4 @@
-use Prim.Native.Nat.{◌-◌, ◌/◌, ◌<◌}
+use Prim.Native.Nat.{◌/◌, ◌<◌}
 use mathlib.Core.Path.{◌≡◌, refl, subst, sym, ◌∙◌}
 use mathlib.Core.Logic.{⊎_elim}
 use native.Mathlib.Omega.{arith}
@@ -64,12 +64,15 @@ run_here-here-requires c =
 
 pub step_row-went-requires : goal.step_row-went-requires
 step_row-went-requires c =
-    let g = gone (goal.at.step_row-went-requires c).After-run_here-here in record { roomy = record {
+    let g = gone (goal.at.step_row-went-requires c).After-run_here-here in record {
+      roomy = record {
         whole = whole (goal.at.step_row-went-requires c).After-run_here-here;
         inside = omega (arith, g.keys-are.room, wrote-length g.keys-are);
         few = omega arith;
         words = omega (arith, wrote-length g.rows_are, c.if-here-before.true, c.loop-here-test.true);
-      }; ended = c.run_here-here.ensures.ends }
+      };
+      ended = c.run_here-here.ensures.ends;
+    }
 
 pub loop-here-smaller-in-On : goal.loop-here-smaller-in-On
 loop-here-smaller-in-On c =

@@ -1,4 +1,4 @@
-use Rattle.std.proofs.Common.{◌≡◌, ◌-◌, length, sym, arith, length-take-le, rules}
+use Rattle.std.proofs.Common.{◌≡◌, length, sym, arith, length-take-le, rules}
 use Rattle.layout.specs.Limits.{max_key}
 use Rattle.basics.specs.Answers.{yes}
 use Rattle.row_decode_v2.specs.Says.{row_from}

@@ -1,4 +1,4 @@
-use Rattle.std.proofs.Common.{◌≡◌, ◌+◌, ◌-◌, ◌^◌, ◌<◌, eqb, length, take, sym, ◌∙◌, arith, rules}
+use Rattle.std.proofs.Common.{◌≡◌, ◌+◌, ◌^◌, ◌<◌, eqb, length, take, sym, ◌∙◌, arith, rules}
 use Rattle.layout.specs.Res.{Res}
 use Rattle.layout.specs.RowRead.{may_share}
 use Rattle.trailer.specs.Says.{region_from}

@@ -1,4 +1,4 @@
-use Rattle.std.proofs.Common.{◌≡◌, ◌-◌, ◌<◌, length, refl, ◌∙◌, arith}
+use Rattle.std.proofs.Common.{◌≡◌, ◌<◌, length, refl, ◌∙◌, arith}
 use Rattle.compare_walks.specs.Loop.{RunsOn, Goes}
 use Rattle.compare_walks.proofs.Laws.{walking_whole, runs_then, went_on, went_over, one_more}
 use Rattle.compare_walks.proofs.walk_rows.Goals.{After-run_here-here, After-step_row-went, Then-here-before}

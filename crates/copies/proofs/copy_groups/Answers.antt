@@ -1,4 +1,3 @@
-use Prim.Native.Nat.{◌-◌}
 use native.Mathlib.Omega.{arith}
 use Rattle.copies.proofs.Copies.{copying_start, copying_more, copying_last, copied-length}
 use Rattle.copies.proofs.copy_groups.Goals as goal

@@ -21,7 +21,6 @@ use Rattle.layout.proofs.Laws.Seek.{below-is, up_from, seek_is}
 use Rattle.demands.specs.Laws.Reads.{region-at, region-over, RegionsAre, next as next-region, regions-are, regions-none, regions-cons, all_rows-none, all_rows-next}
 use Rattle.demands.specs.Laws.Counted.{counted_stop}
 use Rattle.demands.specs.Laws.Ascend.{Before}
-use Rattle.demands.specs.Laws.Descend.{none}
 use Rattle.demands.specs.Laws.Sorted.{NeverFall, AllPass, leading-all, leading-most, leading_step, leading-stop, leading-within, leading-whole, all-below}
 
 -- ---- the walk of one region

@@ -1,6 +1,6 @@
 -- A cursor of the earlier format that has passed so many rows gives the others, in order or back from the last, and then says "done"; with key buffers that are too short now and
 -- then, the first of them. A step gives the row of its number, and nothing else in it depends on the key buffer.
-use Prim.Native.Nat.{ℕ, zero, suc, ◌+◌, ◌-◌, ◌<◌, ◌≤◌}
+use Prim.Native.Nat.{ℕ, zero, suc, ◌+◌, ◌<◌, ◌≤◌}
 use Rattle.std.specs.Prelude.{◌≡◌, refl, cond, ltb, eqb}
 use Rattle.std.proofs.Common.{ap, ◌∙◌, ⊎_elim, arith, zero-add}
 use mathlib.Core.List.{List, [], ◌∷◌}

@@ -37,28 +37,40 @@ returns-then-kind-eq3 c =
 
 pub seen-requires : goal.seen-requires
 seen-requires c =
-    record { offers = record {
+    record {
+      offers = record {
         kind-is = c.requires.kind_value.0;
         card-is = sym c.if-eight-card.false ∙ card-is (goal.at.seen-requires c).After-eight;
         retry_is = retry_is (goal.at.seen-requires c).After-eight-retry;
         long = long (goal.at.seen-requires c).Else-kind-eq3;
         inside = omega (arith, long (goal.at.seen-requires c).Else-kind-eq3);
         short = c.requires.kind_value.3;
-      }; tree = c.requires.keeps c.if-s.false }
+      };
+      tree = c.requires.keeps c.if-s.false;
+    }
 
 pub returns-then-seen : goal.returns-then-seen
 returns-then-seen c =
-    record { counts_one = one-double _ _ c.args.kind _ _ c.requires.kind_value.0 c.requires.kind_value.1 c.eight.result (card-is (goal.at.returns-then-seen c).After-eight) c.if-eight-card.false c.if-kind-eq3.false c.eight-retry.result (retry_is (goal.at.returns-then-seen c).After-eight-retry)
-          (λ before p. sym c.if-seen.true ∙ c.seen.ensures.earlier before p); keeps_2 = keeps-long _ _ _ _ _ c.args.kind (long (goal.at.returns-then-seen c).Else-kind-eq3) c.seen.ensures.tree_2 }
+    record {
+      counts_one = one-double _ _ c.args.kind _ _ c.requires.kind_value.0 c.requires.kind_value.1 c.eight.result (card-is (goal.at.returns-then-seen c).After-eight) c.if-eight-card.false c.if-kind-eq3.false c.eight-retry.result (retry_is (goal.at.returns-then-seen c).After-eight-retry)
+          (λ before p. sym c.if-seen.true ∙ c.seen.ensures.earlier before p);
+      keeps_2 = keeps-long _ _ _ _ _ c.args.kind (long (goal.at.returns-then-seen c).Else-kind-eq3) c.seen.ensures.tree_2;
+    }
 
 pub returns-then-kind-eq1 : goal.returns-then-kind-eq1
 returns-then-kind-eq1 c =
-    record { counts_one = one-debit _ _ c.args.kind _ c.args.s c.requires.kind_value.0 c.requires.kind_value.1 c.eight.result (card-is (goal.at.returns-then-kind-eq1 c).After-eight) c.if-eight-card.false c.if-kind-eq3.false c.eight-retry.result (retry_is (goal.at.returns-then-kind-eq1 c).After-eight-retry)
+    record {
+      counts_one = one-debit _ _ c.args.kind _ c.args.s c.requires.kind_value.0 c.requires.kind_value.1 c.eight.result (card-is (goal.at.returns-then-kind-eq1 c).After-eight) c.if-eight-card.false c.if-kind-eq3.false c.eight-retry.result (retry_is (goal.at.returns-then-kind-eq1 c).After-eight-retry)
           (λ before p. sym c.if-seen.false ∙ c.seen.ensures.earlier before p) c.if-s.false c.amount_in-amount.result (c.amount_in-amount.ensures ∙ ap amount_in c.record_at.ensures)
-          c.requires.kind_value.3 (omega arith) c.if-kind-eq1.true; keeps_2 = keeps-long _ _ _ _ _ c.args.kind (long (goal.at.returns-then-kind-eq1 c).Else-kind-eq3) c.seen.ensures.tree_2 }
+          c.requires.kind_value.3 (omega arith) c.if-kind-eq1.true;
+      keeps_2 = keeps-long _ _ _ _ _ c.args.kind (long (goal.at.returns-then-kind-eq1 c).Else-kind-eq3) c.seen.ensures.tree_2;
+    }
 
 pub returns : goal.returns
 returns c =
-    record { counts_one = one_up _ _ c.args.kind _ c.args.s c.requires.kind_value.0 c.requires.kind_value.1 c.eight.result (card-is (goal.at.returns c).After-eight) c.if-eight-card.false c.if-kind-eq3.false c.eight-retry.result (retry_is (goal.at.returns c).After-eight-retry)
+    record {
+      counts_one = one_up _ _ c.args.kind _ c.args.s c.requires.kind_value.0 c.requires.kind_value.1 c.eight.result (card-is (goal.at.returns c).After-eight) c.if-eight-card.false c.if-kind-eq3.false c.eight-retry.result (retry_is (goal.at.returns c).After-eight-retry)
           (λ before p. sym c.if-seen.false ∙ c.seen.ensures.earlier before p) c.if-s.false c.amount_in-amount.result (c.amount_in-amount.ensures ∙ ap amount_in c.record_at.ensures)
-          c.requires.kind_value.3 (omega arith) (kind-up c.args.kind c.requires.kind_value.1 c.if-kind-eq3.false c.if-kind-eq1.false); keeps_2 = keeps-long _ _ _ _ _ c.args.kind (long (goal.at.returns c).Else-kind-eq3) c.seen.ensures.tree_2 }
+          c.requires.kind_value.3 (omega arith) (kind-up c.args.kind c.requires.kind_value.1 c.if-kind-eq3.false c.if-kind-eq1.false);
+      keeps_2 = keeps-long _ _ _ _ _ c.args.kind (long (goal.at.returns c).Else-kind-eq3) c.seen.ensures.tree_2;
+    }

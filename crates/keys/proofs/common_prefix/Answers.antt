@@ -1,4 +1,3 @@
-use Prim.Native.Nat.{◌-◌}
 use native.Mathlib.Omega.{arith}
 use Rattle.layout.proofs.Laws.Key.{common-ended, common-over, common_differs, common-more}
 use Rattle.keys.proofs.common_prefix.Goals as goal

@@ -1,4 +1,3 @@
-use Prim.Native.Nat.{◌-◌}
 use mathlib.Core.Path.{refl, sym, ◌∙◌}
 use Rattle.layout.proofs.Laws.Key.{compare-ended, compare-short, compare-long, compare-less, compare_greater, compare-more}
 use Rattle.keys.proofs.compare.Goals as goal

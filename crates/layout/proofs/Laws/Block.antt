@@ -1,6 +1,6 @@
 -- A block as it is laid, and how it grows by one row: the rows' bytes and the offsets, one row more at the end; the count of restarts is rows divided by
 -- interval, rounded up; offsets that are allowed are at most 5,042.
-use Rattle.std.specs.Prelude.{ℕ, suc, ◌+◌, ◌-◌, ◌*◌, ◌/◌, ◌%◌, ◌<◌, ◌≤◌, ◌≡◌, refl, Bool, true, false, cond, length, take, drop}
+use Rattle.std.specs.Prelude.{ℕ, suc, ◌+◌, ◌-◌, ◌*◌, ◌/◌, ◌%◌, ◌<◌, ◌≤◌, ◌≡◌, refl, Bool, true, false, cond, length, drop}
 use Rattle.std.proofs.Common.{zero-le, ap, ◌∙◌, ⊎_elim, arith, add-zero, add-suc, suc-add, add_assoc, div-add-mod', mod-lt, pos_of_ne-zero, add-one, length-append, length-drop, take-append-drop}
 use mathlib.Core.List.{List, [], ◌∷◌, ◌++◌, append_assoc, append-nil}
 use Rattle.std.proofs.Math.Nat.{zero-add, div-eq_of_lt, zero-mod}

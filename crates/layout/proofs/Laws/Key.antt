@@ -1,5 +1,5 @@
 -- Keys: the order is one; the test decides it; the common prefix; and both tests byte by byte, as a loop over two slices meets them.
-use Rattle.std.specs.Prelude.{ℕ, suc, ◌+◌, ◌<◌, ◌≤◌, ◌≡◌, Bool, true, cond, not, List, [], ◌∷◌, ◌⊎◌, length, take, drop, get_or}
+use Rattle.std.specs.Prelude.{ℕ, suc, ◌+◌, ◌<◌, ◌≤◌, ◌≡◌, Bool, true, cond, not, List, [], ◌∷◌, length, take, drop, get_or}
 use Rattle.std.proofs.Common.{zero-le, suc-le-suc, ⊎_elim, inl, inr, arith, add-one, drop_of_length-le}
 use Rattle.std.proofs.Math.Path.{refl}
 use Rattle.std.proofs.Math.Bool.{false}

@@ -1,11 +1,11 @@
 -- What the contracts and the theorems say by the laws of `Block`: definitions.
-use Rattle.std.specs.Prelude.{ℕ, ◌+◌, ◌-◌, ◌≤◌, ◌≡◌, Bool, length, take, drop}
+use Rattle.std.specs.Prelude.{ℕ, ◌+◌, ◌≤◌, ◌≡◌, Bool, length, take, drop}
 use mathlib.Core.List.{List, [], ◌∷◌, ◌++◌}
 use Rattle.layout.specs.Limits.{max_key, max_offset}
 use Rattle.layout.specs.Key.{Key}
 use Rattle.layout.specs.Row.{Row}
 use Rattle.layout.specs.RowRead.{may_share}
-use Rattle.layout.specs.Block.{share_of, offsets}
+use Rattle.layout.specs.Block.{share_of}
 use Rattle.layout.specs.Laws.Row.{FieldsOk}
 
 -- a row that may be laid

@@ -3,7 +3,7 @@ use Rattle.std.specs.Prelude.{ℕ, ◌+◌, ◌^◌, ◌<◌, ◌≤◌, List}
 use Rattle.std.proofs.Math.ListN.{length}
 use Rattle.layout.specs.Limits.{max_key, max_value}
 use Rattle.layout.specs.Varint.{varint}
-use Rattle.layout.specs.Row.{value, Fields, value_of, present, row_bytes, TimeOk}
+use Rattle.layout.specs.Row.{Fields, value_of, present, row_bytes, TimeOk}
 use Rattle.layout.specs.RowRead.{Lengths, lengths_is, value_at, seq_at, flags_is, held_as, Body, body_is, times_is, RowRead, row_is}
 
 -- the numbers of a row fit their types, and its value its limit

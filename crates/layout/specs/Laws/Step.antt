@@ -1,5 +1,5 @@
 -- What the contracts and the theorems say by the laws of `Step`: definitions.
-use Rattle.std.specs.Prelude.{ℕ, ◌-◌, ◌<◌, ◌≤◌, ◌≡◌, false, List, [], length}
+use Rattle.std.specs.Prelude.{ℕ, ◌<◌, ◌≤◌, ◌≡◌, false, List, [], length}
 use Rattle.layout.specs.Res.{ok}
 use Rattle.layout.specs.Limits.{max_key}
 use Rattle.layout.specs.Key.{Key}

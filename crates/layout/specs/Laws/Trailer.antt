@@ -1,7 +1,6 @@
 -- What the contracts and the theorems say by the laws of `Trailer`: definitions.
-use Rattle.std.specs.Prelude.{ℕ, ◌+◌, ◌-◌, ◌<◌, ◌≤◌, ◌≡◌, List, length, get_or}
+use Rattle.std.specs.Prelude.{ℕ, ◌+◌, ◌<◌, ◌≤◌, ◌≡◌, List, length, get_or}
 use Rattle.layout.specs.Res.{ok}
-use Rattle.layout.specs.Block.{trailer}
 use Rattle.layout.specs.Trailer.{Trailer, trailer_is, trailer_of, data_of, offset_at, rising_from, Region}
 
 -- what a region that is used tells

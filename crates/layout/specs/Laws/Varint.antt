@@ -1,5 +1,4 @@
 -- What the contracts and the theorems say by the laws of `Varint`: definitions.
-use Rattle.std.specs.Prelude.{◌-◌}
 use Rattle.layout.specs.Res.{Res, ok, refuse}
 use Rattle.layout.specs.Varint.{Num}
 

@@ -1,6 +1,6 @@
 -- The check's loop: `Checking` says that the rest of the check, from here on, answers what the whole does. One law for each thing that the loop does. The first
 -- key stands where row 0's suffix does; of the row before, its share and the place of its suffix are known.
-use Rattle.std.specs.Prelude.{ℕ, zero, suc, ◌+◌, ◌-◌, ◌<◌, ◌≤◌, ◌≡◌, refl, Bool, true, false, cond, List, [], eqb, length, drop}
+use Rattle.std.specs.Prelude.{ℕ, zero, suc, ◌+◌, ◌<◌, ◌≤◌, ◌≡◌, refl, Bool, true, false, cond, List, [], eqb, length, drop}
 use Rattle.std.proofs.Common.{ap, sym, ◌∙◌, ⊎_elim, arith, length-drop, take-take, length-take-le}
 use Rattle.layout.specs.Res.{Res, ok, refuse, bind}
 use Rattle.layout.specs.Key.{Key, compare, rank_is, may_follow}

@@ -1,5 +1,5 @@
 -- What the contracts and the theorems say by the laws of `Block`: definitions.
-use Rattle.std.specs.Prelude.{ℕ, suc, ◌+◌, ◌-◌, ◌<◌, ◌≤◌, ◌≡◌, length, drop, get_or}
+use Rattle.std.specs.Prelude.{ℕ, suc, ◌+◌, ◌<◌, ◌≤◌, ◌≡◌, length, drop, get_or}
 use mathlib.Core.List.{List, [], ◌∷◌, ◌++◌}
 use Rattle.layout.specs.Res.{ok}
 use Rattle.layout.specs.Key.{Key, common}
@@ -7,7 +7,6 @@ use Rattle.layout.specs.Row.{Row}
 use Rattle.layout.specs.RowRead.{RowRead}
 use Rattle.layout.specs.Trailer.{Trailer, trailer_of, data_of, offset_at, all_offsets}
 use Rattle.layout_v1.specs.Block.{laid_row, rows_from, offsets_from, block_rows}
-use Rattle.layout_v1.specs.Check.{before}
 use Rattle.layout_v1.specs.Laws.Codec.{places_of}
 
 -- the first row's key, or none

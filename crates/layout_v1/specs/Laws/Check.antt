@@ -3,7 +3,7 @@ use Rattle.std.specs.Prelude.{ℕ, ◌+◌, ◌-◌, ◌≤◌, ◌≡◌, List,
 use Rattle.layout.specs.Res.{Res}
 use Rattle.layout.specs.Key.{Key, rank_is, no_rank}
 use Rattle.layout.specs.Trailer.{Trailer, data_of}
-use Rattle.layout_v1.specs.Check.{before, Passed, passed_is, check_from, check}
+use Rattle.layout_v1.specs.Check.{Passed, passed_is, check_from}
 use Rattle.layout_v1.specs.Laws.Joined.{key_at}
 
 -- what the check answers once trailer and offsets are good

@@ -1,7 +1,7 @@
 -- What the contracts and the theorems say by the laws of `Codec`: definitions.
 use Rattle.std.specs.Prelude.{ℕ, ◌+◌, List}
 use Rattle.std.proofs.Math.ListN.{length}
-use Rattle.layout.specs.Row.{value, Fields, if_so, present}
+use Rattle.layout.specs.Row.{Fields, if_so, present}
 use Rattle.layout.specs.RowRead.{held_as, RowRead}
 use Rattle.layout_v1.specs.Row.{row_bytes}
 

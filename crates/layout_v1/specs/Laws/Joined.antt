@@ -1,5 +1,5 @@
 -- What the contracts and the theorems say by the laws of `Joined`: definitions.
-use Rattle.std.specs.Prelude.{ℕ, ◌+◌, ◌-◌, List, ◌++◌, take, drop}
+use Rattle.std.specs.Prelude.{ℕ, List, ◌++◌, take, drop}
 use Rattle.layout.specs.Key.{Key, Ordering, less, equal, greater}
 
 abbrev pub flipped : Ordering → Ordering

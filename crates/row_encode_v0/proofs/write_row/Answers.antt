@@ -14,8 +14,11 @@ write_key-a-requires c =
 pub write_value-requires : goal.write_value-requires
 write_value-requires c =
     let a = c.args in
-    let first = c.write_key-a.ensures in record { value_bound = c.requires.shared_bound.2; value_in_bounds = value_room a.shared a.key_suffix.now a.value.now a.row c.requires.value_in_bounds first
-          (put_one (marks-room a.shared a.key_suffix.now a.value.now a.row c.requires.value_in_bounds first) c.write_marks.ensures c.place_after-b.ensures) }
+    let first = c.write_key-a.ensures in record {
+      value_bound = c.requires.shared_bound.2;
+      value_in_bounds = value_room a.shared a.key_suffix.now a.value.now a.row c.requires.value_in_bounds first
+          (put_one (marks-room a.shared a.key_suffix.now a.value.now a.row c.requires.value_in_bounds first) c.write_marks.ensures c.place_after-b.ensures);
+    }
 
 pub returns : goal.returns
 returns c =

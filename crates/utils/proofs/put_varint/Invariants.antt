@@ -1,6 +1,6 @@
 -- `put_varint` keeps its promise. The loop's invariant: the bytes of what is left of the number, stored from `i` on, make the buffer that is
 -- wanted, and end where the whole number's bytes end. A store and a step take it on; the last byte ends it.
-use Prim.Native.Nat.{ℕ, ◌+◌, ◌-◌, ◌*◌, ◌^◌, ◌≤◌, ◌<◌}
+use Prim.Native.Nat.{ℕ, ◌+◌, ◌*◌, ◌^◌, ◌≤◌, ◌<◌}
 use mathlib.Core.Path.{◌≡◌}
 use mathlib.Core.List.{List}
 use lib.ListN.{length}

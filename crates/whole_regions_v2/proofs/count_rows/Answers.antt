@@ -1,4 +1,3 @@
-use Prim.Native.Nat.{◌-◌}
 use native.Mathlib.Omega.{arith}
 use Rattle.layout.proofs.Laws.MatchWalk.{SpanTells, span-tells}
 use Rattle.layout.proofs.Laws.Number.{counting-start}
