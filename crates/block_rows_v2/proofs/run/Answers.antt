@@ -24,10 +24,10 @@ share-is : (j : Joined-at-g)
 share-is j = elim j.if-at-g.branch [ then-at-g b ↦ b.share-is ∙ share-none j.loop-n.p.at j.args.b.region.start j.loop-n.p.key_len b.if-at-g.true | else-at-g b ↦ b.share-is ∙ share-key j.loop-n.p.at j.args.b.region.start j.loop-n.p.key_len b.if-at-g.false ]
 
 -- a plain row that was met
-fits : (k : Else-row-eq0) → PlainFits (length (take k.args.b.size k.args.block.now)) k.loop-n.p.at k.plain_at-row.result
-fits k =
+fits : (k : Else-row-eq0) → k.if-at-g.share ≡ may_share (eqb k.loop-n.p.at k.args.b.region.start) k.loop-n.p.key_len → PlainFits (length (take k.args.b.size k.args.block.now)) k.loop-n.p.at k.plain_at-row.result
+fits k share =
     let l = k.loop-n in
-    here-fits k.args.block.now k.args.b.size (region_from k.args.b.region) l.p l.key l.invariant.1 (plain_from k.plain_at-row.result) (elim k.if-at-g.branch [ then-at-g b ↦ b.share-is ∙ share-none k.loop-n.p.at k.args.b.region.start k.loop-n.p.key_len b.if-at-g.true | else-at-g b ↦ b.share-is ∙ share-key k.loop-n.p.at k.args.b.region.start k.loop-n.p.key_len b.if-at-g.false ]) k.plain_at-row.ensures k.if-row-eq0.false k.plain_at-row.result refl
+    here-fits k.args.block.now k.args.b.size (region_from k.args.b.region) l.p l.key l.invariant.1 (plain_from k.plain_at-row.result) share k.plain_at-row.ensures k.if-row-eq0.false k.plain_at-row.result refl
 
 data_long : (k : Else-row-eq0) → length (take k.args.b.size k.args.block.now) ≡ k.args.b.size
 data_long k =
@@ -38,12 +38,12 @@ data_long k =
 row_is_lem : (w : After-put_nth) → row_from w.row_of.result ≡ plain_read (take w.args.b.size w.args.block.now) w.loop-n.p.at (plain_from w.plain_at-row.result)
 row_is_lem w = w.row_of.ensures
 
-key-given : (w : After-put_nth) → let l = w.loop-n in
+key-given : (w : After-put_nth) → w.if-at-g.share ≡ may_share (eqb w.loop-n.p.at w.args.b.region.start) w.loop-n.p.key_len → let l = w.loop-n in
     Wrote l.keys l.used (key_of (take w.args.b.size w.args.block.now) (take l.p.key_len l.key) (plain_read (take w.args.b.size w.args.block.now) l.p.at (plain_from w.plain_at-row.result)))
     (put_mid l.used (length l.keys - l.used) l.keys w.carry.new.out) (l.used + (w.plain_at-row.result.shared + w.plain_at-row.result.unshared))
-key-given w =
+key-given w share =
     let l = w.loop-n in
-    given-key w.args.block.now w.args.b.size (region_from w.args.b.region) l.p l.key l.invariant.1 l.invariant.2 w.plain_at-row.result (elim w.if-at-g.branch [ then-at-g b ↦ b.share-is ∙ share-none w.loop-n.p.at w.args.b.region.start w.loop-n.p.key_len b.if-at-g.true | else-at-g b ↦ b.share-is ∙ share-key w.loop-n.p.at w.args.b.region.start w.loop-n.p.key_len b.if-at-g.false ]) w.plain_at-row.ensures w.if-row-eq0.false l.keys l.used l.n l.invariant.3 w.if-keys-used.false w.carry.ensures (w.row_of.ensures) w.put_nth.ensures
+    given-key w.args.block.now w.args.b.size (region_from w.args.b.region) l.p l.key l.invariant.1 l.invariant.2 w.plain_at-row.result share w.plain_at-row.ensures w.if-row-eq0.false l.keys l.used l.n l.invariant.3 w.if-keys-used.false w.carry.ensures (w.row_of.ensures) w.put_nth.ensures
 
 pub loop-n-init : goal.loop-n-init
 loop-n-init c =
@@ -62,7 +62,7 @@ returns-then-row-eq0 c =
 
 pub overflow_add-whole : goal.overflow_add-whole
 overflow_add-whole c =
-    let f = fits (goal.at.overflow_add-whole c).Else-row-eq0 in
+    let f = fits (goal.at.overflow_add-whole c).Else-row-eq0 (share-is (goal.at.overflow_add-whole c).Joined-at-g) in
     omega (arith, f.shared-small, f.unshared-small)
 
 pub overflow_sub-keys : goal.overflow_sub-keys
@@ -83,13 +83,13 @@ slice_bounds-carry-end-in-loop-n c = sym (data_long (goal.at.slice_bounds-carry-
 pub carry-requires : goal.carry-requires
 carry-requires c =
     let l = c.loop-n in
-    (l.invariant.2, fits (goal.at.carry-requires c).Else-row-eq0, omega (arith, mid_len l.used (length l.keys) l.keys (omega arith), c.if-keys-used.false))
+    (l.invariant.2, fits (goal.at.carry-requires c).Else-row-eq0 (share-is (goal.at.carry-requires c).Joined-at-g), omega (arith, mid_len l.used (length l.keys) l.keys (omega arith), c.if-keys-used.false))
 
 pub slice_bounds-row_of-end : goal.slice_bounds-row_of-end
 slice_bounds-row_of-end c = sym (data_long (goal.at.slice_bounds-row_of-end c).Else-row-eq0)
 
 pub row_of-requires : goal.row_of-requires
-row_of-requires c = fits (goal.at.row_of-requires c).Else-row-eq0
+row_of-requires c = fits (goal.at.row_of-requires c).Else-row-eq0 (share-is (goal.at.row_of-requires c).Joined-at-g)
 
 pub put_nth-requires : goal.put_nth-requires
 put_nth-requires c =
@@ -120,7 +120,7 @@ shape_of-key-then-g-row c =
 
 pub shape_of-keys-then-g-row : goal.shape_of-keys-then-g-row
 shape_of-keys-then-g-row c =
-    wrote-length (key-given (goal.at.shape_of-keys-then-g-row c).After-put_nth) ∙ c.loop-n.invariant.4
+    wrote-length (key-given (goal.at.shape_of-keys-then-g-row c).After-put_nth (share-is (goal.at.shape_of-keys-then-g-row c).Joined-at-g)) ∙ c.loop-n.invariant.4
 
 pub shape_of-rows-then-g-row : goal.shape_of-rows-then-g-row
 shape_of-rows-then-g-row c =
@@ -138,7 +138,7 @@ pub overflow_add-p-in-loop-n : goal.overflow_add-p-in-loop-n
 overflow_add-p-in-loop-n c =
     let l = c.loop-n in
     let long : length c.args.block.now < 2 ^ 64 = search rules in
-    let f = fits (goal.at.overflow_add-p-in-loop-n c).Else-row-eq0 in
+    let f = fits (goal.at.overflow_add-p-in-loop-n c).Else-row-eq0 (share-is (goal.at.overflow_add-p-in-loop-n c).Joined-at-g) in
     omega (arith, inside-counts c.args.block.now c.args.b.size (region_from c.args.b.region) (view_in l.p l.key) l.invariant.1, f.ends, f.inside, data_long (goal.at.overflow_add-p-in-loop-n c).Else-row-eq0, (trailer_of-tells c.args.block.now _ l.invariant.1.read).0)
 
 pub loop-n-smaller : goal.loop-n-smaller
@@ -151,8 +151,8 @@ loop-n-preserved c =
       (λ ks rs c₀ g. given_stays c.args.block.now c.args.b.size (region_from c.args.b.region) l.p l.key l.invariant.1 l.invariant.2 c.plain_at-row.result (share-is (goal.at.loop-n-preserved c).Joined-at-g) c.plain_at-row.ensures c.if-row-eq0.false l.keys l.used l.n l.invariant.3 c.if-keys-used.false c.carry.ensures (row_is_lem (goal.at.loop-n-preserved c).After-put_nth) c.put_nth.ensures c.if-g-row.false ks rs c₀ (l.invariant.0 ks rs c₀ g)),
       given_inside c.args.block.now c.args.b.size (region_from c.args.b.region) l.p l.key l.invariant.1 l.invariant.2 c.plain_at-row.result (share-is (goal.at.loop-n-preserved c).Joined-at-g) c.plain_at-row.ensures c.if-row-eq0.false l.keys l.used l.n l.invariant.3 c.if-keys-used.false c.carry.ensures (row_is_lem (goal.at.loop-n-preserved c).After-put_nth) c.put_nth.ensures c.if-g-row.false,
       c.carry.ensures.long ∙ l.invariant.2,
-      omega (arith, (key-given (goal.at.loop-n-preserved c).After-put_nth).room, wrote-length (key-given (goal.at.loop-n-preserved c).After-put_nth)),
-      wrote-length (key-given (goal.at.loop-n-preserved c).After-put_nth) ∙ l.invariant.4,
+      omega (arith, (key-given (goal.at.loop-n-preserved c).After-put_nth (share-is (goal.at.loop-n-preserved c).Joined-at-g)).room, wrote-length (key-given (goal.at.loop-n-preserved c).After-put_nth (share-is (goal.at.loop-n-preserved c).Joined-at-g))),
+      wrote-length (key-given (goal.at.loop-n-preserved c).After-put_nth (share-is (goal.at.loop-n-preserved c).Joined-at-g)) ∙ l.invariant.4,
       wrote-length c.put_nth.ensures ∙ l.invariant.5,
       omega (arith, l.invariant.6),
       omega (arith, c.loop-n-test.true),

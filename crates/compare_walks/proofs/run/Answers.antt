@@ -15,10 +15,10 @@ share-is : (j : Joined-at-g)
 share-is j = elim j.if-at-g.branch [ then-at-g b ↦ b.most-is ∙ share-none j.loop-rows.p.at j.args.b.region.start j.loop-rows.p.key_len b.if-at-g.true | else-at-g b ↦ b.most-is ∙ share-key j.loop-rows.p.at j.args.b.region.start j.loop-rows.p.key_len b.if-at-g.false ]
 
 -- a plain row that was met
-fits : (k : Else-row-eq0) → PlainFits (length (take k.args.b.size k.args.block.now)) k.loop-rows.p.at k.plain_at-row.result
-fits k =
+fits : (k : Else-row-eq0) → k.if-at-g.most ≡ may_share (eqb k.loop-rows.p.at k.args.b.region.start) k.loop-rows.p.key_len → PlainFits (length (take k.args.b.size k.args.block.now)) k.loop-rows.p.at k.plain_at-row.result
+fits k share =
     let l = k.loop-rows in
-    plain_fits k.args.block.now k.args.b.size (region_from k.args.b.region) l.p l.key l.invariant.1 l.invariant.2 k.plain_at-row.result (elim k.if-at-g.branch [ then-at-g b ↦ b.most-is ∙ share-none k.loop-rows.p.at k.args.b.region.start k.loop-rows.p.key_len b.if-at-g.true | else-at-g b ↦ b.most-is ∙ share-key k.loop-rows.p.at k.args.b.region.start k.loop-rows.p.key_len b.if-at-g.false ]) k.plain_at-row.ensures k.if-row-eq0.false
+    plain_fits k.args.block.now k.args.b.size (region_from k.args.b.region) l.p l.key l.invariant.1 l.invariant.2 k.plain_at-row.result share k.plain_at-row.ensures k.if-row-eq0.false
 
 pub loop-rows-init : goal.loop-rows-init
 loop-rows-init c =
@@ -40,7 +40,7 @@ slice_bounds-pass_plain-end c =
     sym (inside-long c.args.block.now c.args.b.size (region_from c.args.b.region) (view_in l.p l.key) l.invariant.1)
 
 pub pass_plain-sum-requires : goal.pass_plain-sum-requires
-pass_plain-sum-requires c = (c.loop-rows.invariant.2, fits (goal.at.pass_plain-sum-requires c).Else-row-eq0)
+pass_plain-sum-requires c = (c.loop-rows.invariant.2, fits (goal.at.pass_plain-sum-requires c).Else-row-eq0 (share-is (goal.at.pass_plain-sum-requires c).Joined-at-g))
 
 pub overflow_add-p : goal.overflow_add-p
 overflow_add-p c =
@@ -61,11 +61,11 @@ pub overflow_add-p-in-loop-rows : goal.overflow_add-p-in-loop-rows
 overflow_add-p-in-loop-rows c =
     let l = c.loop-rows in
     let ends : c.plain_at-row.result.next < 2 ^ 64 = search rules in
-    omega (arith, inside-counts c.args.block.now c.args.b.size (region_from c.args.b.region) (view_in l.p l.key) l.invariant.1, (fits (goal.at.overflow_add-p-in-loop-rows c).Else-row-eq0).ends, ends)
+    omega (arith, inside-counts c.args.block.now c.args.b.size (region_from c.args.b.region) (view_in l.p l.key) l.invariant.1, (fits (goal.at.overflow_add-p-in-loop-rows c).Else-row-eq0 (share-is (goal.at.overflow_add-p-in-loop-rows c).Joined-at-g)).ends, ends)
 
 pub overflow_add-p-in-loop-rows-2 : goal.overflow_add-p-in-loop-rows-2
 overflow_add-p-in-loop-rows-2 c =
-    let f = fits (goal.at.overflow_add-p-in-loop-rows-2 c).Else-row-eq0 in
+    let f = fits (goal.at.overflow_add-p-in-loop-rows-2 c).Else-row-eq0 (share-is (goal.at.overflow_add-p-in-loop-rows-2 c).Joined-at-g) in
     omega (arith, f.shared-small, f.unshared-small)
 
 pub loop-rows-preserved : goal.loop-rows-preserved
