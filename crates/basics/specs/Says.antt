@@ -1,13 +1,11 @@
 -- What each case of the types stands for in the definitions. No two cases stand for the same.
-use Rattle.std.specs.Prelude.{◌≡◌, refl}
+use Rattle.std.specs.Prelude.{◌≡◌, refl, ℤ, Option, Some, None}
 use Rattle.std.proofs.Common.{ap, sym, ◌∙◌}
 use Rattle.layout.specs.Row.{Kind as KindL, value, tombstone, merge, Time as TimeL, Absent as absent, At as at-time}
 use Rattle.layout.specs.RowRead.{Held, holds, gone, merges}
 use Rattle.layout.specs.Cursor.{Direction, ascending, descending}
 use Rattle.basics.specs.declared.Kind.{Kind}
 use Rattle.basics.specs.declared.Kind.TheVariants.{Value as ValueKind, Tombstone as TombstoneKind, Merge as MergeKind}
-use Rattle.basics.specs.declared.Time.{Time}
-use Rattle.basics.specs.declared.Time.TheVariants.{Absent, At}
 use Rattle.basics.specs.declared.ValueDeletable.{ValueDeletable}
 use Rattle.basics.specs.declared.ValueDeletable.TheVariants.{Value, Tombstone, Merge}
 use Rattle.basics.specs.declared.IterationOrder.{IterationOrder}
@@ -18,9 +16,9 @@ says_kind ValueKind = value
 says_kind TombstoneKind = tombstone
 says_kind MergeKind = merge
 
-abbrev pub says_time : Time → TimeL
-says_time Absent = absent
-says_time (At t) = at-time t
+abbrev pub says_time : Option ℤ → TimeL
+says_time None = absent
+says_time (Some t) = at-time t
 
 abbrev pub says_held : ValueDeletable → Held
 says_held (Value start n) = holds start n
@@ -38,9 +36,9 @@ kind_said value = ValueKind
 kind_said tombstone = TombstoneKind
 kind_said merge = MergeKind
 
-abbrev time_said : TimeL → Time
-time_said absent = Absent
-time_said (at-time t) = At t
+abbrev time_said : TimeL → Option ℤ
+time_said absent = None
+time_said (at-time t) = Some t
 
 abbrev held_said : Held → ValueDeletable
 held_said (holds start n) = Value start n
@@ -56,9 +54,9 @@ kind-back ValueKind = refl
 kind-back TombstoneKind = refl
 kind-back MergeKind = refl
 
-time-back : (a : Time) → time_said (says_time a) ≡ a
-time-back Absent = refl
-time-back (At t) = refl
+time-back : (a : Option ℤ) → time_said (says_time a) ≡ a
+time-back None = refl
+time-back (Some t) = refl
 
 held_back : (a : ValueDeletable) → held_said (says_held a) ≡ a
 held_back (Value start n) = refl
@@ -76,7 +74,7 @@ back_one says said back a b e = sym (back a) ∙ ap said e ∙ back b
 pub says_kind-one : (a b : Kind) → says_kind a ≡ says_kind b → a ≡ b
 says_kind-one = back_one says_kind kind_said kind-back
 
-pub says_time-one : (a b : Time) → says_time a ≡ says_time b → a ≡ b
+pub says_time-one : (a b : Option ℤ) → says_time a ≡ says_time b → a ≡ b
 says_time-one = back_one says_time time_said time-back
 
 pub says_held-one : (a b : ValueDeletable) → says_held a ≡ says_held b → a ≡ b

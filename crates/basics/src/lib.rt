@@ -3,84 +3,76 @@
 // place of a value's bytes and holds none, an absent time is a case of its own, and each refusal has a number.
 #![tactic(auto)]
 
-ghost use Rattle.basics.specs.Promise.{Numbered, TellsWrong};
+ghost use Rattle.basics.specs.Promise.{Numbered, RefusalOf, TellsWrong};
 
-#[derive(Clone, Copy)]
+// Why a call is refused. Each refusal has its number.
+#[derive(Clone, Copy, Debug, PartialEq, Eq)]
 pub enum Refusal {
-    // 1: the key is empty
-    EmptyKey,
-    // 2: the key has over 4,096 bytes
-    KeyTooLong,
-    // 3: the value, or its length, is over 65,535
-    ValueTooLong,
-    // 4: the row doesn't fit into the block
-    RowDoesNotFit,
-    // 5: a restart would lie past 65,535
-    RestartTooFar,
-    // 6: a lent buffer can't hold what is to be written
-    BufferTooSmall,
-    // 7: a block is built with no row
-    EmptyBlock,
-    // 8: the block size or the interval is outside its limits
-    BadSettings,
-    // 9: the input ends inside a row
-    InputEnds,
-    // 10: the fifth byte of a varint is above 15, or it has more bytes than its number needs
-    VarintTooLarge,
-    // 11: the flags byte is 16 or more
-    UnknownFlags,
-    // 12: the flags set tombstone and merge together
-    TombstoneWithMerge,
-    // 13: the share is longer than the key before, or not 0 at a restart
-    BadShare,
-    // 14: the block has under 2 bytes, its count is 0, or its trailer is longer than the block
-    BadTrailer,
-    // 15: the first restart is not 0, the offsets don't rise, or one is not below the data's length
-    BadOffset,
-    // 16: a row inside the data runs past the next restart
-    RowPastRegion,
-    // 17: a key is smaller than the one before, or equal with a sequence number that is not smaller
-    KeyFalls,
-    // 18: the cursor's or the builder's state can't belong to these buffers
-    BadState,
-    // 19: the lent key buffer is shorter than the key
-    KeyBufferTooShort,
-    // 20: a row of the earlier format ends before the next one starts, or before the data's end
-    RowEndsEarly,
+    // the key is empty
+    EmptyKey = 1,
+    // the key has over 4,096 bytes
+    KeyTooLong = 2,
+    // the value, or its length, is over 65,535
+    ValueTooLong = 3,
+    // the row doesn't fit into the block
+    RowDoesNotFit = 4,
+    // a restart would lie past 65,535
+    RestartTooFar = 5,
+    // a lent buffer can't hold what is to be written
+    BufferTooSmall = 6,
+    // a block is built with no row
+    EmptyBlock = 7,
+    // the block size or the interval is outside its limits
+    BadSettings = 8,
+    // the input ends inside a row
+    InputEnds = 9,
+    // the fifth byte of a varint is above 15, or it has more bytes than its number needs
+    VarintTooLarge = 10,
+    // the flags byte is 16 or more
+    UnknownFlags = 11,
+    // the flags set tombstone and merge together
+    TombstoneWithMerge = 12,
+    // the share is longer than the key before, or not 0 at a restart
+    BadShare = 13,
+    // the block has under 2 bytes, its count is 0, or its trailer is longer than the block
+    BadTrailer = 14,
+    // the first restart is not 0, the offsets don't rise, or one is not below the data's length
+    BadOffset = 15,
+    // a row inside the data runs past the next restart
+    RowPastRegion = 16,
+    // a key is smaller than the one before, or equal with a sequence number that is not smaller
+    KeyFalls = 17,
+    // the cursor's or the builder's state can't belong to these buffers
+    BadState = 18,
+    // the lent key buffer is shorter than the key
+    KeyBufferTooShort = 19,
+    // a row of the earlier format ends before the next one starts, or before the data's end
+    RowEndsEarly = 20,
 }
 
-pub fn number(r: Refusal) -> u8
-    ensures { Numbered r result }
-{
-    match r {
-        Refusal::EmptyKey => 1,
-        Refusal::KeyTooLong => 2,
-        Refusal::ValueTooLong => 3,
-        Refusal::RowDoesNotFit => 4,
-        Refusal::RestartTooFar => 5,
-        Refusal::BufferTooSmall => 6,
-        Refusal::EmptyBlock => 7,
-        Refusal::BadSettings => 8,
-        Refusal::InputEnds => 9,
-        Refusal::VarintTooLarge => 10,
-        Refusal::UnknownFlags => 11,
-        Refusal::TombstoneWithMerge => 12,
-        Refusal::BadShare => 13,
-        Refusal::BadTrailer => 14,
-        Refusal::BadOffset => 15,
-        Refusal::RowPastRegion => 16,
-        Refusal::KeyFalls => 17,
-        Refusal::BadState => 18,
-        Refusal::KeyBufferTooShort => 19,
-        Refusal::RowEndsEarly => 20,
+impl From<Refusal> for u8 {
+    fn from(refusal: Refusal) -> u8
+        ensures { Numbered refusal result }
+    {
+        refusal as u8
     }
 }
 
-// An answer that tells no more than whether the call was good.
+// The refusal of an answer that is known to be one.
+pub fn refusal_of<T: Copy>(answer: Result<T, Refusal>) -> Refusal
+    ensures { RefusalOf answer result }
+{
+    match answer {
+        Err(refusal) => refusal,
+        Ok(_) => Refusal::BadState,
+    }
+}
+
+// What was read, and the place after it.
 #[derive(Clone, Copy)]
-pub enum Verdict {
-    Good,
-    Refused(Refusal),
+pub struct Read<T> {
+    pub value: T,
+    pub next: usize,
 }
 
 // In an answer: where the value's bytes stand. A tombstone has no bytes, so it has no place.
@@ -97,13 +89,6 @@ pub enum Kind {
     Value,
     Tombstone,
     Merge,
-}
-
-// A time that a row may lack.
-#[derive(Clone, Copy)]
-pub enum Time {
-    Absent,
-    At(i64),
 }
 
 #[derive(Clone, Copy)]

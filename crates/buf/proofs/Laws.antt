@@ -14,8 +14,10 @@ use Rattle.layout.proofs.Laws.Res.{ok-inj}
 use Rattle.layout.specs.Laws.Place.{four_at}
 use Rattle.layout.proofs.Laws.Place.{fixed_at-eight}
 use Rattle.layout.proofs.Laws.Plain.{fixed_at-is}
-use Rattle.buf.specs.declared.WordRead.{WordRead}
-use Rattle.buf.specs.Says.{says_word}
+use Rattle.std.specs.Prelude.{Result}
+use Rattle.basics.specs.Answers.{says_num}
+use Rattle.basics.specs.declared.Read.{Read}
+use Rattle.basics.specs.declared.Refusal.{Refusal}
 use Rattle.buf.specs.Promise.{or_zero, ReadsEight, ReadsNarrow, ReadsBytes}
 
 pub eight-part : (d : List ℕ) (at : ℕ) {q : ℕ} → at + 8 ≤ length d → ReadsEight (take (at + 8 - at) (drop at d)) 0 q → q ≡ four_at d at * 4294967296 + four_at d (at + 4)
@@ -49,5 +51,5 @@ fixed_at-four d at h =
     )
 
 -- an answer that is known to be the case v tells the number, or 0 where it is refused
-pub bytes-known : (n : ℕ) (d : List ℕ) (at : ℕ) {a v : WordRead} → ReadsNarrow n d at a → a ≡ v → ReadsBytes n d at (or_zero (says_word v))
+pub bytes-known : (n : ℕ) (d : List ℕ) (at : ℕ) {a v : Result (Read ℕ) Refusal} → ReadsNarrow n d at a → a ≡ v → ReadsBytes n d at (or_zero (says_num v))
 bytes-known n d at e q = rw (← q) (ap or_zero e.0, e.1)

@@ -5,21 +5,9 @@
 
 ghost use Rattle.std.specs.Prelude.{◌≡◌, ◌≤◌, ◌<◌, ◌+◌, length};
 ghost use Rattle.layout.specs.Laws.Place.{pair_at, four_at};
-ghost use Rattle.buf.specs.Promise.{ReadsWord, WordRefusal, ReadsSigned, SignedRefusal, ReadsEight, ReadsNarrow, ReadsBytes};
+ghost use Rattle.buf.specs.Promise.{ReadsWord, ReadsSigned, ReadsEight, ReadsNarrow, ReadsBytes};
 
-use basics::Refusal;
-
-#[derive(Clone, Copy)]
-pub enum WordRead {
-    Word { value: u64, next: usize },
-    Refused(Refusal),
-}
-
-#[derive(Clone, Copy)]
-pub enum SignedRead {
-    Number { value: i64, next: usize },
-    Refused(Refusal),
-}
+use basics::{Read, Refusal};
 
 // A byte as a wider number, with its bound said once for all sums of bytes.
 fn wide64(x: u8) -> u64
@@ -52,109 +40,85 @@ fn four_at(s: &[u8], at: usize) -> u64
 }
 
 // Reads the two bytes at `at`, high byte first.
-pub fn get_u16(s: &[u8], at: usize) -> WordRead
+pub fn get_u16(s: &[u8], at: usize) -> Result<Read<u64>, Refusal>
     ensures { ReadsNarrow 2 s.now at result }
 {
     if numbers::rest_from(s.len(), at) < 2 {
-        return WordRead::Refused(Refusal::InputEnds);
+        return Err(Refusal::InputEnds);
     }
     let value = two_at(s, at);
-    WordRead::Word {
+    Ok(Read {
         value,
         next: at + 2,
-    }
+    })
 }
 
 // Reads the four bytes at `at`, high byte first.
-pub fn get_u32(s: &[u8], at: usize) -> WordRead
+pub fn get_u32(s: &[u8], at: usize) -> Result<Read<u64>, Refusal>
     ensures { ReadsNarrow 4 s.now at result }
 {
     if numbers::rest_from(s.len(), at) < 4 {
-        return WordRead::Refused(Refusal::InputEnds);
+        return Err(Refusal::InputEnds);
     }
     let value = four_at(s, at);
-    WordRead::Word {
+    Ok(Read {
         value,
         next: at + 4,
-    }
+    })
 }
 
 // Reads the eight bytes at `at`, high byte first.
-pub fn get_u64(s: &[u8], at: usize) -> WordRead
+pub fn get_u64(s: &[u8], at: usize) -> Result<Read<u64>, Refusal>
     ensures { ReadsWord s.now at result }
 {
     if numbers::rest_from(s.len(), at) < 8 {
-        return WordRead::Refused(Refusal::InputEnds);
+        return Err(Refusal::InputEnds);
     }
     let high = four_at(s, at);
     let low = four_at(s, at + 4);
-    WordRead::Word {
+    Ok(Read {
         value: high * 4294967296 + low,
         next: at + 8,
-    }
+    })
 }
 
 // The two bytes at `at`, high byte first; 0 where they are not all there.
 pub fn two(s: &[u8], at: usize) -> usize
     ensures { ReadsBytes 2 s.now at result }
 {
-    let short = get_u16(s, at);
-    let WordRead::Word { value, next: _ } = short else {
+    let Ok(short) = get_u16(s, at) else {
         return 0;
     };
-    value as usize
+    short.value as usize
 }
 
 // The four bytes at `at`, high byte first; 0 where they are not all there.
 pub fn four(s: &[u8], at: usize) -> usize
     ensures { ReadsBytes 4 s.now at result }
 {
-    let half = get_u32(s, at);
-    let WordRead::Word { value, next: _ } = half else {
+    let Ok(half) = get_u32(s, at) else {
         return 0;
     };
-    value as usize
+    half.value as usize
 }
 
 // The eight bytes at `at`, high byte first; 0 where they are not all there. Of a part of eight bytes the compiler drops the test.
 pub fn eight(s: &[u8], at: usize) -> u64
     ensures { ReadsEight s.now at result }
 {
-    let read = get_u64(s, at);
-    match read {
-        WordRead::Word { value, next: _ } => value,
-        WordRead::Refused(_) => 0,
+    match get_u64(s, at) {
+        Ok(word) => word.value,
+        Err(_) => 0,
     }
 }
 
 // Reads the eight bytes at `at` as a signed number, two's complement, high byte first.
-pub fn get_i64(s: &[u8], at: usize) -> SignedRead
+pub fn get_i64(s: &[u8], at: usize) -> Result<Read<i64>, Refusal>
     ensures { ReadsSigned s.now at result }
 {
-    let word = get_u64(s, at);
-    let WordRead::Word { value, next } = word else {
-        return SignedRead::Refused(word_refusal(word));
-    };
-    let value = numbers::from_bits(value);
-    SignedRead::Number { value, next }
-}
-
-// A read that is refused ends the call with its refusal, which a `let .. else` can't bind: these take it out of the answer.
-// Their other case is not met there.
-pub fn word_refusal(a: WordRead) -> Refusal
-    ensures { WordRefusal a result }
-{
-    match a {
-        WordRead::Refused(refusal) => refusal,
-        WordRead::Word { value: _, next: _ } => Refusal::BadState,
-    }
-}
-
-pub fn signed_refusal(a: SignedRead) -> Refusal
-    ensures { SignedRefusal a result }
-{
-    match a {
-        SignedRead::Refused(refusal) => refusal,
-        SignedRead::Number { value: _, next: _ } => Refusal::BadState,
-    }
+    let word = get_u64(s, at)?;
+    Ok(Read {
+        value: numbers::from_bits(word.value),
+        next: word.next,
+    })
 }

@@ -5,44 +5,24 @@
 
 ghost use Rattle.std.specs.Prelude.{◌≤◌};
 ghost use Rattle.layout.specs.Fixed.{big, bits};
-ghost use Rattle.buf_mut.specs.Promise.{Puts, PlaceAfter, PutRefusal};
+ghost use Rattle.buf_mut.specs.Promise.{Puts, PlaceAfter};
 
 use basics::Refusal;
 
-// The place after what was written.
-#[derive(Clone, Copy)]
-pub enum Put {
-    At(usize),
-    Refused(Refusal),
-}
-
 // The place after what was written, by those who have tested the room: to them no writer refuses.
-pub fn place_after(put: Put) -> usize
+pub fn place_after(put: Result<usize, Refusal>) -> usize
     ensures { PlaceAfter put result }
 {
-    match put {
-        Put::At(next) => next,
-        Put::Refused(_) => 0,
-    }
-}
-
-// A writer that refuses ends the call with its refusal, which a `let .. else` can't bind: this takes it out of the answer. Its other case is not met there.
-pub fn put_refusal(a: Put) -> Refusal
-    ensures { PutRefusal a result }
-{
-    match a {
-        Put::Refused(refusal) => refusal,
-        Put::At(_) => Refusal::BadState,
-    }
+    put.unwrap_or(0)
 }
 
 // The lowest `n` bytes of `v`, high byte first.
-fn put_be(buf: &mut [u8], at: usize, v: u64, n: usize) -> Put
+fn put_be(buf: &mut [u8], at: usize, v: u64, n: usize) -> Result<usize, Refusal>
     requires { (1 ≤ n) × (n ≤ 8) }
     ensures { Puts (big n v) buf.old at result buf.new }
 {
     if numbers::rest_from(buf.len(), at) < n {
-        return Put::Refused(Refusal::BufferTooSmall);
+        return Err(Refusal::BufferTooSmall);
     }
     let mut i = at;
     let mut k = n;
@@ -51,43 +31,43 @@ fn put_be(buf: &mut [u8], at: usize, v: u64, n: usize) -> Put
         buf[i] = ((v >> (8 * k)) % 256) as u8;
         i += 1;
     }
-    Put::At(i)
+    Ok(i)
 }
 
 // Writes `v` at `at` in two bytes, high byte first.
-pub fn put_u16(buf: &mut [u8], at: usize, v: u16) -> Put
+pub fn put_u16(buf: &mut [u8], at: usize, v: u16) -> Result<usize, Refusal>
     ensures { Puts (big 2 v) buf.old at result buf.new }
 {
     put_be(buf, at, v as u64, 2)
 }
 
 // Writes `v` at `at` in four bytes, high byte first.
-pub fn put_u32(buf: &mut [u8], at: usize, v: u32) -> Put
+pub fn put_u32(buf: &mut [u8], at: usize, v: u32) -> Result<usize, Refusal>
     ensures { Puts (big 4 v) buf.old at result buf.new }
 {
     put_be(buf, at, v as u64, 4)
 }
 
 // Writes `v` at `at` in eight bytes, high byte first.
-pub fn put_u64(buf: &mut [u8], at: usize, v: u64) -> Put
+pub fn put_u64(buf: &mut [u8], at: usize, v: u64) -> Result<usize, Refusal>
     ensures { Puts (big 8 v) buf.old at result buf.new }
 {
     put_be(buf, at, v, 8)
 }
 
 // Writes `z` at `at` in eight bytes, two's complement, high byte first.
-pub fn put_i64(buf: &mut [u8], at: usize, z: i64) -> Put
+pub fn put_i64(buf: &mut [u8], at: usize, z: i64) -> Result<usize, Refusal>
     ensures { Puts (big 8 (bits z)) buf.old at result buf.new }
 {
     put_be(buf, at, numbers::to_bits(z), 8)
 }
 
 // Copies all of `src` to `at`.
-pub fn copy_in(buf: &mut [u8], at: usize, src: &[u8]) -> Put
+pub fn copy_in(buf: &mut [u8], at: usize, src: &[u8]) -> Result<usize, Refusal>
     ensures { Puts src.now buf.old at result buf.new }
 {
     if copies::copy_all(buf, at, src) {
-        return Put::At(at + src.len());
+        return Ok(at + src.len());
     }
-    Put::Refused(Refusal::BufferTooSmall)
+    Err(Refusal::BufferTooSmall)
 }

@@ -5,15 +5,9 @@
 
 ghost use Rattle.std.specs.Prelude.{◌≡◌, ◌<◌, ◌≤◌, ◌+◌, ◌*◌, ◌^◌, length, get_or};
 ghost use Rattle.utils_decode.specs.Parts.{ended_by};
-ghost use Rattle.utils_decode.specs.Promise.{ReadsVarint, VarintRefusal};
+ghost use Rattle.utils_decode.specs.Promise.{ReadsVarint};
 
-use basics::Refusal;
-
-#[derive(Clone, Copy)]
-pub enum VarintRead {
-    Number { value: u32, next: usize },
-    Refused(Refusal),
-}
+use basics::{Read, Refusal};
 
 fn wide32(x: u8) -> u32
     ensures { (result ≡ x) × (result < 256) }
@@ -22,21 +16,21 @@ fn wide32(x: u8) -> u32
 }
 
 // A number with its last byte, which follows others: one of 0 adds nothing, so the number needs fewer bytes.
-fn ended(acc: u32, w: u32, b: u32, next: usize) -> VarintRead
+fn ended(acc: u32, w: u32, b: u32, next: usize) -> Result<Read<u32>, Refusal>
     requires { acc + w * b < 2 ^ 32 }
     ensures { result ≡ ended_by acc w b next }
 {
     if b == 0 {
-        return VarintRead::Refused(Refusal::VarintTooLarge);
+        return Err(Refusal::VarintTooLarge);
     }
-    VarintRead::Number {
+    Ok(Read {
         value: acc + w * b,
         next,
-    }
+    })
 }
 
 // The varint at `at`, whose first byte says that more follow.
-fn get_varint(s: &[u8], at: usize, first: u32) -> VarintRead
+fn get_varint(s: &[u8], at: usize, first: u32) -> Result<Read<u32>, Refusal>
     requires { (at < length s.now) × (first ≡ get_or s.now at 0) × (128 ≤ first) × (first < 256) }
     ensures { ReadsVarint s.now at result }
 {
@@ -45,7 +39,7 @@ fn get_varint(s: &[u8], at: usize, first: u32) -> VarintRead
     let mut i: usize = 1;
     while i < 4 {
         if s.len() <= at + i {
-            return VarintRead::Refused(Refusal::InputEnds);
+            return Err(Refusal::InputEnds);
         }
         let b = wide32(s[at + i]);
         if b < 128 {
@@ -56,39 +50,29 @@ fn get_varint(s: &[u8], at: usize, first: u32) -> VarintRead
         i = i + 1;
     }
     if s.len() <= at + i {
-        return VarintRead::Refused(Refusal::InputEnds);
+        return Err(Refusal::InputEnds);
     }
     let b = wide32(s[at + i]);
     // The fifth byte has the top four of 32 bits, and none follows it.
     if 15 < b {
-        return VarintRead::Refused(Refusal::VarintTooLarge);
+        return Err(Refusal::VarintTooLarge);
     }
     ended(acc, w, b, at + i + 1)
 }
 
 // Reads the varint at `at`. Most are one byte: these take two tests.
-pub fn decode_varint(s: &[u8], at: usize) -> VarintRead
+pub fn decode_varint(s: &[u8], at: usize) -> Result<Read<u32>, Refusal>
     ensures { ReadsVarint s.now at result }
 {
     if s.len() <= at {
-        return VarintRead::Refused(Refusal::InputEnds);
+        return Err(Refusal::InputEnds);
     }
     let first = wide32(s[at]);
     if first < 128 {
-        return VarintRead::Number {
+        return Ok(Read {
             value: first,
             next: at + 1,
-        };
+        });
     }
     get_varint(s, at, first)
-}
-
-// A read that is refused ends the call with its refusal, which a `let .. else` can't bind: this takes it out of the answer. Its other case is not met there.
-pub fn varint_refusal(a: VarintRead) -> Refusal
-    ensures { VarintRefusal a result }
-{
-    match a {
-        VarintRead::Refused(refusal) => refusal,
-        VarintRead::Number { value: _, next: _ } => Refusal::BadState,
-    }
 }

@@ -9,7 +9,7 @@ use borrow.Author.Tests.{leb-true, leb-false}
 use Rattle.basics.specs.declared.Refusal.TheVariants.{BufferTooSmall}
 use Rattle.layout.proofs.Laws.Splice.{put-short, put-wrote}
 use Rattle.copies.specs.Promise.{CopiesAll}
-use Rattle.buf_mut.specs.declared.Put.TheVariants.{At, Refused}
+use Rattle.std.specs.Prelude.{Ok, Err}
 use Rattle.buf_mut.specs.Promise.{Puts}
 use Rattle.buf_mut.proofs.copy_in.Goals as goal
 
@@ -17,10 +17,10 @@ module _ {src buf ys : List ℕ} {at : ℕ} {r : Bool} (h : CopiesAll src buf at
   room : r ≡ true → at + length src ≤ length buf
   room e = leb-true (at + length src) (length buf) (sym h.answer ∙ e)
 
-  put : r ≡ true → Puts src buf at (At (at + length src)) ys
+  put : r ≡ true → Puts src buf at (Ok (at + length src)) ys
   put e = record { answer = (put-wrote buf at src (record { is = refl; next = refl; room = room e })).0; bytes = h.bytes }
 
-  refused : r ≡ false → Puts src buf at (Refused BufferTooSmall) ys
+  refused : r ≡ false → Puts src buf at (Err BufferTooSmall) ys
   refused e = record { answer = (put-short buf at src (leb-false (at + length src) (length buf) (sym h.answer ∙ e))).0; bytes = h.bytes }
 
 pub overflow_add-result : goal.overflow_add-result

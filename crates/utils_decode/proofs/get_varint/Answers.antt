@@ -9,7 +9,7 @@ use Rattle.layout.proofs.Laws.Place.{varint_at-is, varint_at-no}
 use Rattle.layout.proofs.Laws.Res.{eqb-cases}
 use Rattle.layout.proofs.Laws.Varint.{IsLast, Reading, reading_start, reading_low, reading_fits32, reading_fits-last, reading_end, reading_good, reading_zero, reading_more, reading_fifth}
 use Rattle.utils_decode.specs.Parts.{ended_by}
-use Rattle.utils_decode.specs.Says.{says_varint}
+use Rattle.basics.specs.Answers.{says_num}
 use Rattle.utils_decode.proofs.get_varint.Goals as goal
 
 -- the byte that says that more follow
@@ -23,7 +23,7 @@ begun d at b h e l u =
     the_sum = omega arith
 
 -- a last byte after others
-ends : {d : List ℕ} {at acc w i : ℕ} (r : Reading d at acc w i) (b p : ℕ) → 1 ≤ i → at + i < length d → b ≡ get_or d (at + i) 0 → IsLast b i → p ≡ at + (i + 1) → says_varint (ended_by acc w b p) ≡ varint_at d at
+ends : {d : List ℕ} {at acc w i : ℕ} (r : Reading d at acc w i) (b p : ℕ) → 1 ≤ i → at + i < length d → b ≡ get_or d (at + i) 0 → IsLast b i → p ≡ at + (i + 1) → says_num (ended_by acc w b p) ≡ varint_at d at
 ends {d} {at} {acc} {w} {i} r b p some k e last q =
     ⊎_elim
     (λ t. rw t.0 (varint_at-no d at 10 (reading_zero r k e last some t.1)))

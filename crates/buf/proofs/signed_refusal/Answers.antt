@@ -1,8 +1,0 @@
--- `signed_refusal` takes the refusal out of an answer.
--- In the arm that binds it the answer is known to be that refusal, and the definition computes at it.
-use mathlib.Core.Path.{sym, ap}
-use Rattle.buf.specs.Says.{refusal_of_signed}
-use Rattle.buf.proofs.signed_refusal.Goals as goal
-
-pub returns-in-Refused : goal.returns-in-Refused
-returns-in-Refused c = sym (ap refusal_of_signed c.in-Refused.is)
