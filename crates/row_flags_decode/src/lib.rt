@@ -6,11 +6,10 @@
 ghost use Rattle.std.specs.Prelude.{◌≡◌};
 ghost use Rattle.layout.specs.RowRead.{time_at};
 ghost use Rattle.row_flags_decode.specs.Says.{says_flags};
-ghost use Rattle.row_flags_decode.specs.Parts.{flags_good, says_time_at, refusal_of_time};
-ghost use Rattle.row_flags_decode.specs.Promise.{ReadsFlags, FlagsRefusal, ReadsTimes, TimesRefusal};
+ghost use Rattle.row_flags_decode.specs.Parts.{flags_good, says_time_at};
+ghost use Rattle.row_flags_decode.specs.Promise.{ReadsFlags, ReadsTimes};
 
-use basics::{Kind, Refusal, Time};
-use buf::SignedRead;
+use basics::{Kind, Read, Refusal};
 
 // ---- flags
 
@@ -22,16 +21,10 @@ pub struct RowFlags {
     pub create: bool,
 }
 
-#[derive(Clone, Copy)]
-pub enum FlagsRead {
-    Read(RowFlags),
-    Refused(Refusal),
-}
-
-fn good_flags(kind: Kind, expire: bool, create: bool) -> FlagsRead
+fn good_flags(kind: Kind, expire: bool, create: bool) -> Result<RowFlags, Refusal>
     ensures { says_flags result ≡ flags_good kind expire create }
 {
-    FlagsRead::Read(RowFlags {
+    Ok(RowFlags {
         kind,
         expire,
         create,
@@ -39,7 +32,7 @@ fn good_flags(kind: Kind, expire: bool, create: bool) -> FlagsRead
 }
 
 // Tombstone 1, expire 2, create 4, merge 8.
-pub fn decode_flags(flags: u8) -> FlagsRead
+pub fn decode_flags(flags: u8) -> Result<RowFlags, Refusal>
     ensures { ReadsFlags flags result }
 {
     match flags {
@@ -55,100 +48,47 @@ pub fn decode_flags(flags: u8) -> FlagsRead
         10 => good_flags(Kind::Merge, true, false),
         12 => good_flags(Kind::Merge, false, true),
         14 => good_flags(Kind::Merge, true, true),
-        9 | 11 | 13 | 15 => FlagsRead::Refused(Refusal::TombstoneWithMerge),
-        16..=255 => FlagsRead::Refused(Refusal::UnknownFlags),
+        9 | 11 | 13 | 15 => Err(Refusal::TombstoneWithMerge),
+        16..=255 => Err(Refusal::UnknownFlags),
     }
 }
 
 // ---- times
 
-#[derive(Clone, Copy)]
-enum TimeRead {
-    Read { time: Time, next: usize },
-    Refused(Refusal),
-}
-
-fn time_at(flagged: bool, s: &[u8], at: usize) -> TimeRead
+// The time at `at` where it is flagged, and the place after it.
+fn time_at(flagged: bool, s: &[u8], at: usize) -> Result<Read<Option<i64>>, Refusal>
     ensures { says_time_at result ≡ time_at flagged s.now at }
 {
     if flagged {
-        let number = buf::get_i64(s, at);
-        let SignedRead::Number { value, next } = number else {
-            return TimeRead::Refused(buf::signed_refusal(number));
-        };
-        return TimeRead::Read {
-            time: Time::At(value),
-            next,
-        };
+        let number = buf::get_i64(s, at)?;
+        return Ok(Read {
+            value: Some(number.value),
+            next: number.next,
+        });
     }
-    TimeRead::Read {
-        time: Time::Absent,
+    Ok(Read {
+        value: None,
         next: at,
-    }
+    })
 }
 
 // The two times that were read, and the place after them.
 #[derive(Clone, Copy)]
 pub struct Times {
-    pub expire: Time,
-    pub create: Time,
+    pub expire: Option<i64>,
+    pub create: Option<i64>,
     pub next: usize,
 }
 
-#[derive(Clone, Copy)]
-pub enum TimesRead {
-    Read(Times),
-    Refused(Refusal),
-}
-
 // Reads the times that the flags say stand at `at`. The expire time stands first.
-pub fn times_at(s: &[u8], at: usize, flags: RowFlags) -> TimesRead
+pub fn times_at(s: &[u8], at: usize, flags: RowFlags) -> Result<Times, Refusal>
     ensures { ReadsTimes s.now at flags result }
 {
-    let one = time_at(flags.expire, s, at);
-    let TimeRead::Read {
-        time: expire,
-        next: create_at,
-    } = one
-    else {
-        return TimesRead::Refused(time_refusal(one));
-    };
-    let two = time_at(flags.create, s, create_at);
-    let TimeRead::Read { time: create, next } = two else {
-        return TimesRead::Refused(time_refusal(two));
-    };
-    TimesRead::Read(Times {
-        expire,
-        create,
-        next,
+    let expire = time_at(flags.expire, s, at)?;
+    let create = time_at(flags.create, s, expire.next)?;
+    Ok(Times {
+        expire: expire.value,
+        create: create.value,
+        next: create.next,
     })
-}
-
-// A read that is refused ends the call with its refusal, which a `let .. else` can't bind: these take it out of the answer.
-// Their other case is not met there.
-pub fn flags_refusal(a: FlagsRead) -> Refusal
-    ensures { FlagsRefusal a result }
-{
-    match a {
-        FlagsRead::Refused(refusal) => refusal,
-        FlagsRead::Read(_) => Refusal::BadState,
-    }
-}
-
-fn time_refusal(a: TimeRead) -> Refusal
-    ensures { result ≡ refusal_of_time a }
-{
-    match a {
-        TimeRead::Refused(refusal) => refusal,
-        TimeRead::Read { time: _, next: _ } => Refusal::BadState,
-    }
-}
-
-pub fn times_refusal(a: TimesRead) -> Refusal
-    ensures { TimesRefusal a result }
-{
-    match a {
-        TimesRead::Refused(refusal) => refusal,
-        TimesRead::Read(_) => Refusal::BadState,
-    }
 }
