@@ -1,28 +1,23 @@
 -- What each public function promises: equations to the definitions, that settle each number answered.
-use Rattle.std.specs.Prelude.{ℕ, ◌≡◌, Bool, List}
+use Rattle.std.specs.Prelude.{ℕ, ◌≡◌, Bool, List, Result, ⊤}
 use Rattle.layout.specs.Trailer.{trailer_of}
 use Rattle.basics.specs.Answers.{says_verdict}
 use Rattle.basics.specs.declared.Refusal.{Refusal}
 use Rattle.trailer.specs.declared.Trailer.{Trailer}
-use Rattle.trailer.specs.declared.TrailerRead.{TrailerRead}
 use Rattle.trailer.specs.declared.Region.{Region}
-use Rattle.basics.specs.declared.Verdict.{Verdict}
 use Rattle.trailer.specs.Handed.{has_region, region_at, offsets_at}
 use Rattle.trailer.specs.Plain.{trailer_or, region_or, region_by}
-use Rattle.trailer.specs.Says.{trailer_from, says_trailer, region_from, refusal_of_trailer}
+use Rattle.trailer.specs.Says.{trailer_from, says_trailer, region_from}
 
 abbrev pub PlainTrailer : List ℕ → Trailer → Type 0
 PlainTrailer b t = trailer_from t ≡ trailer_or (trailer_of b)
 
-abbrev pub ReadsTrailer : List ℕ → TrailerRead → Type 0
+abbrev pub ReadsTrailer : List ℕ → Result Trailer Refusal → Type 0
 ReadsTrailer b a = says_trailer a ≡ trailer_of b
 
 -- whether the numbers are those of a block of `len` bytes, with a region r
 abbrev pub TestsTrailer : Trailer → ℕ → ℕ → Bool → Type 0
 TestsTrailer t len r h = h ≡ has_region len (trailer_from t) r
-
-abbrev pub TrailerRefusal : TrailerRead → Refusal → Type 0
-TrailerRefusal a r = r ≡ refusal_of_trailer a
 
 -- a region of the trailer that is handed in
 abbrev pub PlainRegion : List ℕ → Trailer → ℕ → Region → Type 0
@@ -31,5 +26,5 @@ PlainRegion b t r g = region_from g ≡ region_or (region_at b (trailer_from t) 
 abbrev pub PlainRegionAt : List ℕ → ℕ → Region → Type 0
 PlainRegionAt b r g = region_from g ≡ region_or (region_by b r)
 
-abbrev pub TestsOffsets : List ℕ → Trailer → Verdict → Type 0
+abbrev pub TestsOffsets : List ℕ → Trailer → Result ⊤ Refusal → Type 0
 TestsOffsets b t a = says_verdict a ≡ offsets_at b (trailer_from t)

@@ -8,21 +8,15 @@ ghost use Rattle.layout.specs.Trailer.{short_at, first_of, region_of, all_offset
 ghost use Rattle.basics.specs.Answers.{says_verdict};
 ghost use Rattle.trailer.specs.Plain.{no_trailer, no_region, region_or};
 ghost use Rattle.trailer.specs.Says.{trailer_from, region_from};
-ghost use Rattle.trailer.specs.Promise.{PlainTrailer, ReadsTrailer, TestsTrailer, TrailerRefusal, PlainRegion, PlainRegionAt, TestsOffsets};
+ghost use Rattle.trailer.specs.Promise.{PlainTrailer, ReadsTrailer, TestsTrailer, PlainRegion, PlainRegionAt, TestsOffsets};
 
-use basics::{Refusal, Verdict};
+use basics::Refusal;
 
 // How many restarts there are, and how many bytes of rows.
 #[derive(Clone, Copy)]
 pub struct Trailer {
     pub count: usize,
     pub size: usize,
-}
-
-#[derive(Clone, Copy)]
-pub enum TrailerRead {
-    Good(Trailer),
-    Refused(Refusal),
 }
 
 // A restart region runs from `start` to before `end`. `reach` is the last position that an ascending cursor may have in it:
@@ -77,14 +71,14 @@ pub fn plain_trailer(block: &[u8]) -> Trailer
 }
 
 // Reads the count and tests it against the block: 14.
-pub fn trailer_of(block: &[u8]) -> TrailerRead
+pub fn trailer_of(block: &[u8]) -> Result<Trailer, Refusal>
     ensures { ReadsTrailer block.now result }
 {
     let t = plain_trailer(block);
     if 0 < t.count {
-        return TrailerRead::Good(t);
+        return Ok(t);
     }
-    TrailerRead::Refused(Refusal::BadTrailer)
+    Err(Refusal::BadTrailer)
 }
 
 // Whether these numbers are those of a block of `len` bytes with a region `r`. They may be any, so no sum is made of them that
@@ -181,7 +175,7 @@ pub fn plain_region_at(block: &[u8], r: usize) -> Region
     region_in(block, t, r)
 }
 
-fn offsets_rise(block: &[u8], t: Trailer) -> Verdict
+fn offsets_rise(block: &[u8], t: Trailer) -> Result<(), Refusal>
     requires { (t.size + (2 + 2 * t.count) ≡ length block.now) × (1 ≤ t.count) }
     ensures { says_verdict result ≡ all_offsets block.now (trailer_from t) }
 {
@@ -189,45 +183,32 @@ fn offsets_rise(block: &[u8], t: Trailer) -> Verdict
     let count = t.count;
     let first = short_at(block, size);
     if 0 < first {
-        return Verdict::Refused(Refusal::BadOffset);
+        return Err(Refusal::BadOffset);
     }
     if size <= first {
-        return Verdict::Refused(Refusal::BadOffset);
+        return Err(Refusal::BadOffset);
     }
     let mut previous = first;
-    let mut r: usize = 1;
-    while r < count {
+    for r in 1..count {
         let offset = short_at(block, size + 2 * r);
         if offset <= previous {
-            return Verdict::Refused(Refusal::BadOffset);
+            return Err(Refusal::BadOffset);
         }
         if size <= offset {
-            return Verdict::Refused(Refusal::BadOffset);
+            return Err(Refusal::BadOffset);
         }
         previous = offset;
-        r += 1;
     }
-    Verdict::Good
+    Ok(())
 }
 
 // All of 15: the first offset is 0, each is above the one before and below the data's length. 18 for numbers that are not the
 // block's; a trailer that counts no region is no block's.
-pub fn all_offsets(block: &[u8], t: Trailer) -> Verdict
+pub fn all_offsets(block: &[u8], t: Trailer) -> Result<(), Refusal>
     ensures { TestsOffsets block.now t result }
 {
     if !has_region(t, block.len(), 0) {
-        return Verdict::Refused(Refusal::BadState);
+        return Err(Refusal::BadState);
     }
     offsets_rise(block, t)
-}
-
-// A read that is refused ends its caller's call with its refusal, which a `let .. else` can't bind: this takes it out of the
-// answer. Its other case is not met there.
-pub fn trailer_refusal(a: TrailerRead) -> Refusal
-    ensures { TrailerRefusal a result }
-{
-    match a {
-        TrailerRead::Refused(refusal) => refusal,
-        TrailerRead::Good(_) => Refusal::BadState,
-    }
 }

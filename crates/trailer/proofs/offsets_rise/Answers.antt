@@ -35,9 +35,6 @@ module _ (b : List ℕ) (t : Trailer) (r previous offset : ℕ) (s : RisesFrom b
   turn : previous < offset → offset < t.size → RisesFrom b t (r + 1) (offset + 1)
   turn k m = rw read (rising-next b t r (previous + 1) s h (omega (arith, read)) (omega (arith, read)))
 
-pub short_at-first-requires : goal.short_at-first-requires
-short_at-first-requires c = omega (arith, c.requires)
-
 pub returns-then-first-gt0 : goal.returns-then-first-gt0
 returns-then-first-gt0 c = not-zero _ _ _ c.short_at-first.ensures.0 c.if-first-gt0.true
 
@@ -49,15 +46,6 @@ returns-then-size-first c =
 pub loop-r-init : goal.loop-r-init
 loop-r-init c =
     start _ _ _ c.short_at-first.ensures.0 c.requires.1 c.if-size-first.false
-
-pub overflow_mul-r : goal.overflow_mul-r
-overflow_mul-r c = omega (arith, c.requires)
-
-pub overflow_add-size : goal.overflow_add-size
-overflow_add-size c = omega (arith, c.requires)
-
-pub short_at-offset-requires : goal.short_at-offset-requires
-short_at-offset-requires c = omega (arith, c.requires)
 
 pub returns-then-offset-previous : goal.returns-then-offset-previous
 returns-then-offset-previous c =
