@@ -10,16 +10,15 @@ ghost use Rattle.buf_mut.specs.Promise.{Puts};
 ghost use Rattle.row_flags.specs.Says.{mark_bytes};
 ghost use Rattle.row_flags.specs.Promise.{Flagged, Keeps, TimeLength};
 
-use basics::{Kind, Refusal, Time};
-use buf_mut::Put;
+use basics::{Kind, Refusal};
 
 // What a row holds beside its key and its value's bytes, as it is offered.
 #[derive(Clone, Copy)]
 pub struct RowFields {
     pub kind: Kind,
     pub seq: u64,
-    pub expire: Time,
-    pub create: Time,
+    pub expire: Option<i64>,
+    pub create: Option<i64>,
 }
 
 // How many of the bytes that are offered as the value are written: of a tombstone's none.
@@ -53,12 +52,12 @@ fn kind_flag(kind: Kind) -> u8
     }
 }
 
-fn time_flag(time: Time, flag: u8) -> u8
+fn time_flag(time: Option<i64>, flag: u8) -> u8
     ensures { (result ≡ if_so (present (says_time time)) flag) × (result ≤ flag) }
 {
     match time {
-        Time::Absent => 0,
-        Time::At(_) => flag,
+        None => 0,
+        Some(_) => flag,
     }
 }
 
@@ -74,38 +73,38 @@ pub fn flags(row: RowFields) -> u8
 // ---- times
 
 // How many bytes a time takes.
-pub fn time_len(time: Time) -> usize
+pub fn time_len(time: Option<i64>) -> usize
     ensures { TimeLength time result }
 {
     match time {
-        Time::Absent => 0,
-        Time::At(_) => 8,
+        None => 0,
+        Some(_) => 8,
     }
 }
 
 // Writes a time at `at`, and nothing for an absent one.
-pub fn write_time(output: &mut [u8], at: usize, time: Time) -> Put
+pub fn write_time(output: &mut [u8], at: usize, time: Option<i64>) -> Result<usize, Refusal>
     ensures { Puts (time_bytes (says_time time)) output.old at result output.new }
 {
-    let Time::At(t) = time else {
+    let Some(t) = time else {
         // Nothing, too, has no place past the end.
         if output.len() < at {
-            return Put::Refused(Refusal::BufferTooSmall);
+            return Err(Refusal::BufferTooSmall);
         }
-        return Put::At(at);
+        return Ok(at);
     };
     buf_mut::put_i64(output, at, t)
 }
 
 // Writes a row's flags at `at`, then its expire time, then its create time.
-pub fn write_marks(output: &mut [u8], at: usize, row: RowFields) -> Put
+pub fn write_marks(output: &mut [u8], at: usize, row: RowFields) -> Result<usize, Refusal>
     ensures { Puts (mark_bytes row) output.old at result output.new }
 {
     let expire = row.expire;
     let create = row.create;
     let len = 1 + time_len(expire) + time_len(create);
     if numbers::rest_from(output.len(), at) < len {
-        return Put::Refused(Refusal::BufferTooSmall);
+        return Err(Refusal::BufferTooSmall);
     }
     output[at] = flags(row);
     let a = buf_mut::place_after(write_time(output, at + 1, expire));

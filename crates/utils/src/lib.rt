@@ -9,7 +9,6 @@ ghost use Rattle.buf_mut.specs.Promise.{Puts};
 ghost use Rattle.utils.specs.Promise.{VarintLength};
 
 use basics::Refusal;
-use buf_mut::Put;
 
 // How many bytes the varint of `v` takes, with no loop over them: seven bits a byte, and a byte for zero too.
 pub fn varint_len(v: u32) -> usize
@@ -22,22 +21,22 @@ pub fn varint_len(v: u32) -> usize
     ((b + 6) / 7) as usize
 }
 
-fn put_byte(buf: &mut [u8], at: usize, b: u8) -> Put
+fn put_byte(buf: &mut [u8], at: usize, b: u8) -> Result<usize, Refusal>
     ensures { Puts (b ∷ []) buf.old at result buf.new }
 {
     if at < buf.len() {
         buf[at] = b;
-        return Put::At(at + 1);
+        return Ok(at + 1);
     }
-    Put::Refused(Refusal::BufferTooSmall)
+    Err(Refusal::BufferTooSmall)
 }
 
 // A varint of any length. The room is tested before the first store, since a refusal writes nothing.
-fn put_varint(buf: &mut [u8], at: usize, v: u32) -> Put
+fn put_varint(buf: &mut [u8], at: usize, v: u32) -> Result<usize, Refusal>
     ensures { Puts (varint v) buf.old at result buf.new }
 {
     if numbers::rest_from(buf.len(), at) < varint_len(v) {
-        return Put::Refused(Refusal::BufferTooSmall);
+        return Err(Refusal::BufferTooSmall);
     }
     let mut rest = v;
     let mut i = at;
@@ -47,11 +46,11 @@ fn put_varint(buf: &mut [u8], at: usize, v: u32) -> Put
         i += 1;
     }
     buf[i] = rest as u8;
-    Put::At(i + 1)
+    Ok(i + 1)
 }
 
 // Writes `v` at `at` in the fewest bytes. Most lengths are below 128: these take one test and one store.
-pub fn encode_varint(buf: &mut [u8], at: usize, v: u32) -> Put
+pub fn encode_varint(buf: &mut [u8], at: usize, v: u32) -> Result<usize, Refusal>
     ensures { Puts (varint v) buf.old at result buf.new }
 {
     if v < 128 {

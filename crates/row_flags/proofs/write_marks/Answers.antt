@@ -1,6 +1,7 @@
 -- `write_marks` keeps its promise: flags, expire time and create time, one after another, or 6 and an untouched buffer.
 -- The room is tested first, for as many bytes as the three take. So the store of the flags is a write of one byte and each writer after it has room; what the last one answers,
 -- all three have put.
+use Rattle.std.specs.Prelude.{Result}
 use Prim.Native.Nat.{ℕ, ◌+◌, ◌≤◌}
 use mathlib.Core.Path.{◌≡◌, subst}
 use mathlib.Core.List.{List, [], ◌∷◌, ◌++◌}
@@ -11,9 +12,9 @@ use Rattle.layout.proofs.Laws.Row.{length-time_bytes}
 use Rattle.layout.specs.Laws.Splice.{Wrote}
 use Rattle.layout.proofs.Laws.Splice.{wrote-set}
 use Rattle.basics.specs.Says.{says_time}
-use Rattle.buf_mut.specs.declared.Put.{Put}
+use Rattle.basics.specs.declared.Refusal.{Refusal}
 use Rattle.buf_mut.specs.Promise.{Puts}
-use Rattle.buf_mut.specs.Says.{place_after}
+use Rattle.buf_mut.specs.Promise.{place_after}
 use Rattle.buf_mut.proofs.Laws.{puts-short, puts-length, room-first, room_next, put_one, puts_then}
 use Rattle.row_flags.specs.declared.RowFields.{RowFields}
 use Rattle.row_flags.specs.Promise.{Flagged}
@@ -30,7 +31,7 @@ module _ (row : RowFields) where
   marks-length : length (mark_bytes row) ≡ 1 + if_so (present (says_time row.expire)) 8 + if_so (present (says_time row.create)) 8
   marks-length = omega (arith, length-append expire create, length-time_bytes (says_time row.expire), length-time_bytes (says_time row.create))
 
-  marks-put : {xs ys zs : List ℕ} {at x a : ℕ} {p q : Put} → at + length (mark_bytes row) ≤ length xs → Flagged row x → Puts expire (set xs at x) (at + 1) p ys → a ≡ place_after p
+  marks-put : {xs ys zs : List ℕ} {at x a : ℕ} {p q : Result ℕ Refusal} → at + length (mark_bytes row) ≤ length xs → Flagged row x → Puts expire (set xs at x) (at + 1) p ys → a ≡ place_after p
       → Puts create ys a q zs → Puts (mark_bytes row) xs at q zs
   marks-put {xs} {zs = zs} {at} {x} {q = r} h e p d q =
       let flag : Wrote xs at (x ∷ []) (set xs at x) (at + 1) = wrote-set xs at x (omega arith) in
