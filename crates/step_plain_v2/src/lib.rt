@@ -245,8 +245,8 @@ fn carry(key: &mut [u8], out: &mut [u8], block: &[u8], shared: usize, from: usiz
     let whole = shared + n;
     if (whole < 16) | (16 < shared) | (16 < n) {
         let end = from + n;
-        buf_mut::copy_in(key, shared, &block[from..end]);
-        buf_mut::copy_in(out, 0, &key[..whole]);
+        let _ = buf_mut::copy_in(key, shared, &block[from..end]);
+        let _ = buf_mut::copy_in(out, 0, &key[..whole]);
         return;
     }
     copy_8(out, 0, key, 0);
