@@ -6,7 +6,6 @@ ghost use Rattle.std.specs.Prelude.{◌≡◌, ◌%◌};
 ghost use Rattle.trailer_encode.specs.Promise.{PutsTrailer};
 
 use basics::Refusal;
-use buf_mut::Put;
 
 // Two bytes hold the low 16 bits of a count.
 fn low_16(n: usize) -> u16
@@ -17,27 +16,26 @@ fn low_16(n: usize) -> u16
 
 // Writes the first `count` offsets, or all where there are fewer, and then how many they are. The room is tested before the
 // first store, since a refusal writes nothing.
-pub fn put_trailer(buf: &mut [u8], at: usize, offsets: &[u16], count: usize) -> Put
+pub fn put_trailer(
+    buf: &mut [u8],
+    at: usize,
+    offsets: &[u16],
+    count: usize,
+) -> Result<usize, Refusal>
     ensures { PutsTrailer offsets.now count buf.old at result buf.new }
 {
-    let n = numbers::least(count, offsets.len());
+    let n = count.min(offsets.len());
     if buf.len() < at {
-        return Put::Refused(Refusal::BufferTooSmall);
+        return Err(Refusal::BufferTooSmall);
     }
     // Two bytes for each offset, and two for their count.
     if (buf.len() - at) / 2 <= n {
-        return Put::Refused(Refusal::BufferTooSmall);
+        return Err(Refusal::BufferTooSmall);
     }
     let mut next = at;
-    let mut i: usize = 0;
-    while i < n {
-        let p = buf_mut::put_u16(buf, next, offsets[i]);
-        // Never taken: there is room.
-        let Put::At(after) = p else {
-            return p;
-        };
-        next = after;
-        i += 1;
+    for &offset in &offsets[..n] {
+        // Never refused: there is room.
+        next = buf_mut::put_u16(buf, next, offset)?;
     }
     buf_mut::put_u16(buf, next, low_16(n))
 }
