@@ -1,7 +1,7 @@
 -- Each promise admits one outcome: two results that both keep it are equal.
 use Rattle.std.specs.Prelude.{ℕ, ◌≡◌, Bool, List}
 use Rattle.std.proofs.Common.{sym, ◌∙◌}
-use Rattle.keys.specs.declared.Ordering.{Ordering}
+use Rattle.std.specs.declared.cmp.Ordering.{Ordering}
 use Rattle.keys.specs.Promise.{Compares, TellsBelow, Shares}
 use Rattle.keys.specs.Says.{says_ordering-one}
 

@@ -1,7 +1,7 @@
 -- What each public function promises: equations to the definitions of `layout`, that settle each number answered.
 use Rattle.std.specs.Prelude.{ℕ, ◌≡◌, Bool, List}
 use Rattle.layout.specs.Key.{below, compare, common}
-use Rattle.keys.specs.declared.Ordering.{Ordering}
+use Rattle.std.specs.declared.cmp.Ordering.{Ordering}
 use Rattle.keys.specs.Says.{says_ordering}
 
 abbrev pub Compares : List ℕ → List ℕ → Ordering → Type 0

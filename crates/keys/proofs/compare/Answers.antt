@@ -1,4 +1,5 @@
 use mathlib.Core.Path.{refl, sym, ◌∙◌}
+use native.Mathlib.Omega.{arith}
 use Rattle.layout.proofs.Laws.Key.{compare-ended, compare-short, compare-long, compare-less, compare_greater, compare-more}
 use Rattle.keys.proofs.compare.Goals as goal
 
@@ -20,8 +21,8 @@ pub loop-i-preserved : goal.loop-i-preserved
 loop-i-preserved c =
     sym (compare-more _ _ _ c.loop-i-test.true c.if-b-i.false c.if-a-i.false c.if-b-i-2.false) ∙ c.loop-i.invariant
 
-pub returns-then-i-b : goal.returns-then-i-b
-returns-then-i-b c = sym (compare-short _ _ _ c.loop-i-test.false c.if-i-b.true) ∙ c.loop-i.invariant
+pub returns-then-a-b : goal.returns-then-a-b
+returns-then-a-b c = sym (compare-short _ _ _ c.loop-i-test.false (omega arith)) ∙ c.loop-i.invariant
 
-pub returns-else-i-b : goal.returns-else-i-b
-returns-else-i-b c = sym (compare-ended _ _ _ c.loop-i-test.false c.if-i-b.false) ∙ c.loop-i.invariant
+pub returns-else-a-b : goal.returns-else-a-b
+returns-else-a-b c = sym (compare-ended _ _ _ c.loop-i-test.false (omega arith)) ∙ c.loop-i.invariant
