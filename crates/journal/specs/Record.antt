@@ -1,13 +1,17 @@
 -- A record: "one byte of kind, then a body whose length the kind fixes". Kind 1 is a debit and kind 2 a top-up: card (8 bytes), retry number (8), amount (4), all
 -- high byte first. Kind 3 closes a card: its 8 bytes.
-use Rattle.std.specs.Prelude.{ℕ, ◌+◌, cond, ◌∷◌, ◌++◌, ltb, leb, eqb, length, take, drop, get_or}
+use Rattle.std.specs.Prelude.{ℕ, ◌+◌, cond, ◌∷◌, ◌++◌, ltb, leb, eqb, length, take, drop, get_or, Result, Ok, Err}
 use Rattle.layout.specs.Bytes.{Bytes}
 use Rattle.layout.specs.Fixed.{big, unbig}
+use Rattle.journal.specs.declared.Refusal.{Refusal}
 use Rattle.journal.specs.declared.Refusal.TheVariants.{TooLong, UnknownKind}
+use Rattle.journal.specs.declared.Kind.{Kind}
+use Rattle.journal.specs.declared.Kind.TheVariants.{Debit as DebitKind, TopUp as TopUpKind, Close as CloseKind}
+use Rattle.journal.specs.declared.NoKind.{NoKind}
 use Rattle.journal.specs.declared.Record.{Record}
 use Rattle.journal.specs.declared.Record.TheVariants.{Debit, TopUp, Close}
 use Rattle.journal.specs.declared.Found.{Found}
-use Rattle.journal.specs.declared.Found.TheVariants.{Whole, Incomplete, End, Refused}
+use Rattle.journal.specs.declared.Found.TheVariants.{Whole, Incomplete, End}
 
 abbrev pub debit_kind : ℕ
 debit_kind = 1
@@ -17,6 +21,16 @@ top_up_kind = 2
 
 abbrev pub close_kind : ℕ
 close_kind = 3
+
+-- the byte that stands for a kind
+abbrev pub byte_of : Kind → ℕ
+byte_of DebitKind = debit_kind
+byte_of TopUpKind = top_up_kind
+byte_of CloseKind = close_kind
+
+-- the kind that a byte stands for
+unfoldable pub kind_in : ℕ → Result Kind NoKind
+kind_in byte = cond (eqb byte debit_kind) (Ok DebitKind) (cond (eqb byte top_up_kind) (Ok TopUpKind) (cond (eqb byte close_kind) (Ok CloseKind) (Err (record {}))))
 
 -- "so 21 bytes with the kind"; a close has 9; another kind is no record's
 unfoldable pub length_of : ℕ → ℕ
@@ -70,17 +84,17 @@ body_at kind d at =
     (TopUp (number_at 8 d (at + 1)) (number_at 8 d (at + 9)) (number_at 4 d (at + 17))))
 
 -- what stands at `at`: nothing; a kind that is none of the three (31, with its position); a record that the bytes end inside; or a record and the place after it
-unfoldable pub found_in : Bytes → ℕ → Found
+unfoldable pub found_in : Bytes → ℕ → Result Found Refusal
 found_in d at =
-    cond (leb (length d) at) End
-    (cond (eqb (length_of (kind_at d at)) 0) (Refused (UnknownKind at))
-    (cond (ltb (length d) (at + length_of (kind_at d at))) Incomplete
-    (Whole (body_at (kind_at d at) d at) (at + length_of (kind_at d at)))))
+    cond (leb (length d) at) (Ok End)
+    (cond (eqb (length_of (kind_at d at)) 0) (Err (UnknownKind at))
+    (cond (ltb (length d) (at + length_of (kind_at d at))) (Ok Incomplete)
+    (Ok (Whole (body_at (kind_at d at) d at) (at + length_of (kind_at d at))))))
 
 -- ---- a single record of a journal: "a journal over 65,536 bytes answers 30"
 
 abbrev pub max_journal : ℕ
 max_journal = 65536
 
-unfoldable pub record_at : Bytes → ℕ → Found
-record_at d at = cond (ltb max_journal (length d)) (Refused TooLong) (found_in d at)
+unfoldable pub record_at : Bytes → ℕ → Result Found Refusal
+record_at d at = cond (ltb max_journal (length d)) (Err TooLong) (found_in d at)

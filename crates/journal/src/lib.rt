@@ -2,9 +2,9 @@
 // `journal_balance` has a card's balance from it, `journal_append` appends to it. Nothing of slatedb's: added.
 #![tactic(auto)]
 
-ghost use Rattle.std.specs.Prelude.{◌≡◌, ◌+◌, ◌≤◌, ◌<◌, length};
-ghost use Rattle.journal.specs.Record.{length_of, number_at, body_at, found_in};
-ghost use Rattle.journal.specs.Promise.{Numbered, Measures, Finds};
+ghost use Rattle.std.specs.Prelude.{◌≡◌, ◌+◌, ◌≤◌, length};
+ghost use Rattle.journal.specs.Record.{byte_of, length_of, body_at, found_in};
+ghost use Rattle.journal.specs.Promise.{Numbered, Decodes, Measures, HasKind, Finds};
 
 // A journal has no more bytes.
 pub const MAX_JOURNAL: usize = 65536;
@@ -23,11 +23,86 @@ pub enum Refusal {
     NoRoom,
 }
 
+impl From<Refusal> for u8 {
+    fn from(refusal: Refusal) -> u8
+        ensures { Numbered refusal result }
+    {
+        match refusal {
+            Refusal::TooLong => 30,
+            Refusal::UnknownKind(_) => 31,
+            Refusal::UsedPastBuffer => 32,
+            Refusal::EndsInside => 33,
+            Refusal::NoRoom => 34,
+        }
+    }
+}
+
+// A record's kind, by the byte that it starts with.
+#[derive(Clone, Copy)]
+pub enum Kind {
+    Debit = 1,
+    TopUp = 2,
+    Close = 3,
+}
+
+// A byte that no record starts with.
+#[derive(Clone, Copy)]
+pub struct NoKind;
+
+impl TryFrom<u8> for Kind {
+    type Error = NoKind;
+
+    fn try_from(byte: u8) -> Result<Kind, NoKind>
+        ensures { Decodes byte result }
+    {
+        match byte {
+            1 => Ok(Kind::Debit),
+            2 => Ok(Kind::TopUp),
+            3 => Ok(Kind::Close),
+            _ => Err(NoKind),
+        }
+    }
+}
+
+impl Kind {
+    // How many bytes a record of this kind takes.
+    pub fn length(self) -> usize
+        ensures { Measures (byte_of self) result }
+    {
+        match self {
+            Kind::Debit | Kind::TopUp => 21,
+            Kind::Close => 9,
+        }
+    }
+}
+
+// How many bytes a record takes that starts with this byte; 0 if none does.
+pub fn length_of(kind: u8) -> usize
+    ensures { Measures kind result }
+{
+    match Kind::try_from(kind) {
+        Ok(kind) => kind.length(),
+        Err(_) => 0,
+    }
+}
+
 #[derive(Clone, Copy)]
 pub enum Record {
     Debit { card: u64, retry: u64, amount: u32 },
     TopUp { card: u64, retry: u64, amount: u32 },
     Close { card: u64 },
+}
+
+impl Record {
+    pub fn kind(self) -> Kind
+        ensures { HasKind self result }
+    {
+        match self {
+            Record::Debit { .. } => Kind::Debit,
+            Record::TopUp { .. } => Kind::TopUp,
+            Record::Close { .. } => Kind::Close,
+        }
+    }
 }
 
 // What stands at a place: a record and the place after it; a record that the journal ends inside; the journal's end.
@@ -36,105 +111,56 @@ pub enum Found {
     Whole { record: Record, next: usize },
     Incomplete,
     End,
-    Refused(Refusal),
 }
 
-pub fn number(r: Refusal) -> u8
-    ensures { Numbered r result }
-{
-    match r {
-        Refusal::TooLong => 30,
-        Refusal::UnknownKind(_) => 31,
-        Refusal::UsedPastBuffer => 32,
-        Refusal::EndsInside => 33,
-        Refusal::NoRoom => 34,
-    }
-}
-
-// How many bytes a record of this kind takes; 0 for another kind.
-pub fn length_of(kind: u8) -> usize
-    ensures { Measures kind result }
-{
-    if kind == 1 {
-        return 21;
-    }
-    if kind == 2 {
-        return 21;
-    }
-    if kind == 3 {
-        return 9;
-    }
-    0
-}
-
-fn wide32(x: u8) -> u32
-    ensures { (result ≡ x) × (result < 256) }
-{
-    x as u32
-}
-
-fn four_at(journal: &[u8], at: usize) -> u32
-    requires { at + 4 ≤ length journal.now }
-    ensures { result ≡ number_at 4 journal.now at }
-{
-    let a = wide32(journal[at]);
-    let b = wide32(journal[at + 1]);
-    let c = wide32(journal[at + 2]);
-    let d = wide32(journal[at + 3]);
-    ((a * 256 + b) * 256 + c) * 256 + d
-}
-
-// The record of this kind, which is one of the three, whose kind stands at `at`.
-fn body_at(journal: &[u8], at: usize, kind: u8) -> Record
-    requires { (0 < length_of kind) × (at + length_of kind ≤ length journal.now) }
-    ensures { result ≡ body_at kind journal.now at }
+// The record of this kind whose kind stands at `at`. What is read past a close's card is not its own, and is dropped.
+fn body_at(journal: &[u8], at: usize, kind: Kind) -> Record
+    requires { at + length_of (byte_of kind) ≤ length journal.now }
+    ensures { result ≡ body_at (byte_of kind) journal.now at }
 {
     let card = buf::eight(journal, at + 1);
-    if kind == 3 {
-        return Record::Close { card };
-    }
     let retry = buf::eight(journal, at + 9);
-    let amount = four_at(journal, at + 17);
-    if kind == 1 {
-        return Record::Debit {
+    let amount = buf::four(journal, at + 17) as u32;
+    match kind {
+        Kind::Debit => Record::Debit {
             card,
             retry,
             amount,
-        };
-    }
-    Record::TopUp {
-        card,
-        retry,
-        amount,
+        },
+        Kind::TopUp => Record::TopUp {
+            card,
+            retry,
+            amount,
+        },
+        Kind::Close => Record::Close { card },
     }
 }
 
-fn found_in(journal: &[u8], at: usize) -> Found
+fn found_in(journal: &[u8], at: usize) -> Result<Found, Refusal>
     ensures { result ≡ found_in journal.now at }
 {
     if journal.len() <= at {
-        return Found::End;
+        return Ok(Found::End);
     }
-    let kind = journal[at];
-    let n = length_of(kind);
-    if n == 0 {
-        return Found::Refused(Refusal::UnknownKind(at));
-    }
+    let Ok(kind) = Kind::try_from(journal[at]) else {
+        return Err(Refusal::UnknownKind(at));
+    };
+    let n = kind.length();
     if journal.len() - at < n {
-        return Found::Incomplete;
+        return Ok(Found::Incomplete);
     }
-    Found::Whole {
+    Ok(Found::Whole {
         record: body_at(journal, at, kind),
         next: at + n,
-    }
+    })
 }
 
 // The record at `at`.
-pub fn record_at(journal: &[u8], at: usize) -> Found
+pub fn record_at(journal: &[u8], at: usize) -> Result<Found, Refusal>
     ensures { Finds journal.now at result }
 {
     if MAX_JOURNAL < journal.len() {
-        return Found::Refused(Refusal::TooLong);
+        return Err(Refusal::TooLong);
     }
     found_in(journal, at)
 }

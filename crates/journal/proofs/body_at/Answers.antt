@@ -1,33 +1,38 @@
 -- `body_at` reads the fields that the kind has.
 use Prim.Native.Nat.{◌+◌}
-use mathlib.Core.Path.{◌≡◌, sym}
+use mathlib.Core.Path.{◌≡◌, ap, sym}
 use native.Mathlib.Omega.{arith}
-use Rattle.journal.specs.Record.{number_at}
-use Rattle.journal.specs.Laws.Found.{length-least, length-long, kind-up, body-close, body-debit, body_up}
-use Rattle.journal.proofs.Numbers.{eight_is}
-use Rattle.journal.proofs.body_at.Goals.{After-eight-card, After-eight-retry}
+use Rattle.journal.specs.Record.{byte_of, number_at}
+use Rattle.journal.specs.Laws.Found.{length-least, length-debit, length_up, kind-some, body-close, body-debit, body_up}
+use Rattle.journal.proofs.Numbers.{number_is}
+use Rattle.journal.proofs.body_at.Goals.{After-eight-card}
 use Rattle.journal.proofs.body_at.Goals as goal
 
--- the card and the retry number that were read
+-- the card that was read
 card-is : (c : After-eight-card) → c.eight-card.result ≡ number_at 8 c.args.journal.now (c.args.at + 1)
 card-is c =
-    eight_is c.args.journal.now (c.args.at + 1) (omega (arith, length-least c.args.kind c.requires.0)) c.eight-card.ensures
+    number_is 8 c.args.journal.now (c.args.at + 1) (omega (arith, length-least (byte_of c.args.kind) (kind-some c.args.kind))) c.eight-card.ensures
 
-retry_is : (c : After-eight-retry) → c.eight-retry.result ≡ number_at 8 c.args.journal.now (c.args.at + 9)
-retry_is c =
-    eight_is c.args.journal.now (c.args.at + 9) (omega (arith, length-long c.args.kind c.requires.0 c.if-kind-eq3.false)) c.eight-retry.ensures
+pub returns-in-Debit : goal.returns-in-Debit
+returns-in-Debit c =
+    let is = ap byte_of c.in-Debit.is in
+    let long = length-debit _ is in
+    rw (
+      card-is (goal.at.returns-in-Debit c).After-eight-card,
+      number_is 8 c.args.journal.now (c.args.at + 9) (omega arith) c.eight-retry.ensures,
+      number_is 4 c.args.journal.now (c.args.at + 17) (omega arith) c.four-amount.ensures.0,
+    ) (sym (body-debit _ _ _ is))
 
-pub returns-then-kind-eq3 : goal.returns-then-kind-eq3
-returns-then-kind-eq3 c = rw (card-is (goal.at.returns-then-kind-eq3 c).After-eight-card) (sym (body-close _ _ _ c.if-kind-eq3.true))
+pub returns-in-TopUp : goal.returns-in-TopUp
+returns-in-TopUp c =
+    let is = ap byte_of c.in-TopUp.is in
+    let long = length_up _ is in
+    rw (
+      card-is (goal.at.returns-in-TopUp c).After-eight-card,
+      number_is 8 c.args.journal.now (c.args.at + 9) (omega arith) c.eight-retry.ensures,
+      number_is 4 c.args.journal.now (c.args.at + 17) (omega arith) c.four-amount.ensures.0,
+    ) (sym (body_up _ _ _ is))
 
-pub four_at-amount-requires : goal.four_at-amount-requires
-four_at-amount-requires c = omega (arith, length-long c.args.kind c.requires.0 c.if-kind-eq3.false)
-
-pub returns-then-kind-eq1 : goal.returns-then-kind-eq1
-returns-then-kind-eq1 c =
-    rw (card-is (goal.at.returns-then-kind-eq1 c).After-eight-card, retry_is (goal.at.returns-then-kind-eq1 c).After-eight-retry, c.four_at-amount.ensures) (sym (body-debit _ _ _ c.if-kind-eq1.true))
-
-pub returns : goal.returns
-returns c =
-    rw (card-is (goal.at.returns c).After-eight-card, retry_is (goal.at.returns c).After-eight-retry, c.four_at-amount.ensures)
-    (sym (body_up _ _ _ (kind-up c.args.kind c.requires.0 c.if-kind-eq3.false c.if-kind-eq1.false)))
+pub returns-in-Close : goal.returns-in-Close
+returns-in-Close c =
+    rw (card-is (goal.at.returns-in-Close c).After-eight-card) (sym (body-close _ _ _ (ap byte_of c.in-Close.is)))

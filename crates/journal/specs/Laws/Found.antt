@@ -1,13 +1,16 @@
 -- What stands at a place, case by case; and what a record that was found tells: its kind is one of the three, its bytes are all there.
-use Rattle.std.specs.Prelude.{ℕ, ◌+◌, ◌≤◌, ◌<◌, ◌≡◌, refl, Bool, true, false, cond, List, ltb, leb, eqb, length}
+use Rattle.std.specs.Prelude.{ℕ, ◌+◌, ◌≤◌, ◌<◌, ◌≡◌, refl, Bool, true, false, cond, List, ltb, leb, eqb, length, Result, Ok, Err, MatchResult}
 use Rattle.std.proofs.Common.{ap, sym, ◌∙◌, ⊎_elim, arith}
 use borrow.Author.Tests.{lt-ltb, le-ltb, le-leb, lt-leb, eq-eqb, ne_eqb, ltb-false, eqb-false}
 use Rattle.layout.proofs.Laws.Res.{eqb-cases}
 use Rattle.journal.specs.declared.Refusal.TheVariants.{UnknownKind}
+use Rattle.journal.specs.declared.Kind.{Kind}
+use Rattle.journal.specs.declared.Kind.TheVariants.{Debit as DebitKind, TopUp as TopUpKind, Close as CloseKind}
+use Rattle.journal.specs.declared.NoKind.{NoKind}
 use Rattle.journal.specs.declared.Record.{Record}
 use Rattle.journal.specs.declared.Record.TheVariants.{Debit, TopUp, Close}
-use Rattle.journal.specs.declared.Found.TheVariants.{Whole, Incomplete, End, Refused}
-use Rattle.journal.specs.Record.{length_of, kind_of, card_of, retry_of, amount_of, number_at, kind_at, body_at, found_in, max_journal, record_at}
+use Rattle.journal.specs.declared.Found.TheVariants.{Whole, Incomplete, End}
+use Rattle.journal.specs.Record.{byte_of, kind_in, length_of, kind_of, card_of, retry_of, amount_of, number_at, kind_at, body_at, found_in, max_journal, record_at}
 
 -- ---- lengths
 
@@ -74,6 +77,56 @@ kind-up k h n m = go (one_of k h)
     go (up a b) = a
     go (close a b) = absurd (n a)
 
+-- ---- kinds
+
+pub byte-one : (k l : Kind) → byte_of k ≡ byte_of l → k ≡ l
+byte-one DebitKind DebitKind e = refl
+byte-one DebitKind TopUpKind e = absurd (omega arith)
+byte-one DebitKind CloseKind e = absurd (omega arith)
+byte-one TopUpKind DebitKind e = absurd (omega arith)
+byte-one TopUpKind TopUpKind e = refl
+byte-one TopUpKind CloseKind e = absurd (omega arith)
+byte-one CloseKind DebitKind e = absurd (omega arith)
+byte-one CloseKind TopUpKind e = absurd (omega arith)
+byte-one CloseKind CloseKind e = refl
+
+-- a kind has a length
+pub kind-some : (k : Kind) → 0 < length_of (byte_of k)
+kind-some DebitKind = omega (arith, length-debit 1 refl)
+kind-some TopUpKind = omega (arith, length_up 2 refl)
+kind-some CloseKind = omega (arith, length-close 3 refl)
+
+module _ (b : ℕ) where
+  pub kind_debit : b ≡ 1 → Ok DebitKind ≡ kind_in b
+  unfolding kind_in
+  kind_debit e = rw e refl
+
+  pub kind_up : b ≡ 2 → Ok TopUpKind ≡ kind_in b
+  unfolding kind_in
+  kind_up e = rw e refl
+
+  pub kind_close : b ≡ 3 → Ok CloseKind ≡ kind_in b
+  unfolding kind_in
+  kind_close e = rw e refl
+
+  pub kind_none : (b ≡ 1 → ⊥) → (b ≡ 2 → ⊥) → (b ≡ 3 → ⊥) → Err (record {}) ≡ kind_in b
+  unfolding kind_in
+  kind_none n m o = rw (ne_eqb b 1 n, ne_eqb b 2 m, ne_eqb b 3 o) refl
+
+-- what a byte's kind tells of the byte
+kind-tells : (b : ℕ) (x : Result Kind NoKind) → x ≡ kind_in b → MatchResult x (λ k. byte_of k ≡ b) (λ e. length_of b ≡ 0)
+kind-tells b x e =
+    ⊎_elim (λ u. rw (e ∙ sym (kind_debit b u.1)) (sym u.1))
+    (λ u. ⊎_elim (λ v. rw (e ∙ sym (kind_up b v.1)) (sym v.1))
+    (λ v. ⊎_elim (λ w. rw (e ∙ sym (kind_close b w.1)) (sym w.1))
+    (λ w. rw (e ∙ sym (kind_none b u.1 v.1 w.1)) (length_none b u.1 v.1 w.1)) (eqb-cases b 3)) (eqb-cases b 2)) (eqb-cases b 1)
+
+pub kind-is : (b : ℕ) (k : Kind) → Ok k ≡ kind_in b → byte_of k ≡ b
+kind-is b k e = kind-tells b (Ok k) e
+
+pub not_kind : (b : ℕ) (n : NoKind) → Err n ≡ kind_in b → length_of b ≡ 0
+not_kind b n e = kind-tells b (Err n) e
+
 -- ---- bodies
 
 module _ (k : ℕ) (d : List ℕ) (at : ℕ) where
@@ -131,21 +184,21 @@ kind-length (Close c) = omega (arith, length-close 3 refl)
 -- ---- what stands at a place
 
 module _ (d : List ℕ) (at : ℕ) where
-  pub found-end : length d ≤ at → found_in d at ≡ End
+  pub found-end : length d ≤ at → found_in d at ≡ Ok End
   unfolding found_in
   found-end h = rw (le-leb (length d) at h)
 
   module _ (h : at < length d) where
-    pub found_unknown : length_of (kind_at d at) ≡ 0 → found_in d at ≡ Refused (UnknownKind at)
+    pub found_unknown : length_of (kind_at d at) ≡ 0 → found_in d at ≡ Err (UnknownKind at)
     unfolding found_in
     found_unknown e = rw (lt-leb (length d) at h, eq-eqb (length_of (kind_at d at)) 0 e)
 
     module _ (some : length_of (kind_at d at) ≡ 0 → ⊥) where
-      pub found_incomplete : length d < at + length_of (kind_at d at) → found_in d at ≡ Incomplete
+      pub found_incomplete : length d < at + length_of (kind_at d at) → found_in d at ≡ Ok Incomplete
       unfolding found_in
       found_incomplete l = rw (lt-leb (length d) at h, ne_eqb (length_of (kind_at d at)) 0 some, lt-ltb (length d) (at + length_of (kind_at d at)) l)
 
-      pub found-whole : at + length_of (kind_at d at) ≤ length d → found_in d at ≡ Whole (body_at (kind_at d at) d at) (at + length_of (kind_at d at))
+      pub found-whole : at + length_of (kind_at d at) ≤ length d → found_in d at ≡ Ok (Whole (body_at (kind_at d at) d at) (at + length_of (kind_at d at)))
       unfolding found_in
       found-whole l = rw (lt-leb (length d) at h, ne_eqb (length_of (kind_at d at)) 0 some, le-ltb (length d) (at + length_of (kind_at d at)) l)
 
@@ -156,12 +209,12 @@ pub record Tells (d : List ℕ) (at : ℕ) (r : Record) (next : ℕ) : Type 0 wh
   pub some : 0 < length_of (kind_at d at)
   pub inside : next ≤ length d
 
-pub tells : (d : List ℕ) (at : ℕ) (r : Record) (next : ℕ) → found_in d at ≡ Whole r next → Tells d at r next
+pub tells : (d : List ℕ) (at : ℕ) (r : Record) (next : ℕ) → found_in d at ≡ Ok (Whole r next) → Tells d at r next
 unfolding found_in
 tells d at r next e = go (leb (length d) at) refl (eqb (length_of (kind_at d at)) 0) refl (ltb (length d) (at + length_of (kind_at d at))) refl e
   where
     go : (a : Bool) → leb (length d) at ≡ a → (b : Bool) → eqb (length_of (kind_at d at)) 0 ≡ b → (t : Bool) → ltb (length d) (at + length_of (kind_at d at)) ≡ t
-        → cond a End (cond b (Refused (UnknownKind at)) (cond t Incomplete (Whole (body_at (kind_at d at) d at) (at + length_of (kind_at d at))))) ≡ Whole r next → Tells d at r next
+        → cond a (Ok End) (cond b (Err (UnknownKind at)) (cond t (Ok Incomplete) (Ok (Whole (body_at (kind_at d at) d at) (at + length_of (kind_at d at)))))) ≡ Ok (Whole r next) → Tells d at r next
     go true p b q t u e = absurd (let z : ◌≡◌ {A = ℕ} 0 1 = cc in omega arith)
     go false p true q t u e = absurd (let z : ◌≡◌ {A = ℕ} 0 1 = cc in omega arith)
     go false p false q true u e = absurd (let z : ◌≡◌ {A = ℕ} 0 1 = cc in omega arith)
@@ -175,11 +228,11 @@ tells d at r next e = go (leb (length d) at) refl (eqb (length_of (kind_at d at)
         positive : (n : ℕ) → (n ≡ 0 → ⊥) → 0 < n
         positive n h = omega arith
 
-pub found-moves : (d : List ℕ) (at : ℕ) (r : Record) (next : ℕ) → found_in d at ≡ Whole r next → at < next
+pub found-moves : (d : List ℕ) (at : ℕ) (r : Record) (next : ℕ) → found_in d at ≡ Ok (Whole r next) → at < next
 found-moves d at r next e = let t = tells d at r next e in omega (arith, t.past, t.some)
 
 -- its fields, by the bytes at the place
-module _ (d : List ℕ) (at : ℕ) (r : Record) (next : ℕ) (e : found_in d at ≡ Whole r next) where
+module _ (d : List ℕ) (at : ℕ) (r : Record) (next : ℕ) (e : found_in d at ≡ Ok (Whole r next)) where
   pub found-kind : kind_of r ≡ kind_at d at
   found-kind = let t = tells d at r next e in ap kind_of t.is ∙ body-kind (kind_at d at) d at t.some
 
