@@ -8,14 +8,11 @@ use mathlib.Core.List.{List, [], ◌∷◌, ◌++◌}
 use lib.IntN.{ℤ}
 use native.Mathlib.Omega.{arith}
 use lib.ListN.{length, set, drop, length-append, length-drop}
-use borrow.Author.Tests.{ne_eqb}
 use Rattle.layout.specs.Res.{ok, refuse}
-use Rattle.layout.specs.Fixed.{bits, unbits}
-use Rattle.layout.specs.Row.{Kind as KindL, value, tombstone, Time as TimeL, Absent as absent, At as at-time}
+use Rattle.layout.specs.Fixed.{unbits}
+use Rattle.layout.specs.Row.{Kind as KindL, Time as TimeL, Absent as absent, At as at-time}
 use Rattle.layout.specs.RowRead.{RowRead, Held, holds, gone, merges}
 use Rattle.basics.specs.Says.{says_kind, says_time, says_held}
-use Rattle.basics.specs.declared.Time.{Time}
-use Rattle.basics.specs.declared.Time.TheVariants.{Absent, At}
 use Rattle.basics.specs.declared.ValueDeletable.{ValueDeletable}
 use Rattle.basics.specs.declared.ValueDeletable.TheVariants.{Value, Tombstone, Merge}
 use Rattle.row_decode_v2.specs.Says.{row_from}
@@ -23,13 +20,9 @@ use Rattle.row_decode_v2.specs.declared.Row.{Row}
 use Rattle.row_flags.specs.declared.RowFields.{RowFields}
 use Rattle.row_words.specs.Words.{bad_words, truth_in, word_at, kind_in, time_in, fields_in, held_words, time_words, single_words, row_words_of, fields_count, single_count, row_count}
 use Rattle.row_words.specs.Says.{says_fields, held_from, time_words_of}
-use Rattle.row_words.specs.declared.FieldsRead.TheVariants.{Is as IsFields}
-use Rattle.row_words.specs.declared.TimeWords.{TimeWords}
-use Rattle.row_words.proofs.Laws.{of_none, counted-not, counted-so}
+use Rattle.std.specs.Prelude.{Option, Some, None}
+use Rattle.row_words.proofs.Laws.{counted-not, counted-so}
 use Rattle.row_words.proofs.Stores.{stored, all-stored, stored-behind}
-
-pub kind-none : {w : ℕ} → (w ≡ 2 → ⊥) → (w ≡ 0 → ⊥) → (w ≡ 1 → ⊥) → refuse bad_words ≡ kind_in w
-kind-none {w} h i j = rw (ne_eqb w 2 h) (of_none value tombstone i j)
 
 -- ---- a time
 
@@ -67,13 +60,9 @@ module _ (ws : List ℕ) (h : length ws ≡ fields_count) where
   fields-no-create k e c v = sym (counted-so ws fields_count _ h ∙ rw (k, e, c) refl)
 
   pub fields-loaded : (f : RowFields) → kind_in (word_at ws 0) ≡ ok (says_kind f.kind) → time_in (word_at ws 2) (word_at ws 3) ≡ ok (says_time f.expire)
-      → time_in (word_at ws 4) (word_at ws 5) ≡ ok (says_time f.create) → f.seq ≡ word_at ws 1 → (v : List ℕ) → says_fields v (IsFields f) ≡ fields_in ws v
+      → time_in (word_at ws 4) (word_at ws 5) ≡ ok (says_time f.create) → f.seq ≡ word_at ws 1 → (v : List ℕ) → says_fields v (Some f) ≡ fields_in ws v
   unfolding fields_in
   fields-loaded f k e c s v = sym (counted-so ws fields_count _ h ∙ rw (k, e, c, s) refl)
-
--- a time's words
-pub timed : (t : Time) (z : ℤ) (b : ℕ) → t ≡ At z → b ≡ bits z → ◌≡◌ {A = TimeWords} (record { has = 1; bits = b }) (time_words_of t)
-timed t z b e q = rw (e, q) refl
 
 -- ---- a row
 
@@ -82,9 +71,9 @@ held-words (Value start n) rest = refl
 held-words Tombstone rest = refl
 held-words (Merge start n) rest = refl
 
-time-words : (t : Time) (rest : List ℕ) → (time_words_of t).has ∷ (time_words_of t).bits ∷ rest ≡ time_words (says_time t) rest
-time-words Absent rest = refl
-time-words (At z) rest = refl
+time-words : (t : Option ℤ) (rest : List ℕ) → (time_words_of t).has ∷ (time_words_of t).bits ∷ rest ≡ time_words (says_time t) rest
+time-words None rest = refl
+time-words (Some z) rest = refl
 
 pub row_words : (r : Row)
     → r.start ∷ r.next ∷ r.shared ∷ r.suffix_at ∷ r.suffix_len ∷ (held_from r.held).kind ∷ (held_from r.held).start ∷ (held_from r.held).len ∷ r.seq

@@ -1,23 +1,14 @@
 -- Words that are loaded and stored, over plain variables: what the exits of the functions here and above use.
--- 0 and 1 stand for two cases, any other word for none. The number of words is one test, which both a load and a store begin with: known either way, it settles what is answered and left.
+-- The number of words is one test, which both a load and a store begin with: known either way, it settles what is answered and left.
 use Prim.Native.Nat.{ℕ}
 use mathlib.Core.Bool.{Bool, true, false}
 use mathlib.Core.Path.{◌≡◌, refl, sym}
 use mathlib.Core.List.{List}
 use lib.ListN.{length}
 use borrow.Author.Tests.{eq-eqb, ne_eqb}
-use Rattle.layout.specs.Res.{Res, ok, refuse}
-use Rattle.row_words.specs.Words.{bad_words, counted, one_of}
+use Rattle.layout.specs.Res.{Res, refuse}
+use Rattle.row_words.specs.Words.{bad_words, counted}
 use Rattle.row_words.specs.Promise.{Stores}
-
-pub of_0 : {A : Type 0} (a b : A) {w : ℕ} → w ≡ 0 → ok a ≡ one_of a b w
-of_0 a b e = rw e refl
-
-pub of_1 : {A : Type 0} (a b : A) {w : ℕ} → w ≡ 1 → ok b ≡ one_of a b w
-of_1 a b e = rw e refl
-
-pub of_none : {A : Type 0} (a b : A) {w : ℕ} → (w ≡ 0 → ⊥) → (w ≡ 1 → ⊥) → refuse bad_words ≡ one_of a b w
-of_none a b {w} h k = rw (ne_eqb w 0 h, ne_eqb w 1 k) refl
 
 pub counted-not : {A : Type 0} (ws : List ℕ) (n : ℕ) (k : Res A) → (length ws ≡ n → ⊥) → counted ws n k ≡ refuse bad_words
 counted-not ws n k h = rw (ne_eqb (length ws) n h) refl

@@ -1,13 +1,15 @@
-// What crosses the C interface as lent words, below cursors and builders: whether something is so, a row's fields and a row, loaded from words and stored to them.
+// What crosses the C interface as lent words, below cursors and builders: whether something is so, an order, a row's fields and a row, loaded from words and
+// stored to them.
 // Words that are not as many as they must be are neither loaded nor stored to.
 #![tactic(auto)]
 
 ghost use Rattle.std.specs.Prelude.{◌≡◌};
+ghost use Rattle.basics.specs.Says.{says_kind, says_time};
 ghost use Rattle.row_words.specs.Words.{kind_in, time_in};
-ghost use Rattle.row_words.specs.Says.{says_kind_read, says_time_read, held_from, time_words_of};
-ghost use Rattle.row_words.specs.Promise.{LoadsTruth, TellsTruth, LoadsFields, PutsSingle, PutsRow};
+ghost use Rattle.row_words.specs.Says.{says_word, held_from, time_words_of};
+ghost use Rattle.row_words.specs.Promise.{LoadsTruth, TellsTruth, LoadsOrder, TellsOrder, LoadsFields, PutsSingle, PutsRow};
 
-use basics::{Kind, Time, ValueDeletable};
+use basics::{IterationOrder, Kind, ValueDeletable};
 use row_decode_v2::Row;
 use row_flags::RowFields;
 
@@ -19,28 +21,11 @@ pub const SINGLE_WORDS: usize = 13;
 // a row of a block
 pub const ROW_WORDS: usize = 15;
 
+// A builder's state, and the row that is offered to it.
 #[derive(Clone, Copy)]
-pub enum TruthRead {
-    Is(bool),
-    Bad,
-}
-
-#[derive(Clone, Copy)]
-enum KindRead {
-    Is(Kind),
-    Bad,
-}
-
-#[derive(Clone, Copy)]
-enum TimeRead {
-    Is(Time),
-    Bad,
-}
-
-#[derive(Clone, Copy)]
-pub enum FieldsRead {
-    Is(RowFields),
-    Bad,
+pub struct Offer<S> {
+    pub state: S,
+    pub row: RowFields,
 }
 
 // A value's kind and place, as words.
@@ -58,71 +43,73 @@ struct TimeWords {
     bits: u64,
 }
 
-pub fn truth_in(word: u64) -> TruthRead
+pub fn truth_in(word: u64) -> Option<bool>
     ensures { LoadsTruth word result }
 {
-    if word == 0 {
-        return TruthRead::Is(false);
+    match word {
+        0 => Some(false),
+        1 => Some(true),
+        _ => None, // neither no nor yes
     }
-    if word == 1 {
-        return TruthRead::Is(true);
-    }
-    TruthRead::Bad
 }
 
 pub fn truth_word(b: bool) -> u64
     ensures { TellsTruth b result }
 {
-    if b { 1 } else { 0 }
+    u64::from(b)
 }
 
-fn kind_in(word: u64) -> KindRead
-    ensures { says_kind_read result ≡ kind_in word }
+// The order of a walk over a block's rows.
+pub fn order_in(word: u64) -> Option<IterationOrder>
+    ensures { LoadsOrder word result }
 {
-    if word == 2 {
-        return KindRead::Is(Kind::Merge);
+    match word {
+        0 => Some(IterationOrder::Ascending),
+        1 => Some(IterationOrder::Descending),
+        _ => None, // no order
     }
-    if word == 0 {
-        return KindRead::Is(Kind::Value);
-    }
-    if word == 1 {
-        return KindRead::Is(Kind::Tombstone);
-    }
-    KindRead::Bad
 }
 
-fn time_in(has: u64, bits: u64) -> TimeRead
-    ensures { says_time_read result ≡ time_in has bits }
+pub fn order_word(order: IterationOrder) -> u64
+    ensures { TellsOrder order result }
 {
-    let there = truth_in(has);
-    let TruthRead::Is(b) = there else {
-        return TimeRead::Bad;
-    };
-    if b {
-        return TimeRead::Is(Time::At(numbers::from_bits(bits)));
+    match order {
+        IterationOrder::Ascending => 0,
+        IterationOrder::Descending => 1,
     }
-    TimeRead::Is(Time::Absent)
 }
 
-pub fn fields_in(words: &[u64]) -> FieldsRead
+fn kind_in(word: u64) -> Option<Kind>
+    ensures { says_word says_kind result ≡ kind_in word }
+{
+    match word {
+        2 => Some(Kind::Merge),
+        0 => Some(Kind::Value),
+        1 => Some(Kind::Tombstone),
+        _ => None,
+    }
+}
+
+fn time_in(has: u64, bits: u64) -> Option<Option<i64>>
+    ensures { says_word says_time result ≡ time_in has bits }
+{
+    let there = truth_in(has)?;
+    if there {
+        return Some(Some(numbers::from_bits(bits)));
+    }
+    Some(None)
+}
+
+pub fn fields_in(words: &[u64]) -> Option<RowFields>
     ensures { LoadsFields words.now result }
 {
     if words.len() != FIELDS_WORDS {
-        return FieldsRead::Bad;
+        return None;
     }
-    let kinds = kind_in(words[0]);
-    let KindRead::Is(kind) = kinds else {
-        return FieldsRead::Bad;
-    };
-    let expires = time_in(words[2], words[3]);
-    let TimeRead::Is(expire) = expires else {
-        return FieldsRead::Bad;
-    };
-    let creates = time_in(words[4], words[5]);
-    let TimeRead::Is(create) = creates else {
-        return FieldsRead::Bad;
-    };
-    FieldsRead::Is(RowFields {
+    let kind = kind_in(words[0])?;
+    let expire = time_in(words[2], words[3])?;
+    let create = time_in(words[4], words[5])?;
+    Some(RowFields {
         kind,
         seq: words[1],
         expire,
@@ -152,12 +139,12 @@ fn held_words(held: ValueDeletable) -> HeldWords
     }
 }
 
-fn time_words(time: Time) -> TimeWords
+fn time_words(time: Option<i64>) -> TimeWords
     ensures { result ≡ time_words_of time }
 {
     match time {
-        Time::Absent => TimeWords { has: 0, bits: 0 },
-        Time::At(z) => TimeWords {
+        None => TimeWords { has: 0, bits: 0 },
+        Some(z) => TimeWords {
             has: 1,
             bits: numbers::to_bits(z),
         },
@@ -170,12 +157,9 @@ pub fn put_single(words: &mut [u64], row: Row) -> bool
     if words.len() != SINGLE_WORDS {
         return false;
     }
-    let held = row.held;
-    let h = held_words(held);
-    let expire = row.expire;
-    let e = time_words(expire);
-    let create = row.create;
-    let c = time_words(create);
+    let h = held_words(row.held);
+    let e = time_words(row.expire);
+    let c = time_words(row.create);
     words[0] = row.start as u64;
     words[1] = row.next as u64;
     words[2] = row.shared as u64;
