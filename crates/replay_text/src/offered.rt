@@ -2,35 +2,22 @@
 ghost use Rattle.std.specs.Prelude.{◌≤◌, length};
 
 use crate::{parse, words};
-use basics::{Kind, Time};
-use buf::SignedRead;
+use basics::Kind;
 use row_flags::RowFields;
 
-// The signed number with these bits, read from its eight bytes.
-fn signed(bits: u64) -> Time {
-    let mut bytes = [0u8; 8];
-    buf_mut::put_u64(&mut bytes, 0, bits);
-    match buf::get_i64(&bytes, 0) {
-        SignedRead::Number { value, next: _ } => Time::At(value),
-        SignedRead::Refused(_) => Time::Absent,
+// Two's complement makes the bits of a negative number. A sign alone is no time.
+fn time(word: &[u8]) -> Option<i64> {
+    match word {
+        b"-" => None,
+        [b'-', ..] => Some(parse::number(word).wrapping_neg().cast_signed()),
+        _ => Some(parse::number(word).cast_signed()),
     }
-}
-
-// Two's complement makes the bits of a negative number.
-fn time(word: &[u8]) -> Time {
-    if words::byte(word, 0) != b'-' {
-        return signed(parse::number(word));
-    }
-    if word.len() == 1 {
-        return Time::Absent;
-    }
-    signed(parse::number(word).wrapping_neg())
 }
 
 fn kind(word: &[u8]) -> Kind {
-    match words::byte(word, 0) {
-        b't' => Kind::Tombstone,
-        b'm' => Kind::Merge,
+    match word {
+        [b't', ..] => Kind::Tombstone,
+        [b'm', ..] => Kind::Merge,
         _ => Kind::Value,
     }
 }
