@@ -1,17 +1,16 @@
 -- A plain row whole: the row that is made of its numbers, and of the eight bytes of seq as they were read, is the one that the rules read.
 use Prim.Native.Nat.{ℕ, ◌+◌, ◌-◌, ◌≤◌}
 use mathlib.Core.Bool.{Bool}
-use mathlib.Core.Path.{◌≡◌, ap, sym, ◌∙◌}
+use mathlib.Core.Path.{◌≡◌, ap, ◌∙◌}
 use mathlib.Core.List.{List}
 use native.Mathlib.Omega.{arith}
 use lib.ListN.{length, take, drop}
 use Rattle.layout.specs.Res.{ok}
 use Rattle.layout.specs.Fixed.{unbig}
-use Rattle.layout.specs.Place.{NumAt, num_at, fixed_at}
+use Rattle.layout.specs.Place.{fixed_at}
 use Rattle.layout.specs.Plain.{Plain, plain_at}
 use Rattle.layout.specs.Row.{Absent}
 use Rattle.layout.specs.RowRead.{RowRead, read_row, may_share, holds}
-use Rattle.layout.proofs.Laws.Res.{ok-inj}
 use Rattle.layout.specs.Laws.Plain.{PlainTells}
 use Rattle.layout.proofs.Laws.Plain.{plain_at-tells, plain-seq, plain-read}
 use Rattle.buf.specs.Promise.{or_zero}
@@ -38,12 +37,12 @@ plain-least d at end most p e h =
     (omega (arith, t.next-is), omega (arith, t.inside, t.within))
 
 -- with the eight bytes of seq as they were read
-pub plain_row_lem : (d : List ℕ) (at end prev_len : ℕ) (restart : Bool) {most v n : ℕ} (p : Plain) → most ≡ may_share restart prev_len → p ≡ plain_at d at end most → (p.next ≡ 0 → ⊥)
-    → fixed_at 8 d (p.next - 9) ≡ ok (num_at v n) → ok (plain_as d at p v) ≡ read_row d at end prev_len restart
-plain_row_lem d at end prev_len restart {most} {v} {n} p m e h w =
+pub plain_row_lem : (d : List ℕ) (at end prev_len : ℕ) (restart : Bool) {most v : ℕ} (p : Plain) → most ≡ may_share restart prev_len → p ≡ plain_at d at end most → (p.next ≡ 0 → ⊥)
+    → v ≡ or_zero (fixed_at 8 d (p.next - 9)) → ok (plain_as d at p v) ≡ read_row d at end prev_len restart
+plain_row_lem d at end prev_len restart {most} {v} p m e h w =
     let e' : p ≡ plain_at d at end (may_share restart prev_len) = rw m at e in
     let t : PlainTells d at end (may_share restart prev_len) p = rw (← e') at (plain_at-tells d at end (may_share restart prev_len) (rw (← e') (omega arith))) in
-    let same : v ≡ unbig (take 8 (drop (p.next - 9) d)) = ap (λ (x : NumAt). x.val) (ok-inj (sym w ∙ plain-seq d at end prev_len restart p t)) in
+    let same : v ≡ unbig (take 8 (drop (p.next - 9) d)) = w ∙ ap or_zero (plain-seq d at end prev_len restart p t) in
     ap (λ (x : ℕ). ok (plain_as d at p x)) same ∙ plain-read d at end prev_len restart p t
 
 -- and its number alone

@@ -1,11 +1,11 @@
 -- Each promise admits one outcome: two results that both keep it are equal.
-use Rattle.std.specs.Prelude.{ℕ, ◌≡◌, List}
+use Rattle.std.specs.Prelude.{ℕ, ◌≡◌, List, Result}
 use Rattle.std.proofs.Common.{ap, ap₂, sym, ◌∙◌}
 use Rattle.layout.specs.Plain.{RowSpan as Span}
 use Rattle.basics.specs.Number.{number-one}
 use Rattle.basics.specs.declared.Refusal.{Refusal}
 use Rattle.row_decode_v2.specs.Says.{says_row-one}
-use Rattle.row_decode_v2.specs.declared.RowRead.{RowRead}
+use Rattle.row_decode_v2.specs.declared.Row.{Row}
 use Rattle.row_span_v2.specs.declared.RowSpan.{RowSpan}
 use Rattle.row_span_v2.specs.declared.NumberedSpan.{NumberedSpan}
 use Rattle.row_span_v2.specs.Promise.{span_from, SpansIn, numbered_from, NumbersIn, RefusesIn, ReadsIn}
@@ -28,5 +28,5 @@ module _ (s : List ℕ) (at start end prev_len : ℕ) where
   pub refusal_in_settled : (r q : Refusal) → RefusesIn s at start end prev_len r → RefusesIn s at start end prev_len q → r ≡ q
   refusal_in_settled r q a b = number-one r q (a ∙ sym b)
 
-  pub row_in_settled : (r q : RowRead) → ReadsIn s at start end prev_len r → ReadsIn s at start end prev_len q → r ≡ q
+  pub row_in_settled : (r q : Result Row Refusal) → ReadsIn s at start end prev_len r → ReadsIn s at start end prev_len q → r ≡ q
   row_in_settled r q a b = says_row-one r q (a ∙ sym b)

@@ -8,7 +8,7 @@ use Rattle.row_span_v2.specs.Promise.{seq_of}
 use Rattle.row_span_v2.proofs.decoded_numbered.Goals as goal
 
 pub returns-in_default : goal.returns-in_default
-returns-in_default c = let e = yes says_row c.decoded_in-read.ensures c.in_default.is in (span-refused _ _ _ _ _ e, sym (ap seq_of e))
+returns-in_default c = let e = yes says_row c.decoded_in.ensures c.in_default.is in (span-refused _ _ _ _ _ e, sym (ap seq_of e))
 
 pub returns : goal.returns
-returns c = let e = yes says_row c.decoded_in-read.ensures c.in-Read.is in (span-read _ _ _ _ _ e, sym (ap seq_of e))
+returns c = let e = yes says_row c.decoded_in.ensures c.in-Ok.is in (span-read _ _ _ _ _ e, sym (ap seq_of e))

@@ -6,7 +6,7 @@ use Rattle.row_decode_v2.specs.Says.{says_row}
 use Rattle.row_span_v2.proofs.decoded_span.Goals as goal
 
 pub returns-in_default : goal.returns-in_default
-returns-in_default c = span-refused _ _ _ _ _ (yes says_row c.decoded_in-read.ensures c.in_default.is)
+returns-in_default c = span-refused _ _ _ _ _ (yes says_row c.decoded_in.ensures c.in_default.is)
 
 pub returns : goal.returns
-returns c = span-read _ _ _ _ _ (yes says_row c.decoded_in-read.ensures c.in-Read.is)
+returns c = span-read _ _ _ _ _ (yes says_row c.decoded_in.ensures c.in-Ok.is)

@@ -4,4 +4,4 @@ use Rattle.row_span_v2.proofs.Laws.{refusal-taken}
 use Rattle.row_span_v2.proofs.refusal_in.Goals as goal
 
 pub returns : goal.returns
-returns c = refusal-taken c.decoded_in-answer.result c.decoded_in-answer.ensures c.row_refusal.ensures
+returns c = refusal-taken c.decoded_in.result c.decoded_in.ensures c.refusal_of.ensures
