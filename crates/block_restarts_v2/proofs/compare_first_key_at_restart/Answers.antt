@@ -1,7 +1,7 @@
 -- `compare_first_key_at_restart` keeps its promise: the region, its first key read alone from the rows, and the part where it lies compared with the target.
 -- The trailer is the block's and the restart below the count, so the region is as the rules say. A key that was read lies inside the rows, and so does a plain one, which is the one that the rules read.
 use mathlib.Core.Bool.{true}
-use mathlib.Core.Path.{◌≡◌, refl, sym}
+use mathlib.Core.Path.{◌≡◌, sym}
 use native.Mathlib.Omega.{arith}
 use lib.Seq.{length-take-le}
 use Rattle.layout.specs.Res.{ok}
@@ -10,12 +10,13 @@ use Rattle.layout.specs.RowRead.{read_key}
 use Rattle.layout.specs.Trailer.{data_of, region_of}
 use Rattle.layout.proofs.Laws.Plain.{plain-key-is}
 use Rattle.layout.proofs.Laws.Restart.{read_key-ends}
-use Rattle.basics.specs.Answers.{yes, no}
-use Rattle.row_decode_v2.specs.Says.{key_from, says_key, refusal_of_key}
+use Rattle.basics.specs.Answers.{handed-on}
+use Rattle.keys.specs.Says.{says_ordering}
+use Rattle.row_decode_v2.specs.Says.{key_from}
 use Rattle.trailer.specs.Plain.{known-not, known_is_lem}
 use Rattle.trailer.specs.Says.{trailer_from, region_from}
 use Rattle.block_restarts_v2.specs.Laws.{key-lies, compared-region, compared-no, compared_is}
-use Rattle.block_restarts_v2.proofs.compare_first_key_at_restart.Goals.{Else-region-eq0, In-Read, Then-plain-gt0}
+use Rattle.block_restarts_v2.proofs.compare_first_key_at_restart.Goals.{Else-region-eq0, In_ok-key, Then-plain-gt0}
 use Rattle.block_restarts_v2.proofs.compare_first_key_at_restart.Goals as goal
 
 region-read : (k : Else-region-eq0) → let a = k.args in region_of a.block.now (trailer_from a.t) a.restart_idx ≡ ok (region_from k.plain_region-region.result)
@@ -25,16 +26,16 @@ plain-read : (k : Then-plain-gt0) → let a = k.args in let g = k.plain_region-r
     read_key (data_of a.block.now (trailer_from a.t)) g.start g.end 0 true ≡ ok (plain_key_is g.start k.plain_key_at-plain.result)
 plain-read k = plain-key-is _ _ _ _ k.plain_key_at-plain.ensures (λ z. absurd (omega (arith, k.if-plain-gt0.true)))
 
-key-read : (k : In-Read) → let a = k.args in let g = k.plain_region-region.result in
-    read_key (data_of a.block.now (trailer_from a.t)) g.start g.end 0 true ≡ ok (key_from k.in-Read.key)
-key-read k = yes says_key k.decode_key_only-k.ensures k.in-Read.is
+key-read : (k : In_ok-key) → let a = k.args in let g = k.plain_region-region.result in
+    read_key (data_of a.block.now (trailer_from a.t)) g.start g.end 0 true ≡ ok (key_from k.in_ok-key.key)
+key-read k = sym k.in_ok-key.ensures
 
 pub returns-then-region-eq0 : goal.returns-then-region-eq0
 returns-then-region-eq0 c = compared-region _ _ _ _ (known-not _ _ _ c.requires _ c.plain_region-region.ensures c.if-region-eq0.true)
 
 pub slice_bounds-rows-end : goal.slice_bounds-rows-end
 slice_bounds-rows-end c =
-    sym (length-take-le c.args.t.size c.args.block.now (omega (arith, c.requires.0)))
+    sym (length-take-le _ _ (omega (arith, c.requires.0)))
 
 pub overflow_add-start : goal.overflow_add-start
 overflow_add-start c = omega (arith, key-lies _ _ _ _ _ c.requires.0 (plain-read (goal.at.overflow_add-start c).Then-plain-gt0))
@@ -48,17 +49,17 @@ slice_bounds-compare-end c = (read_key-ends _ _ _ _ _ _ (plain-read (goal.at.sli
 pub returns-then-plain-gt0 : goal.returns-then-plain-gt0
 returns-then-plain-gt0 c = compared_is _ _ _ _ _ (region-read (goal.at.returns-then-plain-gt0 c).Else-region-eq0) _ (plain-read (goal.at.returns-then-plain-gt0 c).Then-plain-gt0) c.compare.ensures
 
-pub returns-in_default : goal.returns-in_default
-returns-in_default c =
-    compared-no _ _ _ _ _ (region-read (goal.at.returns-in_default c).Else-region-eq0) (no says_key refusal_of_key c.decode_key_only-k.ensures c.in_default.is refl c.key_refusal.ensures)
+pub returns-in_err-key : goal.returns-in_err-key
+returns-in_err-key c =
+    handed-on says_ordering _ _ c.from_residual.ensures.1 (compared-no _ _ _ _ _ (region-read (goal.at.returns-in_err-key c).Else-region-eq0) (sym c.in_err-key.ensures))
 
 pub overflow_add-to : goal.overflow_add-to
 overflow_add-to c =
-    omega (arith, c.requires, key-lies _ _ _ _ _ c.requires.0 (key-read (goal.at.overflow_add-to c).In-Read))
+    omega (arith, c.requires, key-lies _ _ _ _ _ c.requires.0 (key-read (goal.at.overflow_add-to c).In_ok-key))
 
 pub slice_bounds-compare-end-2 : goal.slice_bounds-compare-end-2
-slice_bounds-compare-end-2 c = (read_key-ends _ _ _ _ _ _ (key-read (goal.at.slice_bounds-compare-end-2 c).In-Read)).0
+slice_bounds-compare-end-2 c = (read_key-ends _ _ _ _ _ _ (key-read (goal.at.slice_bounds-compare-end-2 c).In_ok-key)).0
 
 pub returns : goal.returns
 returns c =
-    compared_is _ _ _ _ _ (region-read (goal.at.returns c).Else-region-eq0) _ (key-read (goal.at.returns c).In-Read) c.compare-2.ensures
+    compared_is _ _ _ _ _ (region-read (goal.at.returns c).Else-region-eq0) _ (key-read (goal.at.returns c).In_ok-key) c.compare-2.ensures

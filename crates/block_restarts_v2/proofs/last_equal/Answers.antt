@@ -1,50 +1,49 @@
-use Prim.Native.Nat.{◌+◌}
-use mathlib.Core.Path.{◌≡◌, refl, sym, ◌∙◌, ap}
-use mathlib.Core.Bool.{Bool, true, false, not}
+use Prim.Native.Nat.{ℕ, ◌+◌, ◌-◌, ◌≤◌}
+use mathlib.Core.Path.{◌≡◌, sym, ◌∙◌, ap}
+use mathlib.Core.Bool.{Bool, not}
 use native.Mathlib.Omega.{arith}
-use Rattle.layout.specs.Res.{ok}
+use Rattle.std.proofs.Common.{Ordering, Less, Equal, Greater}
+use Rattle.std.specs.Ordering.{is_ne}
+use Rattle.layout.specs.Laws.Compare.{is_equal}
 use Rattle.layout.proofs.Laws.Seek.{running_start}
-use Rattle.basics.specs.Answers.{yes, no}
+use Rattle.basics.specs.Answers.{handed-on}
 use Rattle.keys.specs.Says.{says_ordering}
-use Rattle.trailer.specs.Says.{trailer_from}
 use Rattle.block_restarts_v2.specs.Laws.{run-over, run-no, run_ends, run_more}
-use Rattle.block_restarts_v2.specs.Reading.{says_compared, refusal_of_compared, restart_compared}
-use Rattle.block_restarts_v2.proofs.last_equal.Goals.{In-Is}
 use Rattle.block_restarts_v2.proofs.last_equal.Goals as goal
 
-was-not : (b : Bool) → not b ≡ true → b ≡ false
-was-not true e = cc
-was-not false e = refl
+equals : (o : Ordering) {x y : Bool} → y ≡ is_ne o → y ≡ x → is_equal (says_ordering o) ≡ not x
+equals Less e k = ap not (sym e ∙ k)
+equals Equal e k = ap not (sym e ∙ k)
+equals Greater e k = ap not (sym e ∙ k)
 
-was : (b : Bool) → not b ≡ false → b ≡ true
-was true e = refl
-was false e = cc
+-- the restart after the one before `next`
+back : (first next : ℕ) → first + 1 ≤ next → next - 1 + 1 ≡ next
+back first next h = omega arith
 
-next-compared : (k : In-Is) → let a = k.args in
-    restart_compared a.block.now (trailer_from a.t) a.target.now (k.loop-last.last + 1) ≡ ok (says_ordering k.in-Is.order)
-next-compared k = yes says_compared k.compare_first_key_at_restart-compared.ensures k.in-Is.is
+pub loop-next-init : goal.loop-next-init
+loop-next-init c =
+    let n : c.args.first + 1 - 1 ≡ c.args.first = omega arith in
+    rw n (running_start _ _ _ _)
 
-pub loop-last-init : goal.loop-last-init
-loop-last-init c = (running_start _ _ _ _, c.requires.1)
+pub returns-in_err-order : goal.returns-in_err-order
+returns-in_err-order c =
+    let n = back _ _ c.loop-next.auto.next in
+    handed-on (λ s. s) _ _ c.from_residual.ensures.1 (run-no _ _ _ _ _ _ c.loop-next.invariant (rw n c.loop-next-test.true) (rw n (sym c.in_err-order.ensures)))
 
-pub overflow_add-last : goal.overflow_add-last
-overflow_add-last c = omega (arith, c.loop-last.invariant.1)
+pub returns-then-is_ne : goal.returns-then-is_ne
+returns-then-is_ne c =
+    let n = back _ _ c.loop-next.auto.next in
+    run_ends _ _ _ _ _ _ c.loop-next.invariant (rw n c.loop-next-test.true) (rw n (sym c.in_ok-order.ensures)) (equals _ c.is_ne.ensures c.if-is_ne.true)
 
-pub compare_first_key_at_restart-compared-requires : goal.compare_first_key_at_restart-compared-requires
-compare_first_key_at_restart-compared-requires c = (c.requires.0, c.loop-last-test.true)
-
-pub returns-in_default : goal.returns-in_default
-returns-in_default c =
-    run-no _ _ _ _ _ _ c.loop-last.invariant.0 c.loop-last-test.true
-    (no says_compared refusal_of_compared c.compare_first_key_at_restart-compared.ensures c.in_default.is refl c.compared_refusal.ensures)
-
-pub returns-then-not-is_equal : goal.returns-then-not-is_equal
-returns-then-not-is_equal c =
-    run_ends _ _ _ _ _ _ c.loop-last.invariant.0 c.loop-last-test.true (next-compared (goal.at.returns-then-not-is_equal c).In-Is) (sym c.is_equal.ensures ∙ was-not _ (ap not c.if-not-is_equal.true))
-
-pub loop-last-preserved : goal.loop-last-preserved
-loop-last-preserved c =
-    (run_more _ _ _ 0 _ _ c.loop-last.invariant.0 c.loop-last-test.true (next-compared (goal.at.loop-last-preserved c).In-Is) (sym c.is_equal.ensures ∙ was _ (ap not c.if-not-is_equal.false)), c.loop-last-test.true)
+pub loop-next-preserved : goal.loop-next-preserved
+loop-next-preserved c =
+    let l = c.loop-next in
+    let n = back _ _ l.auto.next in
+    let m : l.next + 1 - 1 ≡ l.next - 1 + 1 = omega (arith, n) in
+    rw m (run_more _ _ _ 0 _ _ l.invariant (rw n c.loop-next-test.true) (rw n (sym c.in_ok-order.ensures)) (equals _ c.is_ne.ensures c.if-is_ne.false))
 
 pub returns : goal.returns
-returns c = run-over _ _ _ _ _ _ c.loop-last.invariant.0 c.loop-last-test.false
+returns c =
+    let l = c.loop-next in
+    let e : l.next - 1 ≡ c.args.t.count - 1 = omega (arith, l.auto.next-end, c.requires.1, c.loop-next-test.false) in
+    run-over _ _ _ _ _ _ (rw e at l.invariant) (omega arith)

@@ -1,8 +1,0 @@
--- `compared_refusal` takes the refusal out of an answer.
--- In the arm that binds it the answer is known to be that refusal, and the definition computes at it.
-use mathlib.Core.Path.{sym, ap}
-use Rattle.block_restarts_v2.specs.Reading.{refusal_of_compared}
-use Rattle.block_restarts_v2.proofs.compared_refusal.Goals as goal
-
-pub returns-in-Refused : goal.returns-in-Refused
-returns-in-Refused c = sym (ap refusal_of_compared c.in-Refused.is)
