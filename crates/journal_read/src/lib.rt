@@ -3,47 +3,40 @@
 
 ghost use Rattle.journal_read.specs.Promise.{ReadsAll};
 
-use journal::Refusal;
+use journal::{Kind, Refusal};
 
-// Where an incomplete record starts, if the journal ends inside one.
+// How many complete records there are, and where an incomplete one starts, if the journal ends inside one.
 #[derive(Clone, Copy)]
-pub enum Tail {
-    Nothing,
-    From(usize),
-}
-
-// How many complete records there are.
-#[derive(Clone, Copy)]
-pub enum Reading {
-    Complete { records: usize, tail: Tail },
-    Refused(Refusal),
+pub struct Reading {
+    pub records: usize,
+    pub tail: Option<usize>,
 }
 
 // All of it: how many complete records there are, and where the tail starts.
-pub fn read(journal: &[u8]) -> Reading
+pub fn read(journal: &[u8]) -> Result<Reading, Refusal>
     ensures { ReadsAll journal.now result }
 {
     if journal::MAX_JOURNAL < journal.len() {
-        return Reading::Refused(Refusal::TooLong);
+        return Err(Refusal::TooLong);
     }
     let mut at = 0;
     let mut records = 0;
     while at < journal.len() {
-        let n = journal::length_of(journal[at]);
-        if n == 0 {
-            return Reading::Refused(Refusal::UnknownKind(at));
-        }
+        let Ok(kind) = Kind::try_from(journal[at]) else {
+            return Err(Refusal::UnknownKind(at));
+        };
+        let n = kind.length();
         if journal.len() - at < n {
-            return Reading::Complete {
+            return Ok(Reading {
                 records,
-                tail: Tail::From(at),
-            };
+                tail: Some(at),
+            });
         }
         at += n;
         records += 1;
     }
-    Reading::Complete {
+    Ok(Reading {
         records,
-        tail: Tail::Nothing,
-    }
+        tail: None,
+    })
 }
