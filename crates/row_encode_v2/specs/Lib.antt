@@ -1,4 +1,3 @@
-pub mod Says
 pub mod Parts
 pub mod Promise
 pub mod OneOutcome

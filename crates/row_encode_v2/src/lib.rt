@@ -13,7 +13,6 @@ ghost use Rattle.row_encode_v2.specs.Promise.{Encodes};
 
 use basics::Refusal;
 use row_flags::RowFields;
-use row_size_v2::Sized;
 
 // Each of these writes at `at` and answers the place after it.
 fn write_lengths(
@@ -61,12 +60,6 @@ fn write_row(
     buf_mut::place_after(row_flags::write_marks(output, b, row))
 }
 
-#[derive(Clone, Copy)]
-pub enum Encoded {
-    Bytes(usize),
-    Refused(Refusal),
-}
-
 // Writes a row at the start of `output`, after a key of `previous_len` bytes: 13, 1, 2, 3, 6.
 pub fn encode(
     output: &mut [u8],
@@ -75,11 +68,11 @@ pub fn encode(
     key_suffix: &[u8],
     value: &[u8],
     row: RowFields,
-) -> Encoded
+) -> Result<usize, Refusal>
     ensures { Encodes previous_len shared key_suffix.now value.now row output.old result output.new }
 {
     if previous_len < shared {
-        return Encoded::Refused(Refusal::BadShare);
+        return Err(Refusal::BadShare);
     }
     let kind = row.kind;
     let expire = row.expire;
@@ -91,12 +84,9 @@ pub fn encode(
         value.len(),
         expire,
         create,
-    );
-    let Sized::Bytes(n) = size else {
-        return Encoded::Refused(row_size_v2::size_refusal(size));
-    };
-    if output.len() < n {
-        return Encoded::Refused(Refusal::BufferTooSmall);
+    )?;
+    if output.len() < size {
+        return Err(Refusal::BufferTooSmall);
     }
-    Encoded::Bytes(write_row(output, shared, key_suffix, value, row))
+    Ok(write_row(output, shared, key_suffix, value, row))
 }

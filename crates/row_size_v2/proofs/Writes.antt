@@ -5,6 +5,8 @@ use mathlib.Core.Bool.{Bool}
 use mathlib.Core.List.{List}
 use native.Mathlib.Nat.{zero-add}
 use native.Mathlib.Omega.{arith}
+use Rattle.std.specs.Prelude.{Result, IsErrAnd}
+use Rattle.std.proofs.lemmas.Result.{err_from_is_err_and}
 use Rattle.layout.specs.Res.{Res, ok, refuse, bind}
 use Rattle.layout.specs.Limits.{max_key, max_value}
 use Rattle.layout.specs.Row.{Kind, kept_length, if_so, key_length_tests, length_tests, size_alone}
@@ -13,12 +15,21 @@ use Rattle.layout.proofs.Laws.RowExits.{key-empty, key-long, key_fits, lengths-k
 use Rattle.layout.proofs.Laws.RowWrite.{row_size-sum}
 use Rattle.layout.specs.Laws.Splice.{Wrote}
 use Rattle.layout.proofs.Laws.Tells.{key_length_tests-tells}
+use Rattle.basics.specs.Answers.{says_same}
+use Rattle.basics.specs.Number.{number}
+use Rattle.basics.specs.declared.Refusal.{Refusal}
 use Rattle.row_size_v2.specs.Promise.{key_length, Lays}
 
 -- ---- promises
 
 pub lays-not : {want : Res (List ℕ)} {n : ℕ} (buf : List ℕ) → want ≡ refuse n → Lays want buf (refuse n) buf
 lays-not buf e = rw e (record { answer = refl; bytes = refl })
+
+-- a refusal that is handed on
+pub lays-handed : {want : Res (List ℕ)} (x : Result ℕ Refusal) (r : Refusal) (buf : List ℕ) → IsErrAnd x (λ q. q ≡ r) → want ≡ refuse (number r) → Lays want buf (says_same x) buf
+lays-handed x r buf e w =
+    let p = err_from_is_err_and x e in
+    rw (p.1, p.2) (lays-not buf w)
 
 pub lays-wrote : {want : Res (List ℕ)} {w buf' : List ℕ} {n : ℕ} (buf : List ℕ) → want ≡ ok w → Wrote buf 0 w buf' n → Lays want buf (ok n) buf'
 lays-wrote buf e p = rw e (record { answer = ap ok (p.next ∙ zero-add _); bytes = p.is })

@@ -5,52 +5,30 @@
 
 ghost use Rattle.std.specs.Prelude.{◌≡◌, ◌≤◌, ◌<◌, ◌^◌};
 ghost use Rattle.layout.specs.Varint.{varint_length};
-ghost use Rattle.row_size_v2.specs.Promise.{TestsKey, Sizes, SizeRefusal, Restores};
+ghost use Rattle.row_size_v2.specs.Promise.{TestsKey, Sizes, Restores};
 
-use basics::{Kind, Refusal, Time};
+use basics::{Kind, Refusal};
 
 // ---- a full key
 
-#[derive(Clone, Copy)]
-pub enum Sized {
-    Bytes(usize),
-    Refused(Refusal),
-}
-
-// The refusal of an answer that is one.
-pub fn size_refusal(size: Sized) -> Refusal
-    ensures { SizeRefusal size result }
-{
-    match size {
-        Sized::Refused(refusal) => refusal,
-        Sized::Bytes(_) => Refusal::BadState,
-    }
-}
-
 // The full key's length: 1, 2. Each part is tested by itself first, since their sum may wrap; a key with such a part is over its limit, and not empty.
-pub fn key_len(shared: usize, suffix_len: usize) -> Sized
+pub fn key_len(shared: usize, suffix_len: usize) -> Result<usize, Refusal>
     ensures { TestsKey shared suffix_len result }
 {
     if basics::MAX_KEY < shared {
-        return Sized::Refused(Refusal::KeyTooLong);
+        return Err(Refusal::KeyTooLong);
     }
     if basics::MAX_KEY < suffix_len {
-        return Sized::Refused(Refusal::KeyTooLong);
+        return Err(Refusal::KeyTooLong);
     }
     let len = shared + suffix_len;
     if len == 0 {
-        return Sized::Refused(Refusal::EmptyKey);
+        return Err(Refusal::EmptyKey);
     }
     if basics::MAX_KEY < len {
-        return Sized::Refused(Refusal::KeyTooLong);
+        return Err(Refusal::KeyTooLong);
     }
-    Sized::Bytes(len)
-}
-
-#[derive(Clone, Copy)]
-pub enum Restored {
-    Bytes(usize),
-    Refused(Refusal),
+    Ok(len)
 }
 
 // Restores the full key at the start of `out`, given the previous key: 13, 1, 2, 19.
@@ -59,21 +37,18 @@ pub fn restore_full_key(
     previous_key: &[u8],
     shared: usize,
     key_suffix: &[u8],
-) -> Restored
+) -> Result<usize, Refusal>
     ensures { Restores previous_key.now shared key_suffix.now out.old result out.new }
 {
     if previous_key.len() < shared {
-        return Restored::Refused(Refusal::BadShare);
+        return Err(Refusal::BadShare);
     }
-    let len = key_len(shared, key_suffix.len());
-    let Sized::Bytes(n) = len else {
-        return Restored::Refused(size_refusal(len));
-    };
-    if out.len() < n {
-        return Restored::Refused(Refusal::KeyBufferTooShort);
+    let len = key_len(shared, key_suffix.len())?;
+    if out.len() < len {
+        return Err(Refusal::KeyBufferTooShort);
     }
     let at = buf_mut::place_after(buf_mut::copy_in(out, 0, &previous_key[..shared]));
-    Restored::Bytes(buf_mut::place_after(buf_mut::copy_in(out, at, key_suffix)))
+    Ok(buf_mut::place_after(buf_mut::copy_in(out, at, key_suffix)))
 }
 
 // ---- size
@@ -95,21 +70,18 @@ pub fn encoded_size(
     suffix_len: usize,
     kind: Kind,
     value_len: usize,
-    expire: Time,
-    create: Time,
-) -> Sized
+    expire: Option<i64>,
+    create: Option<i64>,
+) -> Result<usize, Refusal>
     ensures { Sizes shared suffix_len kind value_len expire create result }
 {
-    let key = key_len(shared, suffix_len);
-    if let Sized::Refused(refusal) = key {
-        return Sized::Refused(refusal);
-    }
+    key_len(shared, suffix_len)?;
     let kept = row_flags::kept_len(kind, value_len);
     if basics::MAX_VALUE < kept {
-        return Sized::Refused(Refusal::ValueTooLong);
+        return Err(Refusal::ValueTooLong);
     }
     let lengths = length_len(shared) + length_len(suffix_len) + length_len(kept);
     let times = row_flags::time_len(expire) + row_flags::time_len(create);
     // 9: the sequence number and the flags
-    Sized::Bytes(lengths + suffix_len + kept + 9 + times)
+    Ok(lengths + suffix_len + kept + 9 + times)
 }

@@ -8,7 +8,7 @@ ghost use Rattle.layout.specs.Builder.{fresh};
 ghost use Rattle.state_v2.specs.Says.{state_from};
 ghost use Rattle.state_v2.specs.Promise.{MakesState, TellsStateEmpty};
 
-use basics::{Refusal, Verdict};
+use basics::Refusal;
 
 // A builder without the bytes of its last key: those stay where they are, to compute the shared prefix. Bytes past the key's length tell nothing.
 #[derive(Clone, Copy)]
@@ -27,7 +27,7 @@ pub struct State {
 #[derive(Clone, Copy)]
 pub struct NewState {
     pub state: State,
-    pub answer: Verdict,
+    pub answer: Result<(), Refusal>,
 }
 
 fn empty_state(block_size: usize, restart_interval: usize) -> State
@@ -49,7 +49,7 @@ pub fn new_state(block_size: usize, restart_interval: usize) -> NewState
 {
     let bad = NewState {
         state: empty_state(0, 1),
-        answer: Verdict::Refused(Refusal::BadSettings),
+        answer: Err(Refusal::BadSettings),
     };
     if basics::MAX_BLOCK < block_size {
         return bad;
@@ -62,7 +62,7 @@ pub fn new_state(block_size: usize, restart_interval: usize) -> NewState
     }
     NewState {
         state: empty_state(block_size, restart_interval),
-        answer: Verdict::Good,
+        answer: Ok(()),
     }
 }
 
