@@ -1,27 +1,20 @@
--- What a read number tells; where a plain row stands the data has room, and the row that is made of its numbers, with the eight bytes of seq as they were read,
+-- What the bytes of a read number spell; where a plain row stands the data has room, and the row that is made of its numbers, with the eight bytes of seq as they were read,
 -- is the one that the rules read.
-use Prim.Native.Nat.{ℕ, ◌+◌, ◌^◌, ◌<◌, ◌≤◌}
+use Prim.Native.Nat.{ℕ, ◌+◌, ◌≤◌}
 use mathlib.Core.Path.{◌≡◌, ap, ◌∙◌}
 use mathlib.Core.List.{List}
 use native.Mathlib.Omega.{arith}
 use lib.ListN.{length}
 use Rattle.layout.specs.Res.{ok}
-use Rattle.layout.specs.Place.{num_at, fixed_at}
+use Rattle.layout.specs.Place.{fixed_at}
 use Rattle.layout.specs.Plain.{Plain}
 use Rattle.layout.proofs.Laws.Plain.{fixed_at-is}
 use Rattle.layout_v1.specs.RowRead.{read_row}
 use Rattle.layout_v1.specs.Plain.{spelt, plain_value, plain_at, plain_as}
 use Rattle.layout_v1.proofs.Laws.Plain.{PlainTells, plain_at-tells, plain-read}
-use Rattle.basics.specs.Answers.{yes}
-use Rattle.buf.specs.Says.{says_word}
-use Rattle.buf.specs.Promise.{or_zero, ReadsNarrow, ReadsBytes}
-use Rattle.buf.specs.declared.WordRead.{WordRead}
-use Rattle.buf.specs.declared.WordRead.TheVariants.{Word}
+use Rattle.buf.specs.Promise.{or_zero, ReadsBytes}
 
 -- ---- numbers
-
-pub number-known : (n : ℕ) (d : List ℕ) (at : ℕ) {a : WordRead} {v next : ℕ} → ReadsNarrow n d at a → a ≡ Word v next → (fixed_at n d at ≡ ok (num_at v next)) × (v < 256 ^ n)
-number-known n d at {a} {v} {next} e q = (yes says_word e.0 q, rw q at e.1)
 
 pub bytes-spelt : (n : ℕ) (d : List ℕ) (at : ℕ) {r : ℕ} → ReadsBytes n d at r → at + n ≤ length d → r ≡ spelt n d at
 bytes-spelt n d at e h = e.0 ∙ ap or_zero (fixed_at-is n d at h)

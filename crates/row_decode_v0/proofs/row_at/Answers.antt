@@ -1,47 +1,34 @@
 -- `row_at` keeps to the definition: head, body, times, and what the row holds.
 -- Each exit is a law of the definition, over the parts that were read on the way to it.
-use mathlib.Core.Path.{◌≡◌, refl, ap, ◌∙◌}
+use mathlib.Core.Path.{sym, ap, ◌∙◌}
 use native.Mathlib.Omega.{arith}
 use Rattle.layout.specs.Res.{ok}
 use Rattle.layout.specs.RowRead.{RowRead}
-use Rattle.layout_v1.specs.RowRead.{head_at, body_at}
 use Rattle.layout_v1.proofs.Laws.RowReads.{head_at-tells, row-head, row-body, row-times, row-held, row-good}
-use Rattle.basics.specs.Answers.{yes, no}
-use Rattle.row_flags_decode.specs.Says.{says_times, refusal_of_times}
-use Rattle.row_decode_v0.specs.Reading.{head_from, says_head, body_from, says_body, says_held_at, refusal_of_head, refusal_of_body, refusal_of_held}
-use Rattle.row_decode_v0.proofs.row_at.Goals.{In-Read, In-Read-rest}
+use Rattle.basics.specs.Answers.{handed-on}
+use Rattle.row_decode_v2.specs.Says.{row_from}
 use Rattle.row_decode_v0.proofs.row_at.Goals as goal
 
-head_read : (k : In-Read) → let a = k.args in head_at a.s.now a.at a.most ≡ ok (head_from k.in-Read.head)
-head_read k = yes says_head k.head_at-headed.ensures k.in-Read.is
+pub returns-in_err-head : goal.returns-in_err-head
+returns-in_err-head c = handed-on row_from _ _ c.from_residual.ensures.1 (row-head _ _ _ (sym c.in_err-head.ensures))
 
-body-read : (k : In-Read-rest) → body_at k.args.s.now (head_from k.in-Read.head) ≡ ok (body_from k.in-Read-rest.body)
-body-read k = yes says_body k.body_at-rest.ensures k.in-Read-rest.is
+pub body_at-requires : goal.body_at-requires
+body_at-requires c = let h = head_at-tells _ _ _ _ (sym c.in_ok-head.ensures) in (h.inside, omega (arith, h.fits))
 
-pub returns-in_default : goal.returns-in_default
-returns-in_default c = row-head _ _ _ (no says_head refusal_of_head c.head_at-headed.ensures c.in_default.is refl c.head_refusal.ensures)
+pub returns-in_err-body : goal.returns-in_err-body
+returns-in_err-body c =
+    handed-on row_from _ _ c.from_residual-in_err-body.ensures.1 (row-body _ _ _ (sym c.in_ok-head.ensures) (sym c.in_err-body.ensures))
 
-pub body_at-rest-requires : goal.body_at-rest-requires
-body_at-rest-requires c =
-    let h = head_at-tells _ _ _ _ (head_read (goal.at.body_at-rest-requires c).In-Read) in
-    (h.inside, omega (arith, h.fits))
+pub returns-in_err-times : goal.returns-in_err-times
+returns-in_err-times c =
+    handed-on row_from _ _ c.from_residual-in_err-times.ensures.1 (row-times _ _ _ (sym c.in_ok-head.ensures) (sym c.in_ok-body.ensures) (sym c.in_err-times.ensures))
 
-pub returns-in_default-rest : goal.returns-in_default-rest
-returns-in_default-rest c =
-    row-body _ _ _ (head_read (goal.at.returns-in_default-rest c).In-Read) (no says_body refusal_of_body c.body_at-rest.ensures c.in_default-rest.is refl c.body_refusal.ensures)
-
-pub returns-in_default-timed : goal.returns-in_default-timed
-returns-in_default-timed c =
-    row-times _ _ _ (head_read (goal.at.returns-in_default-timed c).In-Read) (body-read (goal.at.returns-in_default-timed c).In-Read-rest)
-    (no says_times refusal_of_times c.times_at-timed.ensures c.in_default-timed.is refl c.times_refusal.ensures)
-
-pub returns-in_default-last : goal.returns-in_default-last
-returns-in_default-last c =
-    row-held _ _ _ (head_read (goal.at.returns-in_default-last c).In-Read) (body-read (goal.at.returns-in_default-last c).In-Read-rest) (yes says_times c.times_at-timed.ensures c.in-Read-timed.is)
-    (no says_held_at refusal_of_held c.held_at-last.ensures c.in_default-last.is refl c.held_refusal.ensures)
+pub returns-in_err-held : goal.returns-in_err-held
+returns-in_err-held c =
+    handed-on row_from _ _ c.from_residual-in_err-held.ensures.1
+    (row-held _ _ _ (sym c.in_ok-head.ensures) (sym c.in_ok-body.ensures) (sym c.in_ok-times.ensures) (sym c.in_err-held.ensures))
 
 pub returns : goal.returns
 returns c =
     ap (λ (x : RowRead). ok x) c.row_of.ensures
-    ∙ row-good _ _ _ (head_read (goal.at.returns c).In-Read) (body-read (goal.at.returns c).In-Read-rest) (yes says_times c.times_at-timed.ensures c.in-Read-timed.is)
-    (yes says_held_at c.held_at-last.ensures c.in-Read-last.is)
+    ∙ row-good _ _ _ (sym c.in_ok-head.ensures) (sym c.in_ok-body.ensures) (sym c.in_ok-times.ensures) (sym c.in_ok-held.ensures)

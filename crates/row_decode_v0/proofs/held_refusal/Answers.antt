@@ -1,8 +1,0 @@
--- `held_refusal` takes the refusal out of an answer.
--- In the arm that binds it the answer is known to be that refusal, and the definition computes at it.
-use mathlib.Core.Path.{sym, ap}
-use Rattle.row_decode_v0.specs.Reading.{refusal_of_held}
-use Rattle.row_decode_v0.proofs.held_refusal.Goals as goal
-
-pub returns-in-Refused : goal.returns-in-Refused
-returns-in-Refused c = sym (ap refusal_of_held c.in-Refused.is)
