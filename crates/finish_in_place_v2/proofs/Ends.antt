@@ -7,6 +7,7 @@ use mathlib.Core.Logic.{⊎_elim}
 use native.Mathlib.Omega.{arith}
 use lib.Dec.{eqb}
 use lib.ListN.{length, take}
+use Rattle.std.specs.Prelude.{Result, Ok, Err}
 use Rattle.layout.specs.Res.{Res, ok, refuse, guard}
 use Rattle.layout.specs.Block.{trailer}
 use Rattle.layout.specs.Place.{splice}
@@ -21,11 +22,8 @@ use Rattle.basics.specs.Number.{number}
 use Rattle.basics.specs.declared.Refusal.{Refusal}
 use Rattle.basics.specs.declared.Refusal.TheVariants.{BufferTooSmall, EmptyBlock, BadState}
 use Rattle.buf_mut.specs.Promise.{Puts}
-use Rattle.buf_mut.specs.declared.Put.{Put}
-use Rattle.buf_mut.specs.declared.Put.TheVariants.{At, Refused as PutRefused}
 use Rattle.buf_mut.proofs.Laws.{puts-at, puts-refused}
 use Rattle.state_v2.specs.declared.State.{State}
-use Rattle.finish_in_place_v2.specs.declared.BuildAnswer.TheVariants.{Block, Refused as BuildRefused}
 use Rattle.state_v2.specs.Says.{view_from}
 use Rattle.finish_in_place_v2.specs.Promise.{Ends}
 
@@ -77,13 +75,13 @@ module _ (bytes places : List ℕ) (used count : ℕ) (in_places : count ≤ len
       let l : length (take count places) ≡ count = length-take-le count places in_places in
       omega (arith, length-trailer (take count places), l)
 
-  module _ {p : Put} {bytes' : List ℕ} (q : Puts (trailer (take count places)) bytes used p bytes') where
-    pub trailer-put : {n : ℕ} → p ≡ At n → Trailed bytes places used count bytes' n
+  module _ {p : Result ℕ Refusal} {bytes' : List ℕ} (q : Puts (trailer (take count places)) bytes used p bytes') where
+    pub trailer-put : {n : ℕ} → p ≡ Ok n → Trailed bytes places used count bytes' n
     trailer-put t =
         let w = puts-at (rw t at q) in
         record { is = w.is; next = w.next ∙ long; room = w.room }
 
-    pub trailer-not : {x : Refusal} → p ≡ PutRefused x → (x ≡ BufferTooSmall) × (bytes' ≡ bytes) × (length bytes < used + 2 * count + 2)
+    pub trailer-not : {x : Refusal} → p ≡ Err x → (x ≡ BufferTooSmall) × (bytes' ≡ bytes) × (length bytes < used + 2 * count + 2)
     trailer-not t =
         let no = puts-refused (rw t at q) in
         (no.0, no.1, omega (arith, long, no.2))
@@ -91,28 +89,27 @@ module _ (bytes places : List ℕ) (used count : ℕ) (in_places : count ≤ len
 -- ---- building
 
 module _ (s : State) (bytes places last : List ℕ) where
-  ends-not : {x : Refusal} → build (view_from s last) (length bytes) (length places) ≡ refuse (number x) → Ends (view_from s last) bytes places (BuildRefused x) bytes
+  ends-not : {x : Refusal} → build (view_from s last) (length bytes) (length places) ≡ refuse (number x) → Ends (view_from s last) bytes places (Err x) bytes
   ends-not e = record { answer = sym e; bytes_after = rw e refl }
 
-  pub ends_bad : state_tests (view_from s last) (length bytes) (length places) ≡ refuse 18 → Ends (view_from s last) bytes places (BuildRefused BadState) bytes
+  pub ends_bad : state_tests (view_from s last) (length bytes) (length places) ≡ refuse 18 → Ends (view_from s last) bytes places (Err BadState) bytes
   ends_bad e = ends-not (build-state (view_from s last) (length bytes) (length places) e)
 
   module _ (state : state_tests (view_from s last) (length bytes) (length places) ≡ ok tt) where
-    pub ends-none : s.counter ≡ 0 → Ends (view_from s last) bytes places (BuildRefused EmptyBlock) bytes
+    in_places : s.restarts ≤ length places
+    in_places = (state-tells (view_from s last) (length bytes) (length places) tt state).in_places
+
+    pub ends-none : s.counter ≡ 0 → Ends (view_from s last) bytes places (Err EmptyBlock) bytes
     ends-none z = ends-not (build-none (view_from s last) (length bytes) (length places) state z)
 
-    module _ (some : s.counter ≡ 0 → ⊥) {p : Put} {bytes' : List ℕ} (q : Puts (trailer (take s.restarts places)) bytes s.used p bytes') where
-      in_places : s.restarts ≤ length places
-      in_places = (state-tells (view_from s last) (length bytes) (length places) tt state).in_places
-
-      pub ends-block : {n : ℕ} → p ≡ At n → Ends (view_from s last) bytes places (Block n) bytes'
-      ends-block t =
-          let w = trailer-put bytes places s.used s.restarts in_places q t in
-          let e = build-good (view_from s last) (length bytes) (length places) state some (omega (arith, w.next, w.room)) in
-          record { answer = ap ok w.next ∙ sym e; bytes_after = rw e w.is }
-
-      pub ends-short : {x : Refusal} → p ≡ PutRefused x → Ends (view_from s last) bytes places (BuildRefused x) bytes'
-      ends-short t =
-          let no = trailer-not bytes places s.used s.restarts in_places q t in
-          let e = build-short (view_from s last) (length bytes) (length places) state some no.2 in
-          rw (no.0, no.1) (ends-not e)
+    -- what the trailer's writer answers is what building answers
+    pub ends-put : (s.counter ≡ 0 → ⊥) → (p : Result ℕ Refusal) {bytes' : List ℕ} → Puts (trailer (take s.restarts places)) bytes s.used p bytes'
+        → Ends (view_from s last) bytes places p bytes'
+    ends-put some (Ok n) q =
+        let w = trailer-put bytes places s.used s.restarts in_places q refl in
+        let e = build-good (view_from s last) (length bytes) (length places) state some (omega (arith, w.next, w.room)) in
+        record { answer = ap ok w.next ∙ sym e; bytes_after = rw e w.is }
+    ends-put some (Err x) q =
+        let no = trailer-not bytes places s.used s.restarts in_places q refl in
+        let e = build-short (view_from s last) (length bytes) (length places) state some no.2 in
+        rw (no.0, no.1) (ends-not e)

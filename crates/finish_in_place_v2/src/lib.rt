@@ -9,15 +9,7 @@ ghost use Rattle.layout.specs.Limits.{max_interval, max_restarts};
 ghost use Rattle.finish_in_place_v2.specs.Promise.{Judges, Finishes};
 
 use basics::Refusal;
-use buf_mut::Put;
 use state_v2::State;
-
-// The block's length: it stands at the start of the data buffer.
-#[derive(Clone, Copy)]
-pub enum BuildAnswer {
-    Block(usize),
-    Refused(Refusal),
-}
 
 // ---- the state
 
@@ -79,19 +71,15 @@ pub fn is_bad_state(s: State, data_len: usize, places_len: usize) -> bool
 
 // ---- a block, built
 
-// Puts the trailer after the rows, and answers the block's length: 18, 7, 6. The trailer tests its own room, which is that of 6.
-pub fn build_in_place(s: State, data: &mut [u8], restarts: &[u16]) -> BuildAnswer
+// Puts the trailer after the rows, and answers the length of the block, which stands at the start of the data buffer: 18, 7, 6. The trailer tests its own room, which is that of 6.
+pub fn build_in_place(s: State, data: &mut [u8], restarts: &[u16]) -> Result<usize, Refusal>
     ensures { Finishes s «data».old restarts.now result «data».new }
 {
     if is_bad_state(s, data.len(), restarts.len()) {
-        return BuildAnswer::Refused(Refusal::BadState);
+        return Err(Refusal::BadState);
     }
     if s.counter == 0 {
-        return BuildAnswer::Refused(Refusal::EmptyBlock);
+        return Err(Refusal::EmptyBlock);
     }
-    let put = trailer_encode::put_trailer(data, s.used, restarts, s.restarts);
-    match put {
-        Put::At(n) => BuildAnswer::Block(n),
-        Put::Refused(refusal) => BuildAnswer::Refused(refusal),
-    }
+    trailer_encode::put_trailer(data, s.used, restarts, s.restarts)
 }
