@@ -8,33 +8,25 @@ ghost use Rattle.numbers.specs.Promise.{Rests, TakesLeast, ToBits, FromBits};
 pub fn rest_from(len: usize, at: usize) -> usize
     ensures { Rests len at result }
 {
-    if at < len { len - at } else { 0 }
+    len.saturating_sub(at)
 }
 
 pub fn least(a: usize, b: usize) -> usize
     ensures { TakesLeast a b result }
 {
-    if a < b { a } else { b }
+    a.min(b)
 }
 
-// The 64 bits of `z` in two's complement, as an unsigned number. A negative number is not cast: its complement is.
+// The 64 bits of `z` in two's complement, as an unsigned number.
 pub fn to_bits(z: i64) -> u64
     ensures { ToBits z result }
 {
-    if z >= 0 {
-        z as u64
-    } else {
-        18446744073709551615 - ((-1 - z) as u64)
-    }
+    z.cast_unsigned()
 }
 
 // The signed number whose 64 bits are `n`.
 pub fn from_bits(n: u64) -> i64
     ensures { FromBits n result }
 {
-    if n < 9223372036854775808 {
-        n as i64
-    } else {
-        -1 - ((18446744073709551615 - n) as i64)
-    }
+    n.cast_signed()
 }
