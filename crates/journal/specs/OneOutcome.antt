@@ -6,7 +6,7 @@ use Rattle.journal.specs.declared.Kind.{Kind}
 use Rattle.journal.specs.declared.NoKind.{NoKind}
 use Rattle.journal.specs.declared.Record.{Record}
 use Rattle.journal.specs.declared.Found.{Found}
-use Rattle.journal.specs.Promise.{Numbered, Decodes, Measures, HasKind, Finds}
+use Rattle.journal.specs.Promise.{Numbered, Decodes, StandsFor, Measures, HasKind, Finds}
 use Rattle.journal.specs.Laws.Found.{byte-one}
 
 pub number-settled : (r : Refusal) (m n : ℕ) → Numbered r m → Numbered r n → m ≡ n
@@ -14,6 +14,9 @@ number-settled r m n p q = p ∙ sym q
 
 pub kind-settled : (byte : ℕ) (r q : Result Kind NoKind) → Decodes byte r → Decodes byte q → r ≡ q
 kind-settled byte r q a b = a ∙ sym b
+
+pub byte-settled : (kind : Kind) (m n : ℕ) → StandsFor kind m → StandsFor kind n → m ≡ n
+byte-settled kind m n p q = p ∙ sym q
 
 pub length-settled : (kind m n : ℕ) → Measures kind m → Measures kind n → m ≡ n
 length-settled kind m n p q = p ∙ sym q

@@ -14,6 +14,9 @@ Numbered r n = n ≡ number r
 abbrev pub Decodes : ℕ → Result Kind NoKind → Type 0
 Decodes byte r = r ≡ kind_in byte
 
+abbrev pub StandsFor : Kind → ℕ → Type 0
+StandsFor kind r = r ≡ byte_of kind
+
 abbrev pub Measures : ℕ → ℕ → Type 0
 Measures kind r = r ≡ length_of kind
 

@@ -4,7 +4,7 @@
 
 ghost use Rattle.std.specs.Prelude.{◌≡◌, ◌+◌, ◌≤◌, length};
 ghost use Rattle.journal.specs.Record.{byte_of, length_of, body_at, found_in};
-ghost use Rattle.journal.specs.Promise.{Numbered, Decodes, Measures, HasKind, Finds};
+ghost use Rattle.journal.specs.Promise.{Numbered, Decodes, StandsFor, Measures, HasKind, Finds};
 
 // A journal has no more bytes.
 pub const MAX_JOURNAL: usize = 65536;
@@ -61,6 +61,14 @@ impl TryFrom<u8> for Kind {
             3 => Ok(Kind::Close),
             _ => Err(NoKind),
         }
+    }
+}
+
+impl From<Kind> for u8 {
+    fn from(kind: Kind) -> u8
+        ensures { StandsFor kind result }
+    {
+        kind as u8
     }
 }
 
