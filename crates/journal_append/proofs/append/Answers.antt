@@ -5,15 +5,12 @@ use mathlib.Core.List.{List}
 use native.Mathlib.Omega.{arith}
 use lib.ListN.{length, take}
 use lib.Seq.{length-take-le}
+use Rattle.std.specs.Prelude.{Result, Ok, Err, IsErrAnd, Option, Some, None}
+use Rattle.std.proofs.lemmas.Result.{err_from_is_err_and}
 use Rattle.journal.specs.declared.Refusal.{Refusal}
 use Rattle.journal.specs.declared.Refusal.TheVariants.{EndsInside}
 use Rattle.journal.specs.declared.Record.{Record}
-use Rattle.journal_read.specs.declared.Tail.{Tail}
-use Rattle.journal_read.specs.declared.Tail.TheVariants.{Nothing, From}
 use Rattle.journal_read.specs.declared.Reading.{Reading}
-use Rattle.journal_read.specs.declared.Reading.TheVariants.{Complete, Refused as ReadingRefused}
-use Rattle.journal_append.specs.declared.Appended.{Appended}
-use Rattle.journal_append.specs.declared.Appended.TheVariants.{Refused}
 use Rattle.journal_read.specs.Reader.{journal_of, counted, reading_of}
 use Rattle.journal_append.specs.Append.{appended}
 use Rattle.journal_append.specs.Promise.{Appends}
@@ -21,23 +18,23 @@ use Rattle.journal_append.specs.Parts.{Places}
 use Rattle.journal_append.specs.Laws.Append.{append-past, append-reads, place-refused, place-tail, place-whole, reading_is, reading_short}
 use Rattle.journal_append.proofs.append.Goals as goal
 
-module _ (buffer : List ℕ) (used : ℕ) (r : Record) (h : used ≤ length buffer) (x : Reading) (e : x ≡ reading_of (take used buffer)) where
-  said : x ≡ counted used (journal_of (take used buffer))
-  said = e ∙ reading_is (take used buffer) ∙ ap (λ (n : ℕ). counted n (journal_of (take used buffer))) (length-take-le used buffer h)
+module _ (buffer : List ℕ) (used : ℕ) (r : Record) (h : used ≤ length buffer) where
+  said : {x : Result Reading Refusal} → x ≡ reading_of (take used buffer) → counted used (journal_of (take used buffer)) ≡ x
+  said e = sym (e ∙ reading_is (take used buffer) ∙ ap (λ (n : ℕ). counted n (journal_of (take used buffer))) (length-take-le used buffer h))
 
-  says-no : (q : Refusal) → x ≡ ReadingRefused q → Refused q ≡ appended buffer used r
-  says-no q t = place-refused _ _ _ used (journal_of (take used buffer)) q (sym said ∙ t) ∙ append-reads buffer used r h
+  says-no : (q : Refusal) → Err q ≡ reading_of (take used buffer) → Err q ≡ appended buffer used r
+  says-no q e = place-refused _ _ _ used (journal_of (take used buffer)) q (said e) ∙ append-reads buffer used r h
 
-  says-tail : (m p : ℕ) (t : Tail) → x ≡ Complete m t → t ≡ From p → Refused EndsInside ≡ appended buffer used r
-  says-tail m p t f g = place-tail _ used _ (journal_of (take used buffer)) m p (sym said ∙ f ∙ ap (Complete m) g) ∙ append-reads buffer used r h
+  says-tail : (x : Reading) (p : ℕ) → Ok x ≡ reading_of (take used buffer) → x.tail ≡ Some p → Err EndsInside ≡ appended buffer used r
+  says-tail x p e g = place-tail _ used _ (journal_of (take used buffer)) x.records p (said e ∙ ap (λ (t : Option ℕ). Ok (record { records = x.records; tail = t })) g) ∙ append-reads buffer used r h
 
-  says-short : (m : ℕ) (t : Tail) → x ≡ Complete m t → used ≤ 65536
-  says-short m t f = let s = reading_short (take used buffer) m t (sym e ∙ f) in omega (arith, s, length-take-le used buffer h)
+  says-short : (x : Reading) → Ok x ≡ reading_of (take used buffer) → used ≤ 65536
+  says-short x e = let s = reading_short (take used buffer) x.records x.tail (sym e) in omega (arith, s, length-take-le used buffer h)
 
-  says-whole : (m : ℕ) (t : Tail) → x ≡ Complete m t → t ≡ Nothing → {q : Appended} {buffer' : List ℕ} → Places buffer used r q buffer' → Appends buffer used r q buffer'
-  says-whole m t f g p =
+  says-whole : (x : Reading) → Ok x ≡ reading_of (take used buffer) → x.tail ≡ None → {q : Result ℕ Refusal} {buffer' : List ℕ} → Places buffer used r q buffer' → Appends buffer used r q buffer'
+  says-whole x e g p =
       record {
-        answer = p.answer ∙ place-whole _ used _ (journal_of (take used buffer)) m (sym said ∙ f ∙ ap (Complete m) g) ∙ append-reads buffer used r h;
+        answer = p.answer ∙ place-whole _ used _ (journal_of (take used buffer)) x.records (said e ∙ ap (λ (t : Option ℕ). Ok (record { records = x.records; tail = t })) g) ∙ append-reads buffer used r h;
         bytes = p.bytes;
       }
 
@@ -47,24 +44,26 @@ returns-then-buffer-used c = record { answer = append-past _ _ _ c.if-buffer-use
 pub slice_bounds-read-end-2 : goal.slice_bounds-read-end-2
 slice_bounds-read-end-2 c = sym (length-take-le c.args.used c.args.buffer.now (omega arith))
 
+-- a refusal that is handed on
+handed : (x : Result ℕ Refusal) {q : Refusal} → IsErrAnd x (λ y. y ≡ q) → x ≡ Err q
+handed x e = let p = err_from_is_err_and x e in p.1 ∙ ap Err p.2
+
+pub returns-in_err-reading : goal.returns-in_err-reading
+returns-in_err-reading c =
+    let e = handed c.from_residual.result c.from_residual.ensures.1 in
+    record {
+      answer = e ∙ says-no c.args.buffer.now c.args.used c.args.record c.if-buffer-used.false _ c.in_err-reading.ensures;
+      bytes = rw e refl;
+    }
+
+pub returns-in-Some : goal.returns-in-Some
+returns-in-Some c =
+    record { answer = says-tail c.args.buffer.now c.args.used c.args.record c.if-buffer-used.false c.in_ok-reading.reading _ c.in_ok-reading.ensures c.in-Some.is; bytes = refl }
+
 pub append_whole-requires : goal.append_whole-requires
 append_whole-requires c =
-    (omega arith, says-short c.args.buffer.now c.args.used c.args.record c.if-buffer-used.false c.read-reading.result c.read-reading.ensures _ _ c.in-Complete.is)
+    (omega arith, says-short c.args.buffer.now c.args.used c.args.record c.if-buffer-used.false c.in_ok-reading.reading c.in_ok-reading.ensures)
 
-pub returns-in-Refused : goal.returns-in-Refused
-returns-in-Refused c =
-    record {
-      answer = says-no c.args.buffer.now c.args.used c.args.record c.if-buffer-used.false c.read-reading.result c.read-reading.ensures _ c.in-Refused.is;
-      bytes = refl;
-    }
-
-pub returns-in-From : goal.returns-in-From
-returns-in-From c =
-    record {
-      answer = says-tail c.args.buffer.now c.args.used c.args.record c.if-buffer-used.false c.read-reading.result c.read-reading.ensures _ _ _ c.in-Complete.is c.in-From.is;
-      bytes = refl;
-    }
-
-pub returns-in-Nothing : goal.returns-in-Nothing
-returns-in-Nothing c =
-    says-whole c.args.buffer.now c.args.used c.args.record c.if-buffer-used.false c.read-reading.result c.read-reading.ensures _ _ c.in-Complete.is c.in-Nothing.is c.append_whole.ensures
+pub returns-in-None : goal.returns-in-None
+returns-in-None c =
+    says-whole c.args.buffer.now c.args.used c.args.record c.if-buffer-used.false c.in_ok-reading.reading c.in_ok-reading.ensures c.in-None.is c.append_whole.ensures

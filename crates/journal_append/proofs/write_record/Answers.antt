@@ -1,4 +1,5 @@
 -- `write_record` writes the kind and then the body that the kind has. In each arm the record is known; the store and the writes after it are one write (`kind-then`).
+use mathlib.Core.Logic.{◌⊎◌, inl, inr}
 use Prim.Native.Nat.{ℕ, ◌+◌, ◌≤◌}
 use mathlib.Core.Path.{◌≡◌, refl, ap, sym, ◌∙◌}
 use mathlib.Core.List.{List, ◌∷◌}
@@ -8,7 +9,7 @@ use Rattle.layout.specs.Fixed.{big}
 use Rattle.layout.specs.Place.{splice}
 use Rattle.layout.proofs.Laws.Fixed.{length-big}
 use Rattle.layout.proofs.Laws.Splice.{length-splice}
-use Rattle.buf_mut.specs.declared.Put.{Put}
+use Rattle.std.specs.Prelude.{Result}
 use Rattle.buf_mut.specs.Promise.{Puts}
 use Rattle.buf_mut.proofs.Laws.{copied}
 use Rattle.journal.specs.declared.Record.{Record}
@@ -31,58 +32,47 @@ module _ (xs : List ℕ) (used k : ℕ) (r : Record) (is : k ≡ kind_of r) (h :
   same : {ys : List ℕ} → ys ≡ splice xs used (record_bytes r) → length ys ≡ length xs
   same e = ap length e ∙ length-splice xs used (record_bytes r) (omega (arith, length_record r))
 
-debit-bytes : (r : Record) (card retry amount : ℕ) → r ≡ Debit card retry amount → record_bytes r ≡ kind_of r ∷ body_bytes card retry amount
-unfolding record_bytes
-debit-bytes r card retry amount e = rw e
+-- a debit and a top-up are as long, and have the same fields
+abbrev OfTwo : Record → ℕ → ℕ → ℕ → Type 0
+OfTwo r card retry amount = (r ≡ Debit card retry amount) ⊎ (r ≡ TopUp card retry amount)
 
-up-bytes : (r : Record) (card retry amount : ℕ) → r ≡ TopUp card retry amount → record_bytes r ≡ kind_of r ∷ body_bytes card retry amount
+two-bytes : (r : Record) {card retry amount : ℕ} → OfTwo r card retry amount → record_bytes r ≡ kind_of r ∷ body_bytes card retry amount
 unfolding record_bytes
-up-bytes r card retry amount e = rw e
+two-bytes r (inl e) = rw e refl
+two-bytes r (inr e) = rw e refl
+
+long : (r : Record) {card retry amount : ℕ} → OfTwo r card retry amount → length_of (kind_of r) ≡ 21
+long r (inl e) = length-debit _ (ap kind_of e)
+long r (inr e) = length_up _ (ap kind_of e)
 
 close-bytes : (r : Record) (card : ℕ) → r ≡ Close card → record_bytes r ≡ kind_of r ∷ big 8 card
 unfolding record_bytes
 close-bytes r card e = rw e
 
-room : (r : Record) (k : ℕ) → kind_of r ≡ k → length_of k ≡ 21 → length_of (kind_of r) ≡ 21
-room r k e l = ap length_of e ∙ l
-
 pub bounds-buffer-used : goal.bounds-buffer-used
 bounds-buffer-used c = omega (arith, kind-length c.args.record)
 
 pub write_body-requires : goal.write_body-requires
-write_body-requires c =
-    rw length-set (omega (arith, room c.args.record 1 (ap kind_of c.in-Debit.is) (length-debit 1 refl)))
-
-pub write_body-requires-in-TopUp : goal.write_body-requires-in-TopUp
-write_body-requires-in-TopUp c =
-    rw length-set (omega (arith, room c.args.record 2 (ap kind_of c.in-TopUp.is) (length_up 2 refl)))
+write_body-requires c = rw length-set (omega (arith, long c.args.record c.in-Debit.is))
 
 pub returns-in-Debit : goal.returns-in-Debit
 returns-in-Debit c =
-    laid c.args.buffer.now c.args.used c.kind_of.result c.args.record c.kind_of.ensures c.requires (body_bytes _ _ _) (debit-bytes _ _ _ _ c.in-Debit.is) c.write_body.ensures
+    laid c.args.buffer.now c.args.used c.from.result c.args.record (c.from.ensures ∙ c.kind.ensures) c.requires (body_bytes _ _ _) (two-bytes _ c.in-Debit.is) c.write_body.ensures
 
 pub shape_of-buffer-in-Debit : goal.shape_of-buffer-in-Debit
 shape_of-buffer-in-Debit c =
-    same c.args.buffer.now c.args.used c.kind_of.result c.args.record c.kind_of.ensures c.requires (returns-in-Debit c)
+    same c.args.buffer.now c.args.used c.from.result c.args.record (c.from.ensures ∙ c.kind.ensures) c.requires (returns-in-Debit c)
 
-pub returns-in-TopUp : goal.returns-in-TopUp
-returns-in-TopUp c =
-    laid c.args.buffer.now c.args.used c.kind_of.result c.args.record c.kind_of.ensures c.requires (body_bytes _ _ _) (up-bytes _ _ _ _ c.in-TopUp.is) c.write_body-in-TopUp.ensures
-
-pub shape_of-buffer-in-TopUp : goal.shape_of-buffer-in-TopUp
-shape_of-buffer-in-TopUp c =
-    same c.args.buffer.now c.args.used c.kind_of.result c.args.record c.kind_of.ensures c.requires (returns-in-TopUp c)
-
-put-card : (xs : List ℕ) (used k card : ℕ) (r : Record) {ys : List ℕ} {p : Put} → r ≡ Close card → used + length_of (kind_of r) ≤ length xs → Puts (big 8 card) (set xs used k) (used + 1) p ys
+put-card : (xs : List ℕ) (used k card : ℕ) (r : Record) {ys : List ℕ} {p : Result ℕ _} → r ≡ Close card → used + length_of (kind_of r) ≤ length xs → Puts (big 8 card) (set xs used k) (used + 1) p ys
     → ys ≡ splice (set xs used k) (used + 1) (big 8 card)
 put-card xs used k card r e h q =
     copied (rw (length-set, length-big 8 card) (omega (arith, ap length_of (ap kind_of e), length-close 3 refl))) q
 
 pub returns-in-Close : goal.returns-in-Close
 returns-in-Close c =
-    laid c.args.buffer.now c.args.used c.kind_of.result c.args.record c.kind_of.ensures c.requires (big 8 _) (close-bytes _ _ c.in-Close.is)
-    (put-card c.args.buffer.now c.args.used c.kind_of.result _ c.args.record c.in-Close.is c.requires c.put_u64.ensures)
+    laid c.args.buffer.now c.args.used c.from.result c.args.record (c.from.ensures ∙ c.kind.ensures) c.requires (big 8 _) (close-bytes _ _ c.in-Close.is)
+    (put-card c.args.buffer.now c.args.used c.from.result _ c.args.record c.in-Close.is c.requires c.put_u64.ensures)
 
 pub shape_of-buffer-in-Close : goal.shape_of-buffer-in-Close
 shape_of-buffer-in-Close c =
-    same c.args.buffer.now c.args.used c.kind_of.result c.args.record c.kind_of.ensures c.requires (returns-in-Close c)
+    same c.args.buffer.now c.args.used c.from.result c.args.record (c.from.ensures ∙ c.kind.ensures) c.requires (returns-in-Close c)
