@@ -1,6 +1,6 @@
 pub mod Handed
 pub mod Laws
-pub mod Plain
+pub mod Joined
 pub mod Says
 pub mod Promise
 pub mod OneOutcome

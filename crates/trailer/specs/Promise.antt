@@ -5,12 +5,8 @@ use Rattle.basics.specs.Answers.{says_verdict}
 use Rattle.basics.specs.declared.Refusal.{Refusal}
 use Rattle.trailer.specs.declared.Trailer.{Trailer}
 use Rattle.trailer.specs.declared.Region.{Region}
-use Rattle.trailer.specs.Handed.{has_region, region_at, offsets_at}
-use Rattle.trailer.specs.Plain.{trailer_or, region_or, region_by}
-use Rattle.trailer.specs.Says.{trailer_from, says_trailer, region_from}
-
-abbrev pub PlainTrailer : List ℕ → Trailer → Type 0
-PlainTrailer b t = trailer_from t ≡ trailer_or (trailer_of b)
+use Rattle.trailer.specs.Handed.{has_region, region_at, region_by, offsets_at}
+use Rattle.trailer.specs.Says.{trailer_from, says_trailer, says_region}
 
 abbrev pub ReadsTrailer : List ℕ → Result Trailer Refusal → Type 0
 ReadsTrailer b a = says_trailer a ≡ trailer_of b
@@ -20,11 +16,12 @@ abbrev pub TestsTrailer : Trailer → ℕ → ℕ → Bool → Type 0
 TestsTrailer t len r h = h ≡ has_region len (trailer_from t) r
 
 -- a region of the trailer that is handed in
-abbrev pub PlainRegion : List ℕ → Trailer → ℕ → Region → Type 0
-PlainRegion b t r g = region_from g ≡ region_or (region_at b (trailer_from t) r)
+abbrev pub ReadsRegion : List ℕ → Trailer → ℕ → Result Region Refusal → Type 0
+ReadsRegion b t r g = says_region g ≡ region_at b (trailer_from t) r
 
-abbrev pub PlainRegionAt : List ℕ → ℕ → Region → Type 0
-PlainRegionAt b r g = region_from g ≡ region_or (region_by b r)
+-- and one of the trailer that is read
+abbrev pub ReadsRegionBy : List ℕ → ℕ → Result Region Refusal → Type 0
+ReadsRegionBy b r g = says_region g ≡ region_by b r
 
 abbrev pub TestsOffsets : List ℕ → Trailer → Result ⊤ Refusal → Type 0
 TestsOffsets b t a = says_verdict a ≡ offsets_at b (trailer_from t)

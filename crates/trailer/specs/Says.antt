@@ -17,6 +17,9 @@ says_trailer = says trailer_from
 abbrev pub region_from : Region → RegionL
 region_from g = record { start = g.start; end = g.end; reach = g.reach }
 
+abbrev pub says_region : Result Region Refusal → Res RegionL
+says_region = says region_from
+
 -- ---- one to one
 
 pub trailer_from-one : (t u : Trailer) → trailer_from t ≡ trailer_from u → t ≡ u
@@ -27,3 +30,6 @@ region_from-one g h e = ap (λ (x : RegionL). record { start = x.start; end = x.
 
 pub says_trailer-one : (a b : Result Trailer Refusal) → says_trailer a ≡ says_trailer b → a ≡ b
 says_trailer-one = says-one trailer_from trailer_from-one
+
+pub says_region-one : (a b : Result Region Refusal) → says_region a ≡ says_region b → a ≡ b
+says_region-one = says-one region_from region_from-one

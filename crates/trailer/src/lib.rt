@@ -6,9 +6,8 @@
 ghost use Rattle.std.specs.Prelude.{cond, ◌≡◌, ◌≤◌, ◌<◌, ◌+◌, ◌*◌, length};
 ghost use Rattle.layout.specs.Trailer.{short_at, first_of, region_of, all_offsets};
 ghost use Rattle.basics.specs.Answers.{says_verdict};
-ghost use Rattle.trailer.specs.Plain.{no_trailer, no_region, region_or};
-ghost use Rattle.trailer.specs.Says.{trailer_from, region_from};
-ghost use Rattle.trailer.specs.Promise.{PlainTrailer, ReadsTrailer, TestsTrailer, PlainRegion, PlainRegionAt, TestsOffsets};
+ghost use Rattle.trailer.specs.Says.{trailer_from, says_region};
+ghost use Rattle.trailer.specs.Promise.{ReadsTrailer, TestsTrailer, ReadsRegion, ReadsRegionBy, TestsOffsets};
 
 use basics::Refusal;
 
@@ -45,40 +44,23 @@ fn short_at(block: &[u8], at: usize) -> usize
     high * 256 + low
 }
 
-fn no_trailer() -> Trailer
-    ensures { trailer_from result ≡ no_trailer }
-{
-    Trailer { count: 0, size: 0 }
-}
-
-// The trailer as numbers: all 0 where `trailer_of` refuses. A good one counts at least one restart.
-pub fn plain_trailer(block: &[u8]) -> Trailer
-    ensures { PlainTrailer block.now result }
+// Reads the count and tests it against the block: 14. A good one counts at least one restart.
+pub fn trailer_of(block: &[u8]) -> Result<Trailer, Refusal>
+    ensures { ReadsTrailer block.now result }
 {
     let len = block.len();
     if len < 2 {
-        return no_trailer();
+        return Err(Refusal::BadTrailer);
     }
     let count = short_at(block, len - 2);
     let taken = 2 + 2 * count;
     if (count == 0) | (len < taken) {
-        return no_trailer();
+        return Err(Refusal::BadTrailer);
     }
-    Trailer {
+    Ok(Trailer {
         count,
         size: len - taken,
-    }
-}
-
-// Reads the count and tests it against the block: 14.
-pub fn trailer_of(block: &[u8]) -> Result<Trailer, Refusal>
-    ensures { ReadsTrailer block.now result }
-{
-    let t = plain_trailer(block);
-    if 0 < t.count {
-        return Ok(t);
-    }
-    Err(Refusal::BadTrailer)
+    })
 }
 
 // Whether these numbers are those of a block of `len` bytes with a region `r`. They may be any, so no sum is made of them that
@@ -110,21 +92,11 @@ fn pick(first: bool, a: usize, b: usize) -> usize
     if first { a } else { b }
 }
 
-fn no_region() -> Region
-    ensures { region_from result ≡ no_region }
-{
-    Region {
-        start: 0,
-        end: 0,
-        reach: 0,
-    }
-}
-
-// Region `r` of a trailer that is the block's, as numbers. The two bytes after the last offset are the count's, so that the next offset can be read before
+// Region `r` of a trailer that is the block's: 15. The two bytes after the last offset are the count's, so that the next offset can be read before
 // it is known whether there is one.
-fn region_in(block: &[u8], t: Trailer, r: usize) -> Region
+fn region_in(block: &[u8], t: Trailer, r: usize) -> Result<Region, Refusal>
     requires { (t.size + (2 + 2 * t.count) ≡ length block.now) × (r < t.count) }
-    ensures { region_from result ≡ region_or (region_of block.now (trailer_from t) r) }
+    ensures { says_region result ≡ region_of block.now (trailer_from t) r }
 {
     let size = t.size;
     let start = short_at(block, size + 2 * r);
@@ -133,45 +105,34 @@ fn region_in(block: &[u8], t: Trailer, r: usize) -> Region
     let end = pick(last, size, next);
     let limit = pick(last, size + 1, size);
     if (0 < first_of(r, start)) | (end <= start) | (limit <= end) {
-        return no_region();
+        return Err(Refusal::BadOffset);
     }
-    Region {
+    Ok(Region {
         start,
         end,
         reach: pick(last, end, end - 1),
-    }
+    })
 }
 
-// Region `r` of a trailer that is handed in, as numbers: all 0 where it is refused, with 18 for numbers that are not the
-// block's or no region's, with 15 for its offset and the next. No other offset is looked at. A good one ends past 0.
-// (`restart_region_end` in the Rust.)
-pub fn plain_region(block: &[u8], t: Trailer, r: usize) -> Region
-    ensures { PlainRegion block.now t r result }
+// Region `r` of a trailer that is handed in: 18 for numbers that are not the block's or no region's, then 15 for its offset
+// and the next. No other offset is looked at. (`restart_region_end` in the Rust.)
+pub fn region_of(block: &[u8], t: Trailer, r: usize) -> Result<Region, Refusal>
+    ensures { ReadsRegion block.now t r result }
 {
-    let len = block.len();
-    if !has_region(t, len, r) {
-        return no_region();
+    if !has_region(t, block.len(), r) {
+        return Err(Refusal::BadState);
     }
     region_in(block, t, r)
 }
 
-// The trailer read and region `r` of it, as numbers: all 0 where either is refused. A good one ends past 0.
-pub fn plain_region_at(block: &[u8], r: usize) -> Region
-    ensures { PlainRegionAt block.now r result }
+// The trailer read, and region `r` of it: 14, 18, 15.
+pub fn region_by(block: &[u8], r: usize) -> Result<Region, Refusal>
+    ensures { ReadsRegionBy block.now r result }
 {
-    let len = block.len();
-    if len < 2 {
-        return no_region();
+    let t = trailer_of(block)?;
+    if t.count <= r {
+        return Err(Refusal::BadState);
     }
-    let count = short_at(block, len - 2);
-    let taken = 2 + 2 * count;
-    if (count <= r) | (len < taken) {
-        return no_region();
-    }
-    let t = Trailer {
-        count,
-        size: len - taken,
-    };
     region_in(block, t, r)
 }
 
