@@ -1,9 +1,10 @@
 -- The test of a trailer that is handed in, by what was met: one law for each exit of the code. For callers: a trailer that was read from the block passes
 -- it, so the definitions of `layout` are left (`region-used`, `offsets-used`).
 use Rattle.std.specs.Prelude.{ℕ, ◌+◌, ◌*◌, ◌≤◌, ◌<◌, ◌≡◌, refl, Bool, true, false, not, ◌&&◌, List, ltb, eqb, length}
+use Rattle.std.proofs.Common.{sym, ◌∙◌}
 use borrow.Author.Tests.{not-false, ltb-true, lt-ltb, le-ltb, eqb-true, eq-eqb}
 use Rattle.layout.specs.Res.{Res, ok, refuse}
-use Rattle.layout.specs.Trailer.{Trailer, trailer_of, region_of, all_offsets}
+use Rattle.layout.specs.Trailer.{Trailer, Region, trailer_of, region_of, all_offsets}
 use Rattle.layout.proofs.Laws.Res.{guard_ok}
 use Rattle.layout.proofs.Laws.Trailer.{trailer_of-tells}
 use Rattle.trailer.specs.Handed.{has_region, handed, region_at, offsets_at}
@@ -40,6 +41,10 @@ module _ {A : Type 0} (b : List ℕ) (t : Trailer) (r : ℕ) (x : Res A) where
       (k.0, k.1, p.1)
 
 -- ---- for callers
+
+-- what is answered for a trailer that is known to be the block's and to have the region
+pub region-known : (b : List ℕ) (t : Trailer) (r : ℕ) → (t.size + (2 + 2 * t.count) ≡ length b) × (r < t.count) → {x : Res Region} → x ≡ region_at b t r → region_of b t r ≡ x
+region-known b t r k e = sym (e ∙ handed-known b t r _ k)
 
 module _ (b : List ℕ) (t : Trailer) (read : trailer_of b ≡ ok t) where
   pub region-used : (r : ℕ) → r < t.count → region_at b t r ≡ region_of b t r

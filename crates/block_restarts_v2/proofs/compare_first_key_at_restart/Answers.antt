@@ -13,25 +13,25 @@ use Rattle.layout.proofs.Laws.Restart.{read_key-ends}
 use Rattle.basics.specs.Answers.{handed-on}
 use Rattle.keys.specs.Says.{says_ordering}
 use Rattle.row_decode_v2.specs.Says.{key_from}
-use Rattle.trailer.specs.Plain.{known-not, known_is_lem}
+use Rattle.trailer.specs.Laws.{region-known}
 use Rattle.trailer.specs.Says.{trailer_from, region_from}
 use Rattle.block_restarts_v2.specs.Laws.{key-lies, compared-region, compared-no, compared_is}
-use Rattle.block_restarts_v2.proofs.compare_first_key_at_restart.Goals.{Else-region-eq0, In_ok-key, Then-plain-gt0}
+use Rattle.block_restarts_v2.proofs.compare_first_key_at_restart.Goals.{In_ok-region, In_ok-key, Then-plain-gt0}
 use Rattle.block_restarts_v2.proofs.compare_first_key_at_restart.Goals as goal
 
-region-read : (k : Else-region-eq0) → let a = k.args in region_of a.block.now (trailer_from a.t) a.restart_idx ≡ ok (region_from k.plain_region-region.result)
-region-read k = known_is_lem _ _ _ k.requires _ k.plain_region-region.ensures k.if-region-eq0.false
+region-read : (k : In_ok-region) → let a = k.args in region_of a.block.now (trailer_from a.t) a.restart_idx ≡ ok (region_from k.in_ok-region.region)
+region-read k = region-known _ _ _ k.requires k.in_ok-region.ensures
 
-plain-read : (k : Then-plain-gt0) → let a = k.args in let g = k.plain_region-region.result in
+plain-read : (k : Then-plain-gt0) → let a = k.args in let g = k.in_ok-region.region in
     read_key (data_of a.block.now (trailer_from a.t)) g.start g.end 0 true ≡ ok (plain_key_is g.start k.plain_key_at-plain.result)
 plain-read k = plain-key-is _ _ _ _ k.plain_key_at-plain.ensures (λ z. absurd (omega (arith, k.if-plain-gt0.true)))
 
-key-read : (k : In_ok-key) → let a = k.args in let g = k.plain_region-region.result in
+key-read : (k : In_ok-key) → let a = k.args in let g = k.in_ok-region.region in
     read_key (data_of a.block.now (trailer_from a.t)) g.start g.end 0 true ≡ ok (key_from k.in_ok-key.key)
 key-read k = sym k.in_ok-key.ensures
 
-pub returns-then-region-eq0 : goal.returns-then-region-eq0
-returns-then-region-eq0 c = compared-region _ _ _ _ (known-not _ _ _ c.requires _ c.plain_region-region.ensures c.if-region-eq0.true)
+pub returns-in_err-region : goal.returns-in_err-region
+returns-in_err-region c = handed-on says_ordering _ _ c.from_residual.ensures.1 (compared-region _ _ _ _ (region-known _ _ _ c.requires c.in_err-region.ensures))
 
 pub slice_bounds-rows-end : goal.slice_bounds-rows-end
 slice_bounds-rows-end c =
@@ -47,11 +47,11 @@ pub slice_bounds-compare-end : goal.slice_bounds-compare-end
 slice_bounds-compare-end c = (read_key-ends _ _ _ _ _ _ (plain-read (goal.at.slice_bounds-compare-end c).Then-plain-gt0)).0
 
 pub returns-then-plain-gt0 : goal.returns-then-plain-gt0
-returns-then-plain-gt0 c = compared_is _ _ _ _ _ (region-read (goal.at.returns-then-plain-gt0 c).Else-region-eq0) _ (plain-read (goal.at.returns-then-plain-gt0 c).Then-plain-gt0) c.compare.ensures
+returns-then-plain-gt0 c = compared_is _ _ _ _ _ (region-read (goal.at.returns-then-plain-gt0 c).In_ok-region) _ (plain-read (goal.at.returns-then-plain-gt0 c).Then-plain-gt0) c.compare.ensures
 
 pub returns-in_err-key : goal.returns-in_err-key
 returns-in_err-key c =
-    handed-on says_ordering _ _ c.from_residual.ensures.1 (compared-no _ _ _ _ _ (region-read (goal.at.returns-in_err-key c).Else-region-eq0) (sym c.in_err-key.ensures))
+    handed-on says_ordering _ _ c.from_residual-in_err-key.ensures.1 (compared-no _ _ _ _ _ (region-read (goal.at.returns-in_err-key c).In_ok-region) (sym c.in_err-key.ensures))
 
 pub overflow_add-to : goal.overflow_add-to
 overflow_add-to c =
@@ -62,4 +62,4 @@ slice_bounds-compare-end-2 c = (read_key-ends _ _ _ _ _ _ (key-read (goal.at.sli
 
 pub returns : goal.returns
 returns c =
-    compared_is _ _ _ _ _ (region-read (goal.at.returns c).Else-region-eq0) _ (key-read (goal.at.returns c).In_ok-key) c.compare-2.ensures
+    compared_is _ _ _ _ _ (region-read (goal.at.returns c).In_ok-region) _ (key-read (goal.at.returns c).In_ok-key) c.compare-2.ensures
