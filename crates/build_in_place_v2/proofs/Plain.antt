@@ -23,7 +23,8 @@ use Rattle.layout.proofs.Laws.RowWrite.{size-tells}
 use Rattle.layout.specs.Laws.Splice.{Wrote}
 use Rattle.layout.proofs.Laws.Splice.{wrote_then, wrote-length, wrote-set}
 use Rattle.basics.specs.Says.{says_kind, says_time}
-use Rattle.buf_mut.specs.declared.Put.{Put}
+use Rattle.basics.specs.declared.Refusal.{Refusal}
+use Rattle.std.specs.Prelude.{Result}
 use Rattle.buf_mut.specs.Promise.{Puts}
 use Rattle.buf_mut.proofs.Laws.{copied, room-first, room_next}
 use Rattle.row_flags.specs.Promise.{Flagged}
@@ -75,7 +76,7 @@ module _ (row : RowFields) {n : ℕ} (flagged : Flagged row n) (none : n ≡ 0) 
 -- ---- part by part
 
 -- a put that had room, by the place after it
-put-at : {xs ys w : List ℕ} {at n : ℕ} {p : Put} → at + length w ≤ length xs → n ≡ at + length w → Puts w xs at p ys → Wrote xs at w ys n
+put-at : {xs ys w : List ℕ} {at n : ℕ} {p : Result ℕ Refusal} → at + length w ≤ length xs → n ≡ at + length w → Puts w xs at p ys → Wrote xs at w ys n
 put-at h e q = record { is = copied h q; next = e; room = omega arith }
 
 -- the suffix, of k bytes, the value, the sequence number and a 0
@@ -85,7 +86,7 @@ module _ (xs : List ℕ) (at : ℕ) (suffix v : List ℕ) (seq k : ℕ) (is : k 
       let long : length (plain_body suffix v seq) ≡ length suffix + (length v + 9) = simp length-append (omega (arith, length-big 8 seq)) in
       omega (arith, long)
 
-  module _ {ys zs us : List ℕ} {p q r : Put} (x : Puts suffix xs at p ys) (y : Puts v ys (at + k) q zs) (z : Puts (big 8 seq) zs (at + k + length v) r us) where
+  module _ {ys zs us : List ℕ} {p q r : Result ℕ Refusal} (x : Puts suffix xs at p ys) (y : Puts v ys (at + k) q zs) (z : Puts (big 8 seq) zs (at + k + length v) r us) where
     one : Wrote xs at suffix ys (at + k)
     one = put-at (omega (arith, body-ends)) (omega arith) x
 

@@ -22,7 +22,8 @@ use Rattle.layout.proofs.Laws.Building.{laid_row-bytes, row_bytes-most}
 use Rattle.layout.proofs.Laws.Made.{add-tells}
 use Rattle.layout.proofs.Laws.Row.{length-kept}
 use Rattle.layout.proofs.Laws.RowWrite.{SizeTells, size_of, size-refused, size-tells, size-bytes}
-use Rattle.build_in_place_v2.specs.Plan.{Plan, plan_is, plan_of, fitted, accepted}
+use Rattle.build_in_place_v2.specs.declared.Planned.{Planned}
+use Rattle.build_in_place_v2.specs.Plan.{plan_is, plan_of, fitted, accepted}
 
 -- no row has more bytes: three lengths of at most five, the key, number and flags, two times, the value
 abbrev pub most_row : ℕ
@@ -125,10 +126,10 @@ module _ (b : Builder) (data_len places_len : ℕ) (key : Key) (f : Fields) wher
     plan_is_lem = (passed (would_fit b data_len places_len key f) (λ _. plan_of b key f) q).2
 
     mark-is : at_restart b ≡ restart
-    mark-is = ap (λ (p : Plan). p.restart) plan_is_lem
+    mark-is = ap (λ (p : Planned). p.restart) plan_is_lem
 
     total-is : grown_size b key f ≡ size
-    total-is = ap (λ (p : Plan). p.size) plan_is_lem
+    total-is = ap (λ (p : Planned). p.size) plan_is_lem
 
     pub accept_far : (restart && ltb max_offset b.used) ≡ true → refuse 5 ≡ accepted b data_len places_len key f
     accept_far t =

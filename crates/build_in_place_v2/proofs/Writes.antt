@@ -11,6 +11,7 @@ use lib.ListN.{length, take, drop, set, length-take, length-drop}
 use lib.Seq.{take_all}
 use borrow.Author.Tests.{eq-eqb, ne_eqb}
 use borrow.Rule.Slice.PartMut.{mid_of, put_mid, mid_len}
+use Rattle.std.specs.Prelude.{Result, Ok, Err}
 use Rattle.layout.specs.Res.{Res, ok, refuse, bind}
 use Rattle.layout.specs.Builder.{Builder, at_restart, next_row, would_fit, grown, add}
 use Rattle.layout.specs.Key.{Key}
@@ -29,19 +30,15 @@ use Rattle.basics.specs.Number.{number}
 use Rattle.basics.specs.declared.Refusal.{Refusal}
 use Rattle.basics.specs.declared.Refusal.TheVariants.{BadState}
 use Rattle.buf_mut.specs.Promise.{Puts}
-use Rattle.buf_mut.specs.declared.Put.{Put}
 use Rattle.buf_mut.proofs.Laws.{copied}
 use Rattle.row_encode_v2.proofs.Rest.{laid-rest, laid-not}
 use Rattle.row_encode_v2.specs.Promise.{Encodes}
 use Rattle.row_flags.specs.Says.{fields_from}
-use Rattle.row_encode_v2.specs.declared.Encoded.{Encoded}
-use Rattle.row_encode_v2.specs.declared.Encoded.TheVariants.{Bytes as EncodedBytes, Refused as EncodedRefused}
 use Rattle.row_flags.specs.declared.RowFields.{RowFields}
 use Rattle.state_v2.specs.declared.State.{State}
-use Rattle.build_in_place_v2.specs.declared.Grown.{Grown}
-use Rattle.build_in_place_v2.specs.declared.Grown.TheVariants.{Row as GrownRow, Refused as GrownRefused}
 use Rattle.state_v2.specs.Says.{view_from}
-use Rattle.build_in_place_v2.specs.Plan.{Plan, plan_is, plan_of, fitted, accepted, Tested, Fitting, Grew}
+use Rattle.build_in_place_v2.specs.declared.Planned.{Planned}
+use Rattle.build_in_place_v2.specs.Plan.{plan_is, plan_of, fitted, accepted, Tested, Fitting, Grew}
 use Rattle.build_in_place_v2.specs.Promise.{entered, AddsInPlaceAs}
 use Rattle.build_in_place_v2.proofs.Plain.{over_last}
 use Rattle.build_in_place_v2.proofs.Tests.{passed-not, passed, accepted-tells}
@@ -52,7 +49,7 @@ pub tested-is : (b : Builder) (bytes places : List ℕ) (key : Key) (f : Fields)
     → accepted b (length bytes) (length places) key f ≡ ok (plan_is shared size restart) → Tested b bytes places key f shared restart
 tested-is b bytes places key f q =
     let p = accepted-tells b (length bytes) (length places) key f q in
-    record { share-is = sym (ap (λ (x : Plan). x.shared) p.1); mark-is = sym (ap (λ (x : Plan). x.restart) p.1); passed = p.0 }
+    record { share-is = sym (ap (λ (x : Planned). x.shared) p.1); mark-is = sym (ap (λ (x : Planned). x.restart) p.1); passed = p.0 }
 
 module _ (s : State) (last bytes places : List ℕ) (key : Key) (f : Fields) {shared : ℕ} {restart : Bool} (t : Tested (view_from s last) bytes places key f shared restart) where
   tells : Accepted (view_from s last) (length bytes) (length places) key f (grown (view_from s last) key f)
@@ -89,7 +86,7 @@ module _ (s : State) (last bytes places : List ℕ) (key : Key) (f : Fields) {sh
   tested-rows = fit.0.least
 
   -- and was written
-  pub grew : {used count : ℕ} {p : Put} {last' bytes' places' : List ℕ} → length last ≡ max_key → Wrote bytes s.used (row_bytes shared (drop shared key) f) bytes' used
+  pub grew : {used count : ℕ} {p : Result ℕ Refusal} {last' bytes' places' : List ℕ} → length last ≡ max_key → Wrote bytes s.used (row_bytes shared (drop shared key) f) bytes' used
       → (count ≡ s.restarts + if_so restart 1) × (places' ≡ cond restart (set places s.restarts s.used) places) → Puts (mid_of shared (length key - shared) key) last shared p last'
       → Grew s last bytes places key f
       (record {
@@ -128,11 +125,11 @@ module _ (bytes : List ℕ) (used last_len shared : ℕ) (key value : List ℕ) 
       let room : length rest ≡ length bytes - used = mid_len used (length bytes) bytes (omega arith) in
       rw all (encode-is last_len shared (drop shared key) (fields_from row value) (length rest) w.shares w.tested (omega (arith, w.room)))
 
-  module _ {e : Encoded} {part : List ℕ} (q : Encodes last_len shared suffix value row rest e part) where
-    pub row_wrote : {n : ℕ} → e ≡ EncodedBytes n → Wrote bytes used (row_bytes shared (drop shared key) (fields_from row value)) (put_mid used (length bytes - used) bytes part) (used + n)
+  module _ {e : Result ℕ Refusal} {part : List ℕ} (q : Encodes last_len shared suffix value row rest e part) where
+    pub row_wrote : {n : ℕ} → e ≡ Ok n → Wrote bytes used (row_bytes shared (drop shared key) (fields_from row value)) (put_mid used (length bytes - used) bytes part) (used + n)
     row_wrote t = laid-rest bytes used encodes w.room q t
 
-    pub row-refused : {x : Refusal} → e ≡ EncodedRefused x → ⊥
+    pub row-refused : {x : Refusal} → e ≡ Err x → ⊥
     row-refused t = laid-not bytes used encodes w.room q t
 
 -- ---- the lent bytes of the last key
@@ -166,26 +163,26 @@ module _ (s : State) (last bytes places : List ℕ) (key : Key) (f : Fields) whe
   abbrev wanted : Res Builder
   wanted = bind (entered s last) λ v. add v (length bytes) (length places) key f
 
-  abbrev Grows : Grown → List ℕ → List ℕ → List ℕ → Type 0
+  abbrev Grows : Result State Refusal → List ℕ → List ℕ → List ℕ → Type 0
   Grows r last' bytes' places' = AddsInPlaceAs wanted s last bytes places key f r last' bytes' places'
 
-  grows-not : {x : Refusal} → wanted ≡ refuse (number x) → Grows (GrownRefused x) last bytes places
+  grows-not : {x : Refusal} → wanted ≡ refuse (number x) → Grows (Err x) last bytes places
   grows-not q = rw q (record { answer = refl; last-after = refl; bytes_after = refl; places-after = refl })
 
   -- bytes that are not as many as the longest key has
-  pub grows_strange : (length last ≡ max_key → ⊥) → Grows (GrownRefused BadState) last bytes places
+  pub grows_strange : (length last ≡ max_key → ⊥) → Grows (Err BadState) last bytes places
   grows_strange h = grows-not (rw (entered-not s last h))
 
   module _ (long : length last ≡ max_key) where
     taken : wanted ≡ add (view_from s last) (length bytes) (length places) key f
     taken = rw (entered-is s last long)
 
-    pub grows-refused : {x : Refusal} → accepted (view_from s last) (length bytes) (length places) key f ≡ refuse (number x) → Grows (GrownRefused x) last bytes places
+    pub grows-refused : {x : Refusal} → accepted (view_from s last) (length bytes) (length places) key f ≡ refuse (number x) → Grows (Err x) last bytes places
     grows-refused q =
         grows-not (taken ∙ passed-not (add (view_from s last) (length bytes) (length places) key f) (λ _. plan_of (view_from s last) key f) q)
 
     pub grows : {shared : ℕ} {restart : Bool} {r : State} {last' bytes' places' : List ℕ} → Tested (view_from s last) bytes places key f shared restart
-        → Grew s last bytes places key f r last' bytes' places' → Grows (GrownRow r) last' bytes' places'
+        → Grew s last bytes places key f r last' bytes' places' → Grows (Ok r) last' bytes' places'
     grows t g =
         rw (taken ∙ t.passed)
         (record { answer = ap ok g.state; last-after = g.last-after; bytes_after = g.bytes_after; places-after = g.places-after })

@@ -1,4 +1,3 @@
-pub mod Says
 pub mod Plan
 pub mod Promise
 pub mod OneOutcome

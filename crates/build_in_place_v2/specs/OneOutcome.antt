@@ -1,24 +1,22 @@
 -- Each promise admits one outcome: two results, with the buffers that they leave, that both keep it are equal.
-use Rattle.std.specs.Prelude.{ℕ, ◌≡◌, List}
+use Rattle.std.specs.Prelude.{ℕ, ◌≡◌, List, Result, ⊤}
 use Rattle.std.proofs.Common.{sym, ◌∙◌}
 use Rattle.layout.specs.Key.{Key}
-use Rattle.basics.specs.Answers.{says_verdict-one}
-use Rattle.basics.specs.declared.Verdict.{Verdict}
+use Rattle.basics.specs.Answers.{says_same-one, says_verdict-one}
+use Rattle.basics.specs.declared.Refusal.{Refusal}
 use Rattle.row_flags.specs.declared.RowFields.{RowFields}
 use Rattle.state_v2.specs.declared.State.{State}
-use Rattle.build_in_place_v2.specs.declared.Grown.{Grown}
 use Rattle.build_in_place_v2.specs.Promise.{FitsInPlace, AddsInPlace}
-use Rattle.build_in_place_v2.specs.Says.{says_grown-one}
 
-pub would-fit_in_place-settled : (s : State) (last : List ℕ) (data_len places_len : ℕ) (key : Key) (value : List ℕ) (row : RowFields) (r q : Verdict)
+pub would-fit_in_place-settled : (s : State) (last : List ℕ) (data_len places_len : ℕ) (key : Key) (value : List ℕ) (row : RowFields) (r q : Result ⊤ Refusal)
     → FitsInPlace s last data_len places_len key value row r → FitsInPlace s last data_len places_len key value row q → r ≡ q
 would-fit_in_place-settled s last data_len places_len key value row r q a b = says_verdict-one r q (a ∙ sym b)
 
-pub add_in_place-settled : (s : State) (last bytes places : List ℕ) (key : Key) (value : List ℕ) (row : RowFields) (r q : Grown) (ls ks ys zs os ps : List ℕ)
+pub add_in_place-settled : (s : State) (last bytes places : List ℕ) (key : Key) (value : List ℕ) (row : RowFields) (r q : Result State Refusal) (ls ks ys zs os ps : List ℕ)
     → AddsInPlace s last bytes places key value row r ls ys os → AddsInPlace s last bytes places key value row q ks zs ps
     → (r ≡ q) × (ls ≡ ks) × (ys ≡ zs) × (os ≡ ps)
 add_in_place-settled s last bytes places key value row r q ls ks ys zs os ps a b = (
-  says_grown-one r q (a.answer ∙ sym b.answer),
+  says_same-one r q (a.answer ∙ sym b.answer),
   a.last-after ∙ sym b.last-after,
   a.bytes_after ∙ sym b.bytes_after,
   a.places-after ∙ sym b.places-after,

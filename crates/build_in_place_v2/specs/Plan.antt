@@ -1,5 +1,5 @@
 -- What the private functions answer and write: a row that is tested, with what was found on the way; a row that is written.
-use Rattle.std.specs.Prelude.{ℕ, ◌+◌, ◌-◌, ◌^◌, ◌≤◌, ◌<◌, ◌≡◌, Bool, cond, List, [], ◌∷◌, ◌++◌, length, drop, set}
+use Rattle.std.specs.Prelude.{ℕ, ◌+◌, ◌-◌, ◌^◌, ◌≤◌, ◌<◌, ◌≡◌, Bool, cond, List, [], ◌∷◌, ◌++◌, length, drop, set, Result}
 use Rattle.layout.specs.Res.{Res, ok, refuse, bind}
 use Rattle.layout.specs.Block.{share_of}
 use Rattle.layout.specs.Builder.{Builder, at_restart, next_row, grown_size, would_fit, grown, add}
@@ -8,65 +8,44 @@ use Rattle.layout.specs.Key.{Key}
 use Rattle.layout.specs.Place.{splice}
 use Rattle.layout.specs.Row.{Fields, value_of, row_bytes, length_tests}
 use Rattle.layout.specs.Varint.{varint}
-use Rattle.basics.specs.Number.{number}
+use Rattle.basics.specs.Answers.{says_same}
 use Rattle.basics.specs.declared.Refusal.{Refusal}
-use Rattle.basics.specs.declared.Refusal.TheVariants.{BadState}
 use Rattle.row_flags.specs.Says.{fields_from}
 use Rattle.row_flags.specs.declared.RowFields.{RowFields}
 use Rattle.row_size_v2.specs.Promise.{Sizes}
-use Rattle.row_size_v2.specs.declared.Sized.{Sized}
 use Rattle.state_v2.specs.declared.State.{State}
-use Rattle.build_in_place_v2.specs.declared.Found.{Found}
 use Rattle.build_in_place_v2.specs.declared.Planned.{Planned}
-use Rattle.build_in_place_v2.specs.declared.Planned.TheVariants.{Row as PlannedRow, Refused as PlannedRefused}
 use Rattle.state_v2.specs.Says.{view_from, state_from}
 
 -- ---- tested
 
 -- the size of a row, by its share and the lengths of its key and its value
-abbrev pub SizesRow : ℕ → ℕ → ℕ → RowFields → Sized → Type 0
+abbrev pub SizesRow : ℕ → ℕ → ℕ → RowFields → Result ℕ Refusal → Type 0
 SizesRow shared key_len value_len row r = Sizes shared (key_len - shared) row.kind value_len row.expire row.create r
 
-pub record Plan : Type 0 where
-  pub shared : ℕ
-  pub size : ℕ
-  pub restart : Bool
-
-abbrev pub plan_is : ℕ → ℕ → Bool → Plan
+abbrev pub plan_is : ℕ → ℕ → Bool → Planned
 plan_is shared size restart = record { shared = shared; size = size; restart = restart }
 
 -- the share of the next row, the size of the block with it, and whether it is a restart
-abbrev pub plan_of : Builder → Key → Fields → Plan
+abbrev pub plan_of : Builder → Key → Fields → Planned
 plan_of b key f = plan_is (share_of (at_restart b) b.last_key_of key) (grown_size b key f) (at_restart b)
 
-abbrev pub fitted : Builder → ℕ → ℕ → Key → Fields → Res Plan
+abbrev pub fitted : Builder → ℕ → ℕ → Key → Fields → Res Planned
 fitted b data_len places_len key f = bind (would_fit b data_len places_len key f) λ _. ok (plan_of b key f)
 
-abbrev pub accepted : Builder → ℕ → ℕ → Key → Fields → Res Plan
+abbrev pub accepted : Builder → ℕ → ℕ → Key → Fields → Res Planned
 accepted b data_len places_len key f = bind (add b data_len places_len key f) λ _. ok (plan_of b key f)
 
-abbrev pub says_planned : Planned → Res Plan
-says_planned (PlannedRow shared size restart) = ok (plan_is shared size restart)
-says_planned (PlannedRefused r) = refuse (number r)
-
 -- what is found of a row whose value is known by its length: it is the same whatever the value's bytes are
-abbrev pub Plans : (Fields → Res Plan) → RowFields → ℕ → Planned → Type 0
-Plans want row value_len r = (value : List ℕ) → length value ≡ value_len → says_planned r ≡ want (fields_from row value)
-
--- the refusal of an answer that is one
-abbrev pub planned_refusal : Planned → Refusal
-planned_refusal (PlannedRow shared size restart) = BadState
-planned_refusal (PlannedRefused r) = r
-
-abbrev pub found_is : ℕ → ℕ → Bool → Found
-found_is shared size restart = record { shared = shared; size = size; restart = restart }
+abbrev pub Plans : (Fields → Res Planned) → RowFields → ℕ → Result Planned Refusal → Type 0
+Plans want row value_len r = (value : List ℕ) → length value ≡ value_len → says_same r ≡ want (fields_from row value)
 
 -- what was found as plain numbers: a size of 0 where it is refused
-pub record FoundIs (want : Res Plan) (r : Found) : Type 0 where
+pub record FoundIs (want : Res Planned) (r : Planned) : Type 0 where
   pub good : (r.size ≡ 0 → ⊥) → want ≡ ok (plan_is r.shared r.size r.restart)
   pub refused : r.size ≡ 0 → (n : ℕ) × (want ≡ refuse n)
 
-abbrev pub Finds : (Fields → Res Plan) → RowFields → ℕ → Found → Type 0
+abbrev pub Finds : (Fields → Res Planned) → RowFields → ℕ → Planned → Type 0
 Finds want row value_len r = (value : List ℕ) → length value ≡ value_len → FoundIs (want (fields_from row value)) r
 
 -- a row that passed all tests of adding, with the share and the mark that were found for it

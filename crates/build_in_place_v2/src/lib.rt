@@ -15,13 +15,11 @@ ghost use Rattle.layout.specs.Varint.{varint};
 ghost use Rattle.layout.specs.Laws.Splice.{Wrote};
 ghost use Rattle.row_flags.specs.Says.{fields_from};
 ghost use Rattle.state_v2.specs.Says.{view_from};
-ghost use Rattle.build_in_place_v2.specs.Plan.{SizesRow, fitted, accepted, Plans, planned_refusal, found_is, Finds, Tested, Fitting, plain_bytes, PlainFits, Grew};
+ghost use Rattle.build_in_place_v2.specs.Plan.{SizesRow, fitted, accepted, Plans, plan_is, Finds, Tested, Fitting, plain_bytes, PlainFits, Grew};
 ghost use Rattle.build_in_place_v2.specs.Promise.{FitsInPlace, AddsInPlace};
 
-use basics::{Refusal, Verdict};
-use row_encode_v2::Encoded;
+use basics::Refusal;
 use row_flags::RowFields;
-use row_size_v2::Sized;
 use state_v2::State;
 
 const SIZEOF_U16: usize = 2;
@@ -34,26 +32,9 @@ fn compute_prefix(last: &[u8], last_len: usize, key: &[u8]) -> usize
     keys::common_prefix(&last[..last_len], key)
 }
 
-#[derive(Clone, Copy)]
-pub enum Grown {
-    Row(State),
-    Refused(Refusal),
-}
-
 // What the tests of a row found: how much of the last key it shares, how large the block is with it, and whether it is a restart.
 #[derive(Clone, Copy)]
-enum Planned {
-    Row {
-        shared: usize,
-        size: usize,
-        restart: bool,
-    },
-    Refused(Refusal),
-}
-
-// What all tests of adding found, as plain numbers. A size of 0 is for a row that they refuse: a block with a row has more.
-#[derive(Clone, Copy)]
-struct Found {
+struct Planned {
     shared: usize,
     size: usize,
     restart: bool,
@@ -91,7 +72,12 @@ fn shared_bytes(restart: bool, last: &[u8], last_len: usize, key: &[u8]) -> usiz
 }
 
 // The encoded size of a row with a key of this length, of which the last key gives `shared` bytes, from lengths alone: 1, 2, 3.
-fn entry_encoded_size(shared: usize, key_len: usize, value_len: usize, row: RowFields) -> Sized
+fn entry_encoded_size(
+    shared: usize,
+    key_len: usize,
+    value_len: usize,
+    row: RowFields,
+) -> Result<usize, Refusal>
     requires { shared ≤ key_len }
     ensures { SizesRow shared key_len value_len row result }
 {
@@ -127,31 +113,28 @@ fn plan_row(
     key: &[u8],
     value_len: usize,
     row: RowFields,
-) -> Planned
+) -> Result<Planned, Refusal>
     requires { length last_key.now ≡ max_key }
     ensures { Plans (fitted (view_from s last_key.now) data_len places_len key.now) row value_len result }
 {
     if finish_in_place_v2::is_bad_state(s, data_len, places_len) {
-        return Planned::Refused(Refusal::BadState);
+        return Err(Refusal::BadState);
     }
     let restart = is_restart_point(s.restarts, s.counter, s.restart_interval);
     let shared = shared_bytes(restart, last_key, s.last_key_len, key);
-    let entry_size = entry_encoded_size(shared, key.len(), value_len, row);
-    let Sized::Bytes(n) = entry_size else {
-        return Planned::Refused(row_size_v2::size_refusal(entry_size));
-    };
-    let no = Planned::Refused(Refusal::RowDoesNotFit);
+    let n = entry_encoded_size(shared, key.len(), value_len, row)?;
+    let no = Err(Refusal::RowDoesNotFit);
     // Rows past the block size leave no room for another. Below it no sum wraps.
     if s.block_size < s.used {
         return no;
     }
     let size = current_size(s.used, s.restarts) + n + restart_overhead(restart);
     if has_room(s.counter, s.block_size, size) {
-        return Planned::Row {
+        return Ok(Planned {
             shared,
             size,
             restart,
-        };
+        });
     }
     no
 }
@@ -165,17 +148,14 @@ pub fn would_fit_in_place(
     key: &[u8],
     value: &[u8],
     row: RowFields,
-) -> Verdict
+) -> Result<(), Refusal>
     ensures { FitsInPlace s last_key.now data_len places_len key.now value.now row result }
 {
     if last_key.len() != basics::MAX_KEY {
-        return Verdict::Refused(Refusal::BadState);
+        return Err(Refusal::BadState);
     }
-    let planned = plan_row(s, last_key, data_len, places_len, key, value.len(), row);
-    match planned {
-        Planned::Row { .. } => Verdict::Good,
-        Planned::Refused(refusal) => Verdict::Refused(refusal),
-    }
+    plan_row(s, last_key, data_len, places_len, key, value.len(), row)?;
+    Ok(())
 }
 
 fn restart_too_far(restart: bool, used: usize) -> bool
@@ -205,43 +185,36 @@ fn accept_row(
     key: &[u8],
     value_len: usize,
     row: RowFields,
-) -> Planned
+) -> Result<Planned, Refusal>
     requires { length last_key.now ≡ max_key }
     ensures { Plans (accepted (view_from s last_key.now) data_len places_len key.now) row value_len result }
 {
-    let planned = plan_row(s, last_key, data_len, places_len, key, value_len, row);
-    let Planned::Row {
-        shared: _,
-        size,
-        restart,
-    } = planned
-    else {
-        return planned;
-    };
-    if restart_too_far(restart, s.used) {
-        return Planned::Refused(Refusal::RestartTooFar);
+    let planned = plan_row(s, last_key, data_len, places_len, key, value_len, row)?;
+    if restart_too_far(planned.restart, s.used) {
+        return Err(Refusal::RestartTooFar);
     }
     // The trailer of the grown block must have room too.
-    if data_len < size {
-        return Planned::Refused(Refusal::BufferTooSmall);
+    if data_len < planned.size {
+        return Err(Refusal::BufferTooSmall);
     }
-    if no_place_left(restart, places_len, s.restarts) {
-        return Planned::Refused(Refusal::BufferTooSmall);
+    if no_place_left(planned.restart, places_len, s.restarts) {
+        return Err(Refusal::BufferTooSmall);
     }
-    planned
+    Ok(planned)
 }
 
-fn found_row(shared: usize, size: usize, restart: bool) -> Found
-    ensures { result ≡ found_is shared size restart }
+fn found_row(shared: usize, size: usize, restart: bool) -> Planned
+    ensures { result ≡ plan_is shared size restart }
 {
-    Found {
+    Planned {
         shared,
         size,
         restart,
     }
 }
 
-// The tests of `accept_row` again, for a row that passes them all: with no refusal to hand on, they are quick. Which one is refused, and how, is left to `accept_row`.
+// The tests of `accept_row` again, for a row that passes them all: with no refusal to hand on, they are quick. A size of 0 is for a row that they refuse: a block with a row has more.
+// Which one is refused, and how, is left to `accept_row`.
 fn find_row(
     s: State,
     last_key: &[u8],
@@ -250,7 +223,7 @@ fn find_row(
     key: &[u8],
     value_len: usize,
     row: RowFields,
-) -> Found
+) -> Planned
     requires { length last_key.now ≡ max_key }
     ensures { Finds (accepted (view_from s last_key.now) data_len places_len key.now) row value_len result }
 {
@@ -259,8 +232,7 @@ fn find_row(
     }
     let mark = is_restart_point(s.restarts, s.counter, s.restart_interval);
     let shared = shared_bytes(mark, last_key, s.last_key_len, key);
-    let entry_size = entry_encoded_size(shared, key.len(), value_len, row);
-    let Sized::Bytes(n) = entry_size else {
+    let Ok(n) = entry_encoded_size(shared, key.len(), value_len, row) else {
         return found_row(0, 0, false);
     };
     if s.block_size < s.used {
@@ -309,9 +281,9 @@ fn write_plain(
     let c = put_length(data, b, value.len());
     let d = c + (key.len() - shared);
     let e = d + value.len();
-    buf_mut::copy_in(data, c, &key[shared..]);
-    buf_mut::copy_in(data, d, value);
-    buf_mut::put_u64(data, e, seq);
+    let _ = buf_mut::copy_in(data, c, &key[shared..]);
+    let _ = buf_mut::copy_in(data, d, value);
+    let _ = buf_mut::put_u64(data, e, seq);
     data[e + 8] = 0;
     e + 9
 }
@@ -341,7 +313,7 @@ fn write_row(
         row,
     );
     // Never taken: the row is tested and has room.
-    let Encoded::Bytes(n) = e else {
+    let Ok(n) = e else {
         return used;
     };
     used + n
@@ -379,22 +351,13 @@ fn grow(
     let used = write_row(data, s.used, s.last_key_len, shared, key, value, row);
     let count = put_restart(restarts, restart, s.restarts, s.used);
     // The bytes that it shares lie there already.
-    buf_mut::copy_in(last_key, shared, &key[shared..]);
+    let _ = buf_mut::copy_in(last_key, shared, &key[shared..]);
     State {
         used,
         restarts: count,
         counter: s.counter + 1,
         last_key_len: key.len(),
         ..s
-    }
-}
-
-fn planned_refusal(planned: Planned) -> Refusal
-    ensures { result ≡ planned_refusal planned }
-{
-    match planned {
-        Planned::Refused(refusal) => refusal,
-        Planned::Row { .. } => Refusal::BadState,
     }
 }
 
@@ -407,11 +370,11 @@ pub fn add_in_place(
     key: &[u8],
     value: &[u8],
     row: RowFields,
-) -> Grown
+) -> Result<State, Refusal>
     ensures { AddsInPlace s last_key.old «data».old restarts.old key.now value.now row result last_key.new «data».new restarts.new }
 {
     if last_key.len() != basics::MAX_KEY {
-        return Grown::Refused(Refusal::BadState);
+        return Err(Refusal::BadState);
     }
     let data_len = data.len();
     let places_len = restarts.len();
@@ -419,9 +382,9 @@ pub fn add_in_place(
     let found = find_row(s, last_key, data_len, places_len, key, value_len, row);
     if found.size == 0 {
         let planned = accept_row(s, last_key, data_len, places_len, key, value_len, row);
-        return Grown::Refused(planned_refusal(planned));
+        return Err(basics::refusal_of(planned));
     }
-    Grown::Row(grow(
+    Ok(grow(
         last_key,
         s,
         found.shared,

@@ -18,7 +18,7 @@ accept_row-planned-requires c = c.if-last_key-ne-MAX_KEY.false
 pub returns-then-found-eq0 : goal.returns-then-found-eq0
 returns-then-found-eq0 c =
     grows-refused _ _ _ _ _ _ c.if-last_key-ne-MAX_KEY.false
-    (refusal-told c.accept_row-planned.result (c.accept_row-planned.ensures _ refl) ((c.find_row-found.ensures _ refl).refused c.if-found-eq0.true) c.planned_refusal.ensures)
+    (refusal-told c.accept_row-planned.result (c.accept_row-planned.ensures _ refl) ((c.find_row-found.ensures _ refl).refused c.if-found-eq0.true) c.refusal_of.ensures)
 
 pub grow-requires : goal.grow-requires
 grow-requires c = record { last_key_len = c.if-last_key-ne-MAX_KEY.false; tested = tested-is _ _ _ _ _ ((c.find_row-found.ensures _ refl).good c.if-found-eq0.false) }

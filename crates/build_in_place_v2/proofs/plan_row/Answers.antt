@@ -1,38 +1,37 @@
 -- `plan_row` keeps its promise: 18, 1, 2, 3, 4, or what was found. The state's tests come first, so the last key's length is within its array and the interval is some; a row
 -- that passes its length tests has at most `most_row` bytes and the rows before it are within the block size, so no sum wraps. Each exit is one of the fit question's.
 use Prim.Native.Nat.{ℕ, ◌≤◌}
-use mathlib.Core.Path.{◌≡◌, refl, ap, sym}
+use mathlib.Core.Path.{◌≡◌, ap, sym}
 use mathlib.Core.List.{List}
 use native.Mathlib.Omega.{arith}
 use lib.ListN.{length, replicate, length-drop, length-replicate}
 use Rattle.layout.specs.Res.{ok}
 use Rattle.layout.specs.Builder.{state_tests}
 use Rattle.layout.proofs.Laws.Builder.{state-tells}
-use Rattle.basics.specs.Answers.{no}
+use Rattle.basics.specs.Answers.{says_same, handed-on}
 use Rattle.row_flags.specs.Says.{fields_from}
-use Rattle.row_size_v2.specs.Says.{says_sized, sized_refusal}
 use Rattle.state_v2.specs.Says.{view_from}
 use Rattle.finish_in_place_v2.proofs.Ends.{state-refused, state-taken}
 use Rattle.build_in_place_v2.proofs.Tests.{Measured, share-fits, plan_state, plan_unsized, plan_past, plan_fits, plan_over, size_small, most_row}
-use Rattle.build_in_place_v2.proofs.plan_row.Goals.{After-entry_encoded_size-entry_size, Else-is_bad_state}
+use Rattle.build_in_place_v2.proofs.plan_row.Goals.{After-entry_encoded_size, Else-is_bad_state}
 use Rattle.build_in_place_v2.proofs.plan_row.Goals as goal
 
 state : (c : Else-is_bad_state) → state_tests (view_from c.args.s c.args.last_key.now) c.args.data_len c.args.places_len ≡ ok tt
 state c = state-taken _ (c.is_bad_state.ensures c.args.last_key.now) c.if-is_bad_state.false
 
 -- for a value of this length, whatever its bytes are
-measured : (c : After-entry_encoded_size-entry_size) (v : List ℕ) (long : length v ≡ c.args.value_len) → Measured (view_from c.args.s c.args.last_key.now) c.args.data_len c.args.places_len c.args.key.now (fields_from c.args.row v) c.shared_bytes-shared.result
-    c.is_restart_point-restart.result (says_sized c.entry_encoded_size-entry_size.result)
+measured : (c : After-entry_encoded_size) (v : List ℕ) (long : length v ≡ c.args.value_len) → Measured (view_from c.args.s c.args.last_key.now) c.args.data_len c.args.places_len c.args.key.now (fields_from c.args.row v) c.shared_bytes-shared.result
+    c.is_restart_point-restart.result (says_same c.entry_encoded_size.result)
 measured c v long =
     record {
       state = (state-taken _ (c.is_bad_state.ensures c.args.last_key.now) c.if-is_bad_state.false);
       mark = c.is_restart_point-restart.ensures;
       share = c.shared_bytes-shared.ensures;
-      size_is = rw (length-drop, long) (sym c.entry_encoded_size-entry_size.ensures);
+      size_is = rw (length-drop, long) (sym c.entry_encoded_size.ensures);
     }
 
 -- no sum with its size wraps: some value has this length
-small : (c : After-entry_encoded_size-entry_size) {n : ℕ} → says_sized c.entry_encoded_size-entry_size.result ≡ ok n → n ≤ most_row
+small : (c : After-entry_encoded_size) {n : ℕ} → says_same c.entry_encoded_size.result ≡ ok n → n ≤ most_row
 small c =
     let n = c.args.value_len in
     size_small _ _ _ _ _ (measured c (replicate n 0) (length-replicate {A = ℕ} n 0))
@@ -46,26 +45,26 @@ is_restart_point-restart-requires c = let o = state-tells _ _ _ tt (state (goal.
 pub shared_bytes-shared-requires : goal.shared_bytes-shared-requires
 shared_bytes-shared-requires c = omega (arith, (state-tells _ _ _ tt (state (goal.at.shared_bytes-shared-requires c).Else-is_bad_state)).last_fits, c.requires)
 
-pub entry_encoded_size-entry_size-requires : goal.entry_encoded_size-entry_size-requires
-entry_encoded_size-entry_size-requires c = share-fits _ _ _ c.shared_bytes-shared.ensures
+pub entry_encoded_size-requires : goal.entry_encoded_size-requires
+entry_encoded_size-requires c = share-fits _ _ _ c.shared_bytes-shared.ensures
 
-pub returns-in_default : goal.returns-in_default
-returns-in_default c v long = plan_unsized _ _ _ _ _ (measured (goal.at.returns-in_default c).After-entry_encoded_size-entry_size v long) (no says_sized sized_refusal refl c.in_default.is refl c.size_refusal.ensures)
+pub returns-in_err-n : goal.returns-in_err-n
+returns-in_err-n c v long = handed-on (λ p. p) _ _ c.from_residual.ensures.1 (plan_unsized _ _ _ _ _ (measured (goal.at.returns-in_err-n c).After-entry_encoded_size v long) (ap says_same c.in_err-n.was))
 
 pub returns-then-s : goal.returns-then-s
-returns-then-s c v long = plan_past _ _ _ _ _ (measured (goal.at.returns-then-s c).After-entry_encoded_size-entry_size v long) (ap says_sized c.in-Bytes.is) c.if-s.true
+returns-then-s c v long = plan_past _ _ _ _ _ (measured (goal.at.returns-then-s c).After-entry_encoded_size v long) (ap says_same c.in_ok-n.was) c.if-s.true
 
 pub current_size-requires : goal.current_size-requires
 current_size-requires c = (omega (arith, c.if-s.false, (state-tells _ _ _ tt (state (goal.at.current_size-requires c).Else-is_bad_state)).block), (state-tells _ _ _ tt (state (goal.at.current_size-requires c).Else-is_bad_state)).allowed)
 
 pub overflow_add-size : goal.overflow_add-size
-overflow_add-size c = omega (arith, c.current_size.ensures.1, small (goal.at.overflow_add-size c).After-entry_encoded_size-entry_size (ap says_sized c.in-Bytes.is))
+overflow_add-size c = omega (arith, c.current_size.ensures.1, small (goal.at.overflow_add-size c).After-entry_encoded_size (ap says_same c.in_ok-n.was))
 
 pub overflow_add-size-2 : goal.overflow_add-size-2
-overflow_add-size-2 c = omega (arith, c.current_size.ensures.1, c.restart_overhead.ensures.1, small (goal.at.overflow_add-size-2 c).After-entry_encoded_size-entry_size (ap says_sized c.in-Bytes.is))
+overflow_add-size-2 c = omega (arith, c.current_size.ensures.1, c.restart_overhead.ensures.1, small (goal.at.overflow_add-size-2 c).After-entry_encoded_size (ap says_same c.in_ok-n.was))
 
 pub returns-then-has_room : goal.returns-then-has_room
-returns-then-has_room c v long = plan_fits _ _ _ _ _ (measured (goal.at.returns-then-has_room c).After-entry_encoded_size-entry_size v long) (ap says_sized c.in-Bytes.is) c.current_size.ensures.0 c.restart_overhead.ensures.0 c.has_room.ensures c.if-has_room.true
+returns-then-has_room c v long = plan_fits _ _ _ _ _ (measured (goal.at.returns-then-has_room c).After-entry_encoded_size v long) (ap says_same c.in_ok-n.was) c.current_size.ensures.0 c.restart_overhead.ensures.0 c.has_room.ensures c.if-has_room.true
 
 pub returns : goal.returns
-returns c v long = plan_over _ _ _ _ _ (measured (goal.at.returns c).After-entry_encoded_size-entry_size v long) (ap says_sized c.in-Bytes.is) c.current_size.ensures.0 c.restart_overhead.ensures.0 c.has_room.ensures c.if-has_room.false
+returns c v long = plan_over _ _ _ _ _ (measured (goal.at.returns c).After-entry_encoded_size v long) (ap says_same c.in_ok-n.was) c.current_size.ensures.0 c.restart_overhead.ensures.0 c.has_room.ensures c.if-has_room.false

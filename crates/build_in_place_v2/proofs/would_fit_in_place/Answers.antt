@@ -1,9 +1,8 @@
 -- `would_fit_in_place` keeps its promise: bytes that are not a last key's are 18; for others the answer is the fit question's.
 -- `plan_row` makes the same tests, and says more: of a row that fits, what was found is dropped, and a refusal is handed on as it is.
-use mathlib.Core.Path.{refl}
-use Rattle.basics.specs.Answers.{yes}
+use mathlib.Core.Path.{refl, sym}
+use Rattle.basics.specs.Answers.{handed-on}
 use Rattle.row_flags.specs.Says.{fields_from}
-use Rattle.build_in_place_v2.specs.Plan.{says_planned}
 use Rattle.build_in_place_v2.proofs.Writes.{fit_strange, fit-said, fit_refused}
 use Rattle.build_in_place_v2.proofs.would_fit_in_place.Goals as goal
 
@@ -12,8 +11,9 @@ returns-then-last_key-ne-MAX_KEY c =
     let a = c.args in
     fit_strange a.s a.last_key.now a.data_len a.places_len a.key.now (fields_from a.row a.value.now) c.if-last_key-ne-MAX_KEY.true
 
-pub returns-in-Row : goal.returns-in-Row
-returns-in-Row c = fit-said _ _ _ _ _ _ c.if-last_key-ne-MAX_KEY.false (yes says_planned (c.plan_row-planned.ensures _ refl) c.in-Row.is)
+pub returns-in_err-plan_row : goal.returns-in_err-plan_row
+returns-in_err-plan_row c =
+    handed-on (λ v. tt) _ _ c.from_residual.ensures.1 (fit_refused _ _ _ _ _ _ c.if-last_key-ne-MAX_KEY.false (sym (c.in_err-plan_row.ensures _ refl)))
 
-pub returns-in-Refused : goal.returns-in-Refused
-returns-in-Refused c = fit_refused _ _ _ _ _ _ c.if-last_key-ne-MAX_KEY.false (yes says_planned (c.plan_row-planned.ensures _ refl) c.in-Refused.is)
+pub returns : goal.returns
+returns c = fit-said _ _ _ _ _ _ c.if-last_key-ne-MAX_KEY.false (sym (c.in_ok-plan_row.ensures _ refl))

@@ -18,8 +18,8 @@ returns-in_default c = absurd (row-refused _ _ _ _ _ _ c.args.row c.requires c.e
 
 pub overflow_add-result : goal.overflow_add-result
 overflow_add-result c =
-    let w = row_wrote _ _ _ _ _ _ c.args.row c.requires c.encode-e.ensures c.in-Bytes.is in
+    let w = row_wrote _ _ _ _ _ _ c.args.row c.requires c.encode-e.ensures c.in-Ok.is in
     omega (arith, w.room)
 
 pub returns : goal.returns
-returns c = row_wrote _ _ _ _ _ _ c.args.row c.requires c.encode-e.ensures c.in-Bytes.is
+returns c = row_wrote _ _ _ _ _ _ c.args.row c.requires c.encode-e.ensures c.in-Ok.is
