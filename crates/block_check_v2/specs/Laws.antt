@@ -1,5 +1,5 @@
 -- The walk, by what was met: one law for each thing that the code does before a region and in one.
-use Rattle.std.specs.Prelude.{ℕ, ◌+◌, ◌-◌, ◌≤◌, ◌<◌, ◌≡◌, refl, Bool, true, false, cond, List, ◌++◌, ltb, eqb, length, take, drop, replicate}
+use Rattle.std.specs.Prelude.{ℕ, ◌+◌, ◌-◌, ◌≤◌, ◌<◌, ◌≡◌, refl, Bool, true, false, cond, List, ◌++◌, ltb, eqb, length, take, drop, replicate, Result, Option}
 use Rattle.std.proofs.Common.{ap, sym, ◌∙◌, subst, ⊎_elim, arith, length-drop, take-add, take-take, drop_at, length-take-le, lt-ltb, le-ltb}
 use Rattle.std.proofs.lemmas.List.{length-replicate}
 use Rattle.layout.specs.Res.{ok, refuse}
@@ -19,9 +19,8 @@ use Rattle.layout.specs.Laws.Tells.{RowEnds}
 use Rattle.layout.proofs.Laws.Tells.{row-shares, row_in-ends}
 use Rattle.layout.specs.Laws.Trailer.{RegionTells}
 use Rattle.layout.proofs.Laws.Trailer.{region_of-tells, trailer_of-tells, all_offsets-tell}
+use Rattle.basics.specs.declared.Refusal.{Refusal}
 use Rattle.block_check_v2.specs.declared.Passed.{Passed}
-use Rattle.block_check_v2.specs.declared.Tried.{Tried}
-use Rattle.block_check_v2.specs.declared.Walked.{Walked}
 use Rattle.block_check_v2.specs.Walk.{rows_of, Goes, Stands, Leaves, Tries}
 
 -- in region r, whose bounds are g: a row that ended at its end has left it
@@ -55,11 +54,11 @@ may-told a b before seq e f g = ap (λ (o : Ordering). may_by o before seq) (sym
 
 module _ (b : List ℕ) (t : Trailer) where
   -- the case of an answer is known, so what it leaves is
-  pub leaves_as : (p : Passed) (key : List ℕ) {w v : Walked} → Leaves b t p w key → w ≡ v → Leaves b t p v key
-  leaves_as p key l e = subst (λ (x : Walked). Leaves b t p x key) e l
+  pub leaves_as : (p : Passed) (key : List ℕ) {w v : Result (Option Passed) Refusal} → Leaves b t p w key → w ≡ v → Leaves b t p v key
+  leaves_as p key l e = subst (λ (x : Result (Option Passed) Refusal). Leaves b t p x key) e l
 
-  pub tries_as : (room : ℕ) {w v : Tried} → Tries b t room w → w ≡ v → Tries b t room v
-  tries_as room l e = subst (λ (x : Tried). Tries b t room x) e l
+  pub tries_as : (room : ℕ) {w v : Result (Option ℕ) Refusal} → Tries b t room w → w ≡ v → Tries b t room v
+  tries_as room l e = subst (λ (x : Result (Option ℕ) Refusal). Tries b t room x) e l
 
   pub stands-first : trailer_of b ≡ ok t → all_offsets b t ≡ ok tt → (key : List ℕ) → Stands b t (passed_from 0 0 0 0 0) key
   stands-first e o key =

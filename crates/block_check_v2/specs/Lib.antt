@@ -1,4 +1,3 @@
-pub mod Says
 pub mod Walk
 pub mod Promise
 pub mod OneOutcome

@@ -8,23 +8,16 @@ ghost use Rattle.std.specs.Prelude.{◌≡◌, ◌<◌, length};
 ghost use Rattle.layout.specs.Res.{ok};
 ghost use Rattle.layout.specs.Trailer.{trailer_of, all_offsets};
 ghost use Rattle.trailer.specs.Says.{trailer_from};
-ghost use Rattle.block_check_v2.specs.Says.{says_checked};
+ghost use Rattle.basics.specs.Answers.{says_same};
 ghost use Rattle.block_check_v2.specs.Walk.{rows_of, Stands, Leaves, Tries};
 ghost use Rattle.block_check_v2.specs.Promise.{Checks, MayFollow};
 
-use basics::{Refusal, Verdict};
-use keys::Ordering;
+use basics::Refusal;
+use std::cmp::Ordering;
 use trailer::Trailer;
 
 // Few keys are longer. An array of so many bytes is cleared for each block; one for the longest key only where it is needed.
 const SHORT_KEY: usize = 256;
-
-// How many rows the block has, or why it is refused.
-#[derive(Clone, Copy)]
-pub enum Checked {
-    Rows(usize),
-    Refused(Refusal),
-}
 
 // What the rows passed so far leave: where the next region starts and its number, the length of the carried key, the sequence
 // number of the last of them, and how many they are.
@@ -35,20 +28,6 @@ struct Passed {
     key_len: usize,
     seq: u64,
     rows: usize,
-}
-
-// `Narrow`: a row's key is longer than the bytes that are lent for it. That says nothing of the block.
-#[derive(Clone, Copy)]
-enum Walked {
-    Over(Passed),
-    Refused(Refusal),
-    Narrow,
-}
-
-#[derive(Clone, Copy)]
-enum Tried {
-    Known(Checked),
-    Narrow,
 }
 
 // Whether a row may stand after one whose sequence number is `before`, by how its key stands to that one's: of equal keys the
@@ -64,8 +43,13 @@ pub fn may_follow(order: Ordering, before: u64, seq: u64) -> bool
 }
 
 // Walks the rows of one region, whose bounds are read once. `key` carries the key of the row before, and `seq` its number, also
-// over a restart.
-fn check_region(block: &[u8], t: Trailer, key: &mut [u8], p: Passed) -> Walked
+// over a restart. `None`: a row's key is longer than the bytes that are lent for it. That says nothing of the block.
+fn check_region(
+    block: &[u8],
+    t: Trailer,
+    key: &mut [u8],
+    p: Passed,
+) -> Result<Option<Passed>, Refusal>
     requires block_value { trailer_of block.now ≡ ok (trailer_from t) }
     requires at_lt_size { p.at < t.size }
     requires stands { Stands block.now (trailer_from t) p key.old }
@@ -73,7 +57,7 @@ fn check_region(block: &[u8], t: Trailer, key: &mut [u8], p: Passed) -> Walked
 {
     let g = trailer::plain_region(block, t, p.region);
     if g.end == 0 {
-        return Walked::Refused(Refusal::BadOffset);
+        return Err(Refusal::BadOffset);
     }
     let size = t.size;
     let data = &block[..size];
@@ -84,8 +68,7 @@ fn check_region(block: &[u8], t: Trailer, key: &mut [u8], p: Passed) -> Walked
     while at < g.end {
         let row = row_span_v2::numbered_in(data, at, g.start, g.end, key_len);
         if row.next == 0 {
-            let refusal = row_span_v2::refusal_in(data, at, g.start, g.end, key_len);
-            return Walked::Refused(refusal);
+            return Err(row_span_v2::refusal_in(data, at, g.start, g.end, key_len));
         }
         let shared = row.shared;
         let from = row.suffix_at;
@@ -93,28 +76,28 @@ fn check_region(block: &[u8], t: Trailer, key: &mut [u8], p: Passed) -> Walked
         // 17: the shared bytes tell nothing, so the suffix is compared, before it is put, with what the carried key has there.
         let order = keys::compare(&data[from..to], &key[shared..key_len]);
         if !may_follow(order, seq, row.seq) {
-            return Walked::Refused(Refusal::KeyFalls);
+            return Err(Refusal::KeyFalls);
         }
         key_len = shared + row.suffix_len;
         if key.len() < key_len {
-            return Walked::Narrow;
+            return Ok(None);
         }
-        buf_mut::copy_in(key, shared, &data[from..to]);
+        let _ = buf_mut::copy_in(key, shared, &data[from..to]);
         at = row.next;
         seq = row.seq;
         rows += 1;
     }
-    Walked::Over(Passed {
+    Ok(Some(Passed {
         at,
         region: p.region + 1,
         key_len,
         seq,
         rows,
-    })
+    }))
 }
 
-// Walks all rows, a region after another.
-fn check_rows(block: &[u8], t: Trailer, key: &mut [u8]) -> Tried
+// Walks all rows, a region after another, and counts them; `None` as above.
+fn check_rows(block: &[u8], t: Trailer, key: &mut [u8]) -> Result<Option<usize>, Refusal>
     requires block_value { trailer_of block.now ≡ ok (trailer_from t) }
     requires t_value { all_offsets block.now (trailer_from t) ≡ ok tt }
     ensures { Tries block.now (trailer_from t) (length key.old) result }
@@ -128,53 +111,35 @@ fn check_rows(block: &[u8], t: Trailer, key: &mut [u8]) -> Tried
         rows: 0,
     };
     while p.at < size {
-        let walked = check_region(block, t, key, p);
-        match walked {
-            Walked::Over(passed) => {
-                p = passed;
-            }
-            Walked::Refused(refusal) => {
-                return Tried::Known(Checked::Refused(refusal));
-            }
-            Walked::Narrow => {
-                return Tried::Narrow;
-            }
+        match check_region(block, t, key, p)? {
+            Some(passed) => p = passed,
+            None => return Ok(None),
         }
     }
-    Tried::Known(Checked::Rows(p.rows))
+    Ok(Some(p.rows))
 }
 
 // The same with room for the longest key. The array is made, and cleared, here alone.
-fn check_long(block: &[u8], t: Trailer) -> Checked
+fn check_long(block: &[u8], t: Trailer) -> Result<usize, Refusal>
     requires block_value { trailer_of block.now ≡ ok (trailer_from t) }
     requires t_value { all_offsets block.now (trailer_from t) ≡ ok tt }
-    ensures { says_checked result ≡ rows_of block.now (trailer_from t) }
+    ensures { says_same result ≡ rows_of block.now (trailer_from t) }
 {
     let mut key = [0; basics::MAX_KEY];
-    let tried = check_rows(block, t, &mut key);
     // Never narrow: no row is read whose key is longer.
-    let Tried::Known(answer) = tried else {
-        return Checked::Refused(Refusal::BadState);
-    };
-    answer
+    let rows = check_rows(block, t, &mut key)?;
+    rows.ok_or(Refusal::BadState)
 }
 
 // Checks a whole block of any bytes: 14, all of 15, then row by row, 17 last of its row. It answers how many rows there are.
-pub fn check(block: &[u8]) -> Checked
+pub fn check(block: &[u8]) -> Result<usize, Refusal>
     ensures { Checks block.now result }
 {
-    let t = trailer::plain_trailer(block);
-    if t.count == 0 {
-        return Checked::Refused(Refusal::BadTrailer);
-    }
-    let tested = trailer::all_offsets(block, t);
-    if let Verdict::Refused(refusal) = tested {
-        return Checked::Refused(refusal);
-    }
+    let t = trailer::trailer_of(block)?;
+    trailer::all_offsets(block, t)?;
     let mut key = [0; SHORT_KEY];
-    let tried = check_rows(block, t, &mut key);
-    let Tried::Known(answer) = tried else {
-        return check_long(block, t);
-    };
-    answer
+    match check_rows(block, t, &mut key)? {
+        Some(rows) => Ok(rows),
+        None => check_long(block, t),
+    }
 }

@@ -69,7 +69,7 @@ shape_of-key-then-row-eq0 c = c.loop-at.invariant.0
 pub returns-then-row-eq0 : goal.returns-then-row-eq0
 returns-then-row-eq0 c =
     walks-no _ _ _ _ (used (goal.at.returns-then-row-eq0 c).Else-g-eq0) _ _ _ _ _ (walk (goal.at.returns-then-row-eq0 c).At-loop-at) c.loop-at-test.true
-    (span-refusal _ _ _ _ _ (numbered_from c.numbered_in-row.result) c.numbered_in-row.ensures.0 c.if-row-eq0.true c.refusal_in-refusal.ensures)
+    (span-refusal _ _ _ _ _ (numbered_from c.numbered_in-row.result) c.numbered_in-row.ensures.0 c.if-row-eq0.true c.refusal_in.ensures)
 
 pub overflow_add-to : goal.overflow_add-to
 overflow_add-to c =

@@ -2,7 +2,7 @@
 use mathlib.Core.Path.{sym, ap}
 use Rattle.layout.specs.Laws.Order.{may_by}
 use Rattle.keys.specs.Says.{says_ordering}
-use Rattle.keys.specs.declared.Ordering.{Ordering}
+use Rattle.std.specs.declared.cmp.Ordering.{Ordering}
 use Rattle.block_check_v2.proofs.may_follow.Goals as goal
 
 pub returns-in-Equal : goal.returns-in-Equal
