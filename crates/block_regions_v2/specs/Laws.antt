@@ -1,14 +1,16 @@
 -- The tests of what is handed in, by what was met: one law for each exit of the code; and a promise from it. For callers: what a promise tells, and that a
 -- region that was read from the block passes the tests, so the definitions of `layout` are left (`step-back-used`, `walk-used`).
-use Rattle.std.specs.Prelude.{ℕ, zero, suc, ◌+◌, ◌-◌, ◌≤◌, ◌<◌, min, ◌≡◌, Bool, true, false, cond, not, eqb, ltb}
+use Rattle.std.specs.Prelude.{ℕ, zero, suc, ◌+◌, ◌-◌, ◌≤◌, ◌<◌, min, ◌≡◌, Bool, true, false, cond, not, eqb, ltb, Option, Result, Ok, Err, IsErrAnd, unwrap_or}
 use Rattle.std.proofs.Math.Path.{refl, ap, sym}
 use Rattle.std.proofs.Common.{ap₂, ◌∙◌, le_antisymm, length-take}
+use mathlib.Core.Path.{subst}
+use Rattle.std.proofs.lemmas.Result.{err_from_is_err_and}
 use mathlib.Core.List.{List, [], ◌++◌}
 use Rattle.std.proofs.Math.Logic.{⊎_elim}
 use native.Mathlib.Omega.{arith}
 use Rattle.std.proofs.Math.ListN.{length, take, drop}
 use Rattle.std.proofs.Math.Seq.{length-take-le, take_all}
-use borrow.Author.Tests.{lt-ltb, le-ltb, le-leb, lt-leb}
+use borrow.Author.Tests.{lt-ltb, le-ltb, le-leb, lt-leb, eq-eqb, ne_eqb}
 use Rattle.layout.specs.Res.{Res, ok, refuse, bind, guard}
 use Rattle.layout.specs.Limits.{max_key}
 use Rattle.layout.specs.Key.{Key, below}
@@ -38,12 +40,9 @@ use Rattle.row_decode_v2.specs.declared.Row.{Row}
 use Rattle.row_span_v2.specs.Promise.{refused_with, RefusesIn}
 use Rattle.trailer.specs.Says.{region_from}
 use Rattle.trailer.specs.declared.Region.{Region as RegionC}
-use Rattle.block_regions_v2.specs.declared.Passed.{Passed}
-use Rattle.block_regions_v2.specs.declared.Ended.{Ended as EndedC}
-use Rattle.block_regions_v2.specs.declared.Ended.TheVariants.{Row as EndedRow, Refused as EndedRefused}
+use Rattle.block_regions_v2.specs.declared.Ended.{Ended}
 use Rattle.block_regions_v2.specs.declared.Halted.{Halted}
-use Rattle.block_regions_v2.specs.declared.PlaceRead.{PlaceRead}
-use Rattle.block_regions_v2.specs.declared.PlaceRead.TheVariants.{At, Refused as PlaceRefused}
+use Rattle.block_regions_v2.specs.declared.Stop.{Stop as StopC}
 use Rattle.block_regions_v2.specs.declared.Reached.{Reached}
 use Rattle.block_regions_v2.specs.Climb.{Climbing, climbing_no, was, was-not}
 use Rattle.block_regions_v2.specs.Known.{part_length, known-parts}
@@ -52,7 +51,19 @@ use Rattle.block_regions_v2.specs.Count.{counting-ended}
 use Rattle.block_regions_v2.specs.Promise.{Gives, EndsAt, WalksInto}
 use Rattle.block_regions_v2.specs.Regions.{Counted, counted, row_numbered, halt_numbered, ending_at, out_after, given, walk_to, held, walk_into, key_left}
 use Rattle.block_regions_v2.specs.Rows.{Filling}
-use Rattle.block_regions_v2.specs.Says.{passed_by, other_than, says_place}
+use Rattle.block_regions_v2.specs.Says.{says_place}
+
+-- ---- answers
+
+-- a refusal that is handed on: what is promised of the refusal r is promised of the answer x, which it is
+pub handed-promise : {T : Type 0} (P : Result T Refusal → Type 0) (x : Result T Refusal) (r : Refusal) → IsErrAnd x (λ q. q ≡ r) → P (Err r) → P x
+handed-promise P x r e m = let p = err_from_is_err_and x e in subst P (sym (p.1 ∙ ap Err p.2)) m
+
+abbrev pub row_is : Row → ℕ → Ended
+row_is r n = record { row = r; number = n }
+
+abbrev pub stands_at : ℕ → ℕ → ℕ → StopC
+stands_at at n m = record { at = at; key_len = n; number = m }
 
 -- ---- the row that ends at a position
 
@@ -84,29 +95,29 @@ module _ (d : List ℕ) (g : Region) (stop n room : ℕ) where
 
 -- a refusal leaves the buffer
 pub gives-not : {d : List ℕ} {g : Region} {want : Res Keyed} {x : Refusal} {out out' : List ℕ} → out' ≡ out → refuse (number x) ≡ want
-    → Gives d g want out (EndedRefused x) out'
+    → Gives d g want out (Err x) out'
 gives-not q e = rw (sym e) (record { answer = refl; bytes = q })
 
 -- the first row that reaches the position was given
-gives-ended : {d : List ℕ} {g : Region} {had want : Res Keyed} {x : EndedC} {out out' : List ℕ} → had ≡ want → Gives d g had out x out' → Gives d g want out x out'
+gives-ended : {d : List ℕ} {g : Region} {had want : Res Keyed} {x : Result Ended Refusal} {out out' : List ℕ} → had ≡ want → Gives d g had out x out' → Gives d g want out x out'
 gives-ended e p = rw (sym e) p
 
 module _ (d : List ℕ) (g : Region) (r : Row) (stop : ℕ) (wrong : Bool) (key out : List ℕ) where
   abbrev offered : Res Keyed
   offered = given (row_from r) stop wrong key (length out)
 
-  gives-past : stop < r.next → Gives d g offered out (EndedRefused BadState) out
+  gives-past : stop < r.next → Gives d g offered out (Err BadState) out
   gives-past h = rw (lt-ltb stop r.next h) (record { answer = refl; bytes = refl })
 
   module _ (h : r.next ≤ stop) where
-    gives_wrong : wrong ≡ true → Gives d g offered out (EndedRefused BadState) out
+    gives_wrong : wrong ≡ true → Gives d g offered out (Err BadState) out
     gives_wrong w = rw (le-ltb stop r.next h, w) (record { answer = refl; bytes = refl })
 
     module _ (w : wrong ≡ false) where
-      gives-short : length out < length key → Gives d g offered out (EndedRefused KeyBufferTooShort) out
+      gives-short : length out < length key → Gives d g offered out (Err KeyBufferTooShort) out
       gives-short k = rw (le-ltb stop r.next h, w, lt-ltb (length out) (length key) k) (record { answer = refl; bytes = refl })
 
-      gives_row : {n : ℕ} {out' : List ℕ} → ended_by d g r.start ≡ n → length key ≤ length out → out' ≡ splice out 0 key → Gives d g offered out (EndedRow r n) out'
+      gives_row : {n : ℕ} {out' : List ℕ} → ended_by d g r.start ≡ n → length key ≤ length out → out' ≡ splice out 0 key → Gives d g offered out (Ok (row_is r n)) out'
       gives_row m k e =
           rw (le-ltb stop r.next h, w, le-ltb (length out) (length key) k) (record { answer = ap (λ (i : ℕ). ok (counted (row_from r) i)) (sym m); bytes = e })
 
@@ -136,32 +147,32 @@ module _ (d : List ℕ) (g : Region) (target : Key) (at m len from from-len n : 
 -- ---- the promise of a walk
 
 module _ (d : List ℕ) (g : RegionC) (target key : List ℕ) where
-  into-not : {x : Refusal} → refuse (number x) ≡ walk_to d (region_from g) target → WalksInto d g target key (PlaceRefused x) key
+  into-not : {x : Refusal} → refuse (number x) ≡ walk_to d (region_from g) target → WalksInto d g target key (Err x) key
   unfolding walk_into
   into-not e = record { answer = rw (sym e); bytes = rw (sym e) }
 
-  pub into_strange : length d < g.end → WalksInto d g target key (PlaceRefused BadState) key
+  pub into_strange : length d < g.end → WalksInto d g target key (Err BadState) key
   into_strange h = into-not (walk_strange d (region_from g) target h)
 
   module _ (at n m : ℕ) (before : Key) (said : walk_to d (region_from g) target ≡ ok (stop_is at before)) (long : length before ≡ n) (is_m : ended_by d (region_from g) at ≡ m) where
     halt_is_lem : ok (counted (halt_is at n) m) ≡ halt_numbered d (region_from g) (stop_is at before)
     halt_is_lem = ap₂ (λ (i j : ℕ). ok (counted (halt_is at i) j)) (sym long) (sym is_m)
 
-    stopped-end : g.end ≤ at → WalksInto d g target key (At at n m) key
+    stopped-end : g.end ≤ at → WalksInto d g target key (Ok (stands_at at n m)) key
     unfolding walk_into
     stopped-end u =
         let past = le-ltb at g.end u in
         record { answer = rw (said, past) halt_is_lem; bytes = rw (said, past, past) }
 
     module _ (u : at < g.end) where
-      stopped-short : length key < n → WalksInto d g target key (PlaceRefused KeyBufferTooShort) key
+      stopped-short : length key < n → WalksInto d g target key (Err KeyBufferTooShort) key
       unfolding walk_into
       stopped-short v =
           let inner = lt-ltb at g.end u in
           let short = lt-ltb (length key) (length before) (rw long v) in
           record { answer = rw (said, inner, short); bytes = rw (said, inner, short) }
 
-      stopped-there : n ≤ length key → {part : List ℕ} → part ≡ take (length (take n key)) before → WalksInto d g target key (At at n m) (part ++ drop n key)
+      stopped-there : n ≤ length key → {part : List ℕ} → part ≡ take (length (take n key)) before → WalksInto d g target key (Ok (stands_at at n m)) (part ++ drop n key)
       unfolding walk_into splice
       stopped-there v {part} q =
           let inner = lt-ltb at g.end u in
@@ -175,10 +186,10 @@ module _ (d : List ℕ) (g : RegionC) (target key : List ℕ) where
 
   module _ (inside : g.end ≤ length d) (h : Halted) (w : Halts d (region_from g) target h) where
     pub into-no : not h.good ≡ true → {x : Refusal} → RefusesIn d h.at g.start g.end h.len x
-        → WalksInto d g target key (PlaceRefused x) key
+        → WalksInto d g target key (Err x) key
     into-no bad {x} f = go (row_in d (region_from g) h.at h.len) refl
       where
-        go : (y : Res RowRead) → row_in d (region_from g) h.at h.len ≡ y → WalksInto d g target key (PlaceRefused x) key
+        go : (y : Res RowRead) → row_in d (region_from g) h.at h.len ≡ y → WalksInto d g target key (Err x) key
         go (ok r) q = absurd ((w.refused (was-not h.good bad)).1 r q)
         go (refuse n) q =
             into-not
@@ -194,18 +205,18 @@ module _ (d : List ℕ) (g : RegionC) (target key : List ℕ) where
       ended_is = counting-here d (region_from g) h.at h.len h.number w.counts
 
       -- where the region is at its end
-      pub into-end : g.end ≤ h.at → WalksInto d g target key (At h.at h.len h.number) key
+      pub into-end : g.end ≤ h.at → WalksInto d g target key (Ok (stands_at h.at h.len h.number)) key
       into-end u = stopped-end h.at h.len h.number w.climbs.before said w.climbs.long ended_is u
 
       module _ (u : h.at < g.end) where
-        pub into-short : length key < h.len → WalksInto d g target key (PlaceRefused KeyBufferTooShort) key
+        pub into-short : length key < h.len → WalksInto d g target key (Err KeyBufferTooShort) key
         into-short v = stopped-short h.at h.len h.number w.climbs.before said w.climbs.long ended_is u v
 
         module _ (v : h.len ≤ length key) where
           pub into-room : length (take h.len key) ≤ length w.climbs.before
           into-room = let l = w.climbs.long in rw (length-take-le h.len key v) (omega arith)
 
-          pub into-done : {part : List ℕ} → part ≡ take (length (take h.len key)) w.climbs.before → WalksInto d g target key (At h.at h.len h.number) (part ++ drop h.len key)
+          pub into-done : {part : List ℕ} → part ≡ take (length (take h.len key)) w.climbs.before → WalksInto d g target key (Ok (stands_at h.at h.len h.number)) (part ++ drop h.len key)
           into-done q = stopped-there h.at h.len h.number w.climbs.before said w.climbs.long ended_is u v q
 
 -- ---- the bytes that a row shares
@@ -255,18 +266,18 @@ module _ (d : List ℕ) (g : Region) (there : Reached) (out : List ℕ) (shared 
 
 -- ---- the row that ends at a position
 
-module _ (d : List ℕ) (g : RegionC) (stop : ℕ) (p : Passed) (out : List ℕ) (h : g.start < stop) (q : Reached) (w : Reaches d (region_from g) stop q) where
+module _ (d : List ℕ) (g : RegionC) (stop : ℕ) (p : Option ℕ) (out : List ℕ) (h : g.start < stop) (q : Reached) (w : Reaches d (region_from g) stop q) where
   abbrev said_of : ℕ
-  said_of = passed_by p (ended_by d (region_from g) stop)
+  said_of = unwrap_or p (ended_by d (region_from g) stop)
 
   abbrev wrong_there : Bool
-  wrong_there = other_than p (ended_by d (region_from g) stop)
+  wrong_there = not (eqb said_of (ended_by d (region_from g) stop))
 
   pub stands : Stands d (region_from g) q w.there.before
   stands = record { rows = w.there.rows; leads = w.there.leads; knows = w.there.knows }
 
-  pub ended-no : {x : Refusal} → row_in d (region_from g) q.at q.len ≡ refuse (number x) → EndsAt d g stop p out (EndedRefused x) out
-  ended-no e = gives-not refl (ending-no d (region_from g) stop said_of (length out) h (reaching_refused d (region_from g) stop q.at q.len q.known w.there e))
+  pub ended-no : (y : Result Ended Refusal) (x : Refusal) → IsErrAnd y (λ q. q ≡ x) → row_in d (region_from g) q.at q.len ≡ refuse (number x) → EndsAt d g stop p out y out
+  ended-no y x t e = handed-promise (λ (y : Result Ended Refusal). EndsAt d g stop p out y out) y x t (gives-not refl (ending-no d (region_from g) stop said_of (length out) h (reaching_refused d (region_from g) stop q.at q.len q.known w.there e)))
 
   module _ (r : Row) (e : row_in d (region_from g) q.at q.len ≡ ok (row_from r)) where
     abbrev key : Key
@@ -283,48 +294,55 @@ module _ (d : List ℕ) (g : RegionC) (stop : ℕ) (p : Passed) (out : List ℕ)
     pub ended-shares : r.shared ≤ length w.there.before
     ended-shares = reaching_shares d (region_from g) stop q.at q.len q.known w.there (row_from r) e
 
-    pub ended-past : stop < r.next → EndsAt d g stop p out (EndedRefused BadState) out
+    pub ended-past : stop < r.next → EndsAt d g stop p out (Err BadState) out
     ended-past k = gives-ended is-given (gives-past d (region_from g) r stop wrong_there key out k)
 
     number_is : ended_by d (region_from g) r.start ≡ q.number
     number_is =
         ap (ended_by d (region_from g)) (row_in-ends d (region_from g) q.at q.len (row_from r) e).starts ∙ counting-here d (region_from g) q.at q.len q.number w.counts
 
-    module _ (k : r.next ≤ stop) {b : Bool} (t : b ≡ other_than p (q.number + 1)) where
-      wrong_is : b ≡ wrong_there
-      wrong_is =
-          let all = counting-ended d (region_from g) q.at q.len q.number w.counts (row_from r) e (le_antisymm k (w.far (row_from r) e)) in
-          t ∙ ap (other_than p) (sym all)
+    -- x rows are said to end where it does
+    module _ (k : r.next ≤ stop) {x : ℕ} (t : x ≡ unwrap_or p (q.number + 1)) where
+      all : ended_by d (region_from g) stop ≡ q.number + 1
+      all = counting-ended d (region_from g) q.at q.len q.number w.counts (row_from r) e (le_antisymm k (w.far (row_from r) e))
 
-      pub ended_wrong : b ≡ true → EndsAt d g stop p out (EndedRefused BadState) out
-      ended_wrong v = gives-ended is-given (gives_wrong d (region_from g) r stop wrong_there key out k (sym wrong_is ∙ v))
+      said_is : x ≡ said_of
+      said_is = t ∙ ap (unwrap_or p) (sym all)
 
-      module _ (v : b ≡ false) where
-        pub ended-short : length out < r.shared + r.suffix_len → EndsAt d g stop p out (EndedRefused KeyBufferTooShort) out
-        ended-short u = gives-ended is-given (gives-short d (region_from g) r stop wrong_there key out k (sym wrong_is ∙ v) (rw key-long u))
+      pub ended_wrong : (x ≡ q.number + 1 → ⊥) → EndsAt d g stop p out (Err BadState) out
+      ended_wrong v =
+          let wrong : wrong_there ≡ true = rw (ne_eqb said_of (ended_by d (region_from g) stop) (λ u. v (said_is ∙ u ∙ all))) in
+          gives-ended is-given (gives_wrong d (region_from g) r stop wrong_there key out k wrong)
+
+      module _ (v : x ≡ q.number + 1) where
+        right : wrong_there ≡ false
+        right = rw (eq-eqb said_of (ended_by d (region_from g) stop) (sym said_is ∙ v ∙ sym all))
+
+        pub ended-short : length out < r.shared + r.suffix_len → EndsAt d g stop p out (Err KeyBufferTooShort) out
+        ended-short u = gives-ended is-given (gives-short d (region_from g) r stop wrong_there key out k right (rw key-long u))
 
         -- what it shares is put, then its suffix
         pub ended-put : r.shared + r.suffix_len ≤ length out → {ys zs : List ℕ} → ys ≡ splice out 0 (take r.shared w.there.before)
-            → zs ≡ splice ys r.shared (take (r.suffix_at + r.suffix_len - r.suffix_at) (drop r.suffix_at d)) → EndsAt d g stop p out (EndedRow r q.number) zs
+            → zs ≡ splice ys r.shared (take (r.suffix_at + r.suffix_len - r.suffix_at) (drop r.suffix_at d)) → EndsAt d g stop p out (Ok (row_is r q.number)) zs
         ended-put u {ys} {zs} y z =
             let p-is : r.suffix_at + r.suffix_len - r.suffix_at ≡ r.suffix_len = omega arith in
             let first-long = length-take-le r.shared w.there.before ended-shares in
             let last-long : length (take r.suffix_len (drop r.suffix_at d)) ≡ r.suffix_len =
             part_length d r.suffix_at r.suffix_len (row_in-ends d (region_from g) q.at q.len (row_from r) e).suffix in
             gives-ended is-given
-            (gives_row d (region_from g) r stop wrong_there key out k (sym wrong_is ∙ v) number_is (rw key-long u)
+            (gives_row d (region_from g) r stop wrong_there key out k right number_is (rw key-long u)
             (then-write out ys zs 0 r.shared (take r.shared w.there.before) (take r.suffix_len (drop r.suffix_at d)) y (omega arith) (omega arith) (rw p-is at z)))
 
 -- ---- for callers
 
 module _ {d : List ℕ} {g : Region} {want : Res Keyed} {out out' : List ℕ} where
-  pub ended-row : {r : Row} {n : ℕ} → Gives d g want out (EndedRow r n) out'
+  pub ended-row : {r : Row} {n : ℕ} → Gives d g want out (Ok (row_is r n)) out'
       → (k : Keyed) × (want ≡ ok k) × (k.row ≡ row_from r) × (out' ≡ splice out 0 k.key) × (ended_by d g k.row.start ≡ n)
   ended-row {r} {n} p =
       bind-then want _ (counted (row_from r) n) (sym p.answer) λ k e f.
       (k, e, ap (λ (x : Counted RowRead). x.what) (ok-inj f), p.bytes ∙ ap (λ (x : Res Keyed). out_after x out) e, ap (λ (x : Counted RowRead). x.number) (ok-inj f))
 
-  pub ended-refused : {x : Refusal} → Gives d g want out (EndedRefused x) out' → (want ≡ refuse (number x)) × (out' ≡ out)
+  pub ended-refused : {x : Refusal} → Gives d g want out (Err x) out' → (want ≡ refuse (number x)) × (out' ≡ out)
   ended-refused {x} p = go want p.answer p.bytes
     where
       go : (w : Res Keyed) → refuse (number x) ≡ bind w (row_numbered d g) → out' ≡ out_after w out → (w ≡ refuse (number x)) × (out' ≡ out)
@@ -414,8 +432,8 @@ module _ (b : List ℕ) (t : Trailer) (i : ℕ) (g : RegionC) (target : Key) (re
           (λ u. rw u.0)
           (ltb-cases s.at g.end)
 
-  module _ (r : PlaceRead) (key' : List ℕ) (w : WalksInto (data_of b t) g target key r key') where
-    pub into-stopped : {at n m : ℕ} → r ≡ At at n m
+  module _ (r : Result StopC Refusal) (key' : List ℕ) (w : WalksInto (data_of b t) g target key r key') where
+    pub into-stopped : {at n m : ℕ} → r ≡ Ok (stands_at at n m)
         → (s : Stop) × (walked ≡ ok s) × (s.at ≡ at) × (length s.before ≡ n) × (key' ≡ cond (ltb s.at g.end) (splice key 0 s.before) key) × (ended_by (data_of b t) (region_from g) s.at ≡ m)
     into-stopped {at} {n} {m} e =
         bind-then walked _ (counted (halt_is at n) m) (sym (sym (ap says_place e) ∙ w.answer ∙ ap (λ (x : Res Stop). bind x numbered) into-used)) λ s q f.

@@ -13,36 +13,25 @@ ghost use Rattle.block_regions_v2.specs.Rows.{clipped, Filling};
 ghost use Rattle.block_regions_v2.specs.Climb.{Based};
 ghost use Rattle.block_regions_v2.specs.Known.{known_after};
 ghost use Rattle.block_regions_v2.specs.Parts.{halted_is, Halts, Stands, Reaches};
-ghost use Rattle.block_regions_v2.specs.Says.{other_than};
 ghost use Rattle.block_regions_v2.specs.Promise.{EndsAt, WalksInto};
 
 use basics::Refusal;
-use row_decode_v2::{Row, RowRead};
+use row_decode_v2::Row;
 use trailer::Region;
-
-// How many rows of a region are said to end at or before a position: so many, or as many as do.
-#[derive(Clone, Copy)]
-pub enum Passed {
-    Rows(usize),
-    All,
-}
 
 // The row that ends at a position, and its number in the region. Its key stands in the lent buffer.
 #[derive(Clone, Copy)]
-pub enum Ended {
-    Row { row: Row, number: usize },
-    Refused(Refusal),
+pub struct Ended {
+    pub row: Row,
+    pub number: usize,
 }
 
 // Where a walk stopped, how long the key of the row before is, and how many rows of the region end at or before it.
 #[derive(Clone, Copy)]
-pub enum PlaceRead {
-    At {
-        at: usize,
-        key_len: usize,
-        number: usize,
-    },
-    Refused(Refusal),
+pub struct Stop {
+    pub at: usize,
+    pub key_len: usize,
+    pub number: usize,
 }
 
 // Where a walk stopped, or the row that is refused (not `good`), with the length of the key before and how many rows were read before; and the last row that
@@ -87,10 +76,10 @@ fn put_clipped(key: &mut [u8], at: usize, src: &[u8])
     }
     let room = key.len() - at;
     if room < src.len() {
-        buf_mut::copy_in(key, at, &src[..room]);
+        let _ = buf_mut::copy_in(key, at, &src[..room]);
         return;
     }
-    buf_mut::copy_in(key, at, src);
+    let _ = buf_mut::copy_in(key, at, src);
 }
 
 // The first bytes of the key of the row that ends at `stop`, as many as `key` has. Rows that were read before are read again, from one on whose shared bytes
@@ -188,11 +177,16 @@ fn rebuild_from(data: &[u8], region: Region, there: Halted, target: &[u8], key: 
 
 // The walk up to a target. Where it stops inside the region, the key of the row before stands at the start of `key` after it: 19 where it has no room there.
 // (The walk in the Rust's `seek` ascending.)
-pub fn walk_into(data: &[u8], region: Region, target: &[u8], key: &mut [u8]) -> PlaceRead
+pub fn walk_into(
+    data: &[u8],
+    region: Region,
+    target: &[u8],
+    key: &mut [u8],
+) -> Result<Stop, Refusal>
     ensures { WalksInto «data».now region target.now key.old result key.new }
 {
     if data.len() < region.end {
-        return PlaceRead::Refused(Refusal::BadState);
+        return Err(Refusal::BadState);
     }
     let there = walk_place(data, region, target);
     let at = there.at;
@@ -200,24 +194,21 @@ pub fn walk_into(data: &[u8], region: Region, target: &[u8], key: &mut [u8]) -> 
     let number = there.number;
     if !there.good {
         let refusal = row_span_v2::refusal_in(data, at, region.start, region.end, key_len);
-        return PlaceRead::Refused(refusal);
+        return Err(refusal);
     }
-    if region.end <= at {
-        return PlaceRead::At {
-            at,
-            key_len,
-            number,
-        };
-    }
-    if key.len() < key_len {
-        return PlaceRead::Refused(Refusal::KeyBufferTooShort);
-    }
-    rebuild_from(data, region, there, target, &mut key[..key_len]);
-    PlaceRead::At {
+    let stop = Stop {
         at,
         key_len,
         number,
+    };
+    if region.end <= at {
+        return Ok(stop);
     }
+    if key.len() < key_len {
+        return Err(Refusal::KeyBufferTooShort);
+    }
+    rebuild_from(data, region, there, target, &mut key[..key_len]);
+    Ok(stop)
 }
 
 // ---- back to a position
@@ -302,60 +293,47 @@ fn put_shared(data: &[u8], region: Region, there: Reached, shared: usize, out: &
         rebuild_key(data, region, region.start, 0, there.at, &mut out[..shared]);
         return;
     }
-    let n = numbers::least(shared, k.split);
+    let n = shared.min(k.split);
     let first = k.first;
     let end = first + n;
-    buf_mut::copy_in(out, 0, &data[first..end]);
+    let _ = buf_mut::copy_in(out, 0, &data[first..end]);
     let second = k.second;
     let last = second + (shared - n);
-    buf_mut::copy_in(out, n, &data[second..last]);
-}
-
-// Whether another number of rows is said to end at a position than do.
-fn other_than(passed: Passed, ended: usize) -> bool
-    ensures { result ≡ other_than passed ended }
-{
-    match passed {
-        Passed::Rows(n) => n != ended,
-        Passed::All => false,
-    }
+    let _ = buf_mut::copy_in(out, n, &data[second..last]);
 }
 
 // The row of a region that ends at `stop`, with its key at the start of `out`: rows up to there are tested as they are read, and no row after it is; then
-// 18, where none ends there or another number of rows is said to, and 19. (`load_restart_region` in the Rust, which keeps all rows.)
+// 18, where none ends there or another number of rows is said to (`passed`; None says none), and 19. (`load_restart_region` in the Rust, which keeps all rows.)
 pub fn row_ending_at(
     data: &[u8],
     region: Region,
     stop: usize,
-    passed: Passed,
+    passed: Option<usize>,
     out: &mut [u8],
-) -> Ended
+) -> Result<Ended, Refusal>
     ensures { EndsAt «data».now region stop passed out.old result out.new }
 {
     if stop <= region.start {
-        return Ended::Refused(Refusal::BadState);
+        return Err(Refusal::BadState);
     }
     let there = reach(data, region, stop);
     let at = there.at;
-    let read = row_span_v2::row_in(data, at, region.start, region.end, there.len);
-    let RowRead::Read(row) = read else {
-        return Ended::Refused(row_decode_v2::row_refusal(read));
-    };
+    let row = row_span_v2::row_in(data, at, region.start, region.end, there.len)?;
     if stop < row.next {
-        return Ended::Refused(Refusal::BadState);
+        return Err(Refusal::BadState);
     }
     let number = there.number;
     let ended = number + 1;
-    if other_than(passed, ended) {
-        return Ended::Refused(Refusal::BadState);
+    if passed.unwrap_or(ended) != ended {
+        return Err(Refusal::BadState);
     }
     let shared = row.shared;
     if out.len() < shared + row.suffix_len {
-        return Ended::Refused(Refusal::KeyBufferTooShort);
+        return Err(Refusal::KeyBufferTooShort);
     }
     put_shared(data, region, there, shared, out);
     let start = row.suffix_at;
     let end = start + row.suffix_len;
-    buf_mut::copy_in(out, shared, &data[start..end]);
-    Ended::Row { row, number }
+    let _ = buf_mut::copy_in(out, shared, &data[start..end]);
+    Ok(Ended { row, number })
 }
