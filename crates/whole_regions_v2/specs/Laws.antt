@@ -1,6 +1,6 @@
 -- The tests of what is handed in, by what was met: one law for each exit of the code; and a promise from it. For callers: what a promise tells, and that a
 -- region that was read from the block passes the tests, so the definitions of `layout` are left (`last-used`, `rows-used`).
-use Rattle.std.specs.Prelude.{ℕ, ◌+◌, ◌-◌, ◌≤◌, ◌<◌, ◌≡◌, Bool, cond, List, [], length}
+use Rattle.std.specs.Prelude.{ℕ, ◌+◌, ◌-◌, ◌≤◌, ◌<◌, ◌≡◌, Bool, cond, List, [], length, Result, Ok}
 use Rattle.std.proofs.Common.{ap, sym, ◌∙◌, arith, length-take-le, lt-ltb, le-ltb}
 use Rattle.std.proofs.lemmas.Bool.{lt-leb}
 use Rattle.layout.specs.Res.{Res, ok, refuse, bind}
@@ -16,15 +16,15 @@ use Rattle.layout.proofs.Laws.MatchWalk.{MatchingDown, down-more}
 use Rattle.layout.proofs.Laws.Number.{number_in}
 use Rattle.layout.proofs.Laws.Trailer.{trailer_of-tells, region_of-tells}
 use Rattle.basics.specs.Answers.{apart}
+use Rattle.basics.specs.declared.Refusal.{Refusal}
 use Rattle.trailer.specs.Says.{region_from}
 use Rattle.trailer.specs.declared.Region.{Region as RegionC}
 use Rattle.block_regions_v2.specs.Regions.{Counted, counted}
 use Rattle.block_regions_v2.specs.Rows.{part_of, part-suffix}
-use Rattle.whole_regions_v2.specs.declared.LastRead.{LastRead}
-use Rattle.whole_regions_v2.specs.declared.LastRead.TheVariants.{Ends}
+use Rattle.whole_regions_v2.specs.declared.Last.{Last}
 use Rattle.whole_regions_v2.specs.Promise.{EndsLast}
 use Rattle.whole_regions_v2.specs.Regions.{end_numbered, last_to, rows_in}
-use Rattle.whole_regions_v2.specs.Says.{says_last}
+use Rattle.whole_regions_v2.specs.Says.{last_from, says_last}
 
 -- ---- a region that ends after the data
 
@@ -39,7 +39,10 @@ module _ (d : List ℕ) (g : Region) (target : Key) where
 
 -- ---- the promise of the read down
 
-pub last-is : (d : List ℕ) (g : RegionC) (target : Key) {at n : ℕ} → ok at ≡ last_to d (region_from g) target → ended_by d (region_from g) at ≡ n → EndsLast d g target (Ends at n)
+abbrev pub last_at : ℕ → ℕ → Last
+last_at at n = record { at = at; number = n }
+
+pub last-is : (d : List ℕ) (g : RegionC) (target : Key) {at n : ℕ} → ok at ≡ last_to d (region_from g) target → ended_by d (region_from g) at ≡ n → EndsLast d g target (Ok (last_at at n))
 last-is d g target {at} e is = rw (sym e) (ap (λ (i : ℕ). ok (counted at i)) (sym is))
 
 -- ---- a turn of the read down
@@ -69,14 +72,14 @@ module _ (b : List ℕ) (t : Trailer) (i : ℕ) (g : RegionC) (target : Key) (re
   abbrev lowered : Res ℕ
   lowered = last_at_or_below t.size (data_of b t) (region_from g) target g.start [] g.start
 
-  module _ (r : LastRead) (w : EndsLast (data_of b t) g target r) where
+  module _ (r : Result Last Refusal) (w : EndsLast (data_of b t) g target r) where
     said-last : says_last r ≡ bind lowered (end_numbered (data_of b t) (region_from g))
     said-last = w ∙ ap (λ (x : Res ℕ). bind x (end_numbered (data_of b t) (region_from g))) (last-used b t i (region_from g) target read is)
 
-    pub last-ended : {at n : ℕ} → r ≡ Ends at n → (lowered ≡ ok at) × (ended_by (data_of b t) (region_from g) at ≡ n)
-    last-ended {at} {n} e =
-        bind-then lowered _ (counted at n) (sym (sym (ap says_last e) ∙ said-last)) λ best q f.
-        let same : best ≡ at = ap (λ (x : Counted ℕ). x.what) (ok-inj f) in
+    pub last-ended : {l : Last} → r ≡ Ok l → (lowered ≡ ok l.at) × (ended_by (data_of b t) (region_from g) l.at ≡ l.number)
+    last-ended {l} e =
+        bind-then lowered _ (last_from l) (sym (sym (ap says_last e) ∙ said-last)) λ best q f.
+        let same : best ≡ l.at = ap (λ (x : Counted ℕ). x.what) (ok-inj f) in
         (q ∙ ap ok same, ap (ended_by (data_of b t) (region_from g)) (sym same) ∙ ap (λ (x : Counted ℕ). x.number) (ok-inj f))
 
     pub last-refused : {n : ℕ} → says_last r ≡ refuse n → lowered ≡ refuse n

@@ -10,16 +10,11 @@ ghost use Rattle.whole_regions_v2.specs.Promise.{EndsLast, CountsRows};
 use basics::Refusal;
 use trailer::Region;
 
+// Where the last row at or below a target ends, and how many rows of the region end there.
 #[derive(Clone, Copy)]
-pub enum LastRead {
-    Ends { at: usize, number: usize },
-    Refused(Refusal),
-}
-
-#[derive(Clone, Copy)]
-pub enum CountRead {
-    Rows(usize),
-    Refused(Refusal),
+pub struct Last {
+    pub at: usize,
+    pub number: usize,
 }
 
 // ---- down to a target
@@ -33,11 +28,11 @@ fn later(above: bool, best: usize, next: usize) -> usize
 
 // Reads a whole region: where its last row at or below the target ends, or the region's start if there is none, and how many rows end there. (`load_restart_region` and the search for the
 // first greater row in the Rust's `seek` descending.)
-pub fn last_at_or_below(data: &[u8], region: Region, target: &[u8]) -> LastRead
+pub fn last_at_or_below(data: &[u8], region: Region, target: &[u8]) -> Result<Last, Refusal>
     ensures { EndsLast «data».now region target.now result }
 {
     if data.len() < region.end {
-        return LastRead::Refused(Refusal::BadState);
+        return Err(Refusal::BadState);
     }
     let mut at = region.start;
     let mut len: usize = 0;
@@ -50,7 +45,7 @@ pub fn last_at_or_below(data: &[u8], region: Region, target: &[u8]) -> LastRead
         let row = row_span_v2::span_in(data, at, region.start, region.end, len);
         if row.next == 0 {
             let refusal = row_span_v2::refusal_in(data, at, region.start, region.end, len);
-            return LastRead::Refused(refusal);
+            return Err(refusal);
         }
         let from = row.suffix_at;
         let to = from + row.suffix_len;
@@ -63,20 +58,20 @@ pub fn last_at_or_below(data: &[u8], region: Region, target: &[u8]) -> LastRead
         best = later(above, best, at);
         best_number = later(above, best_number, number);
     }
-    LastRead::Ends {
+    Ok(Last {
         at: best,
         number: best_number,
-    }
+    })
 }
 
 // ---- how many rows
 
 // Reads a whole region: how many rows it has. (`load_restart_region` in the Rust, of which the descending iterator takes the last place.)
-pub fn count_rows(data: &[u8], region: Region) -> CountRead
+pub fn count_rows(data: &[u8], region: Region) -> Result<usize, Refusal>
     ensures { CountsRows «data».now region result }
 {
     if region.end <= region.start {
-        return CountRead::Refused(Refusal::BadState);
+        return Err(Refusal::BadState);
     }
     let mut at = region.start;
     let mut len: usize = 0;
@@ -85,11 +80,11 @@ pub fn count_rows(data: &[u8], region: Region) -> CountRead
         let row = row_span_v2::span_in(data, at, region.start, region.end, len);
         if row.next == 0 {
             let refusal = row_span_v2::refusal_in(data, at, region.start, region.end, len);
-            return CountRead::Refused(refusal);
+            return Err(refusal);
         }
         rows += 1;
         if region.end <= row.next {
-            return CountRead::Rows(rows);
+            return Ok(rows);
         }
         len = row.shared + row.suffix_len;
         at = row.next;
