@@ -17,61 +17,57 @@ use Rattle.basics.specs.Says.{says_order}
 use Rattle.basics.specs.declared.IterationOrder.{IterationOrder}
 use Rattle.basics.specs.declared.IterationOrder.TheVariants.{Ascending, Descending}
 use Rattle.basics.specs.declared.Refusal.{Refusal}
-use Rattle.basics.specs.declared.Verdict.{Verdict}
-use Rattle.basics.specs.declared.Verdict.TheVariants.{Good, Refused}
+use Rattle.std.specs.Prelude.{Result, Ok, Err, ⊤}
 use Rattle.whole_regions_v2.specs.Regions.{rows_in}
 use Rattle.whole_regions_v2.specs.Laws.{rows-used}
 use Rattle.place_v2.specs.declared.Place.{Place}
-use Rattle.place_v2.specs.declared.OpenedPlace.{OpenedPlace}
-use Rattle.place_v2.specs.Parts.{fresh, last_rows, OpensDown}
+use Rattle.place_v2.specs.Parts.{fresh, last_rows}
 use Rattle.place_v2.specs.Promise.{OpensPlace}
 use Rattle.place_v2.specs.Says.{view_in}
 
 -- ---- opening
 
 module _ (b : List ℕ) (order : IterationOrder) where
-  module _ (p : Place) where
-    pub opens_not : {x : Refusal} → open_block b (says_order order) ≡ refuse (number x) → p ≡ fresh order 0 0 0 → OpensPlace b order (record { place = p; answer = Refused x })
-    opens_not e is = rw is (record { answer = rw e; view = λ key. rw e })
+  pub opens_so : {p : Place} → ((key : List ℕ) → ok (view_in p key) ≡ open_block b (says_order order)) → OpensPlace b order (record { place = p; answer = Ok tt })
+  opens_so e = record { answer = ap whether (e []); view = λ key. ap (cursor_or (says_order order)) (e key) }
 
+  pub opens_not : {p : Place} {x : Refusal} → ((key : List ℕ) → refuse (number x) ≡ open_block b (says_order order)) → p ≡ fresh order 0 0 0
+      → OpensPlace b order (record { place = p; answer = Err x })
+  opens_not e is = rw (is, sym (e [])) (record { answer = refl; view = λ key. refl })
+
+  -- the cursor of a block whose offsets were tested
   module _ (t : Trailer) (e : open_block b (says_order order) ≡ open_along (says_order order) b t) where
-    pub opens_up : (p : Place) → order ≡ Ascending → p ≡ fresh order 0 0 0 → OpensPlace b order (record { place = p; answer = Good })
-    opens_up p o is = rw (is, e, o, along-up b t) (record { answer = refl; view = λ key. refl })
+    pub opened_up : {p : Place} → order ≡ Ascending → p ≡ fresh order 0 0 0 → (key : List ℕ) → ok (view_in p key) ≡ open_block b (says_order order)
+    opened_up o is key = rw (is, e, o, along-up b t)
 
-    pub opens-down : {r : OpenedPlace} → order ≡ Descending → OpensDown b t r → OpensPlace b order r
-    opens-down o w = rw (e, o) w
+    module _ (o : order ≡ Descending) where
+      abbrev opened_after : ℕ → Res Cursor
+      opened_after n = ok (cursor_is descending (t.count - 1) t.size n [] false)
 
--- ---- backwards, by how many rows the last region has
+      down_is : open_block b (says_order order) ≡ bind (last_rows b t) opened_after
+      down_is = e ∙ rw o (go (region_of b t (t.count - 1)) refl)
+        where
+          read : (g : Region) → region_of b t (t.count - 1) ≡ ok g → (x : Res Keyed) → row_ending_at t.size (data_of b t) g t.size g.start [] ≡ x
+              → open_along descending b t ≡ bind (rows_in (data_of b t) g) opened_after
+          read g e (ok k) q = rw (rows-used b t g e, q) (along-down b t g e k q)
+          read g e (refuse i) q = rw (rows-used b t g e, q) (along-no b t g e q)
 
-module _ (b : List ℕ) (t : Trailer) where
-  abbrev opened_after : ℕ → Res Cursor
-  opened_after n = ok (cursor_is descending (t.count - 1) t.size n [] false)
+          go : (x : Res Region) → region_of b t (t.count - 1) ≡ x → open_along descending b t ≡ bind (last_rows b t) opened_after
+          go (ok g) e = rw e (read g e (row_ending_at t.size (data_of b t) g t.size g.start []) refl)
+          go (refuse i) e = rw e (along-region b t e)
 
-  down_is : open_along descending b t ≡ bind (last_rows b t) opened_after
-  down_is = go (region_of b t (t.count - 1)) refl
-    where
-      read : (g : Region) → region_of b t (t.count - 1) ≡ ok g → (x : Res Keyed) → row_ending_at t.size (data_of b t) g t.size g.start [] ≡ x
-          → open_along descending b t ≡ bind (rows_in (data_of b t) g) opened_after
-      read g e (ok k) q = rw (rows-used b t g e, q) (along-down b t g e k q)
-      read g e (refuse i) q = rw (rows-used b t g e, q) (along-no b t g e q)
+      pub opened_down : {n : ℕ} {p : Place} → last_rows b t ≡ ok n → p ≡ fresh order (t.count - 1) t.size n → (key : List ℕ) → ok (view_in p key) ≡ open_block b (says_order order)
+      opened_down e is key = rw (is, o) (sym (rw o at down_is ∙ rw e))
 
-      go : (x : Res Region) → region_of b t (t.count - 1) ≡ x → open_along descending b t ≡ bind (last_rows b t) opened_after
-      go (ok g) e = rw e (read g e (row_ending_at t.size (data_of b t) g t.size g.start []) refl)
-      go (refuse i) e = rw e (along-region b t e)
-
-  module _ (p : Place) where
-    pub down-good : (n : ℕ) → last_rows b t ≡ ok n → p ≡ fresh Descending (t.count - 1) t.size n → OpensDown b t (record { place = p; answer = Good })
-    down-good n e is = rw (is, down_is, e) (record { answer = refl; view = λ key. refl })
-
-    pub down-not : {x : Refusal} → last_rows b t ≡ refuse (number x) → p ≡ fresh Descending 0 0 0 → OpensDown b t (record { place = p; answer = Refused x })
-    down-not e is = rw (is, down_is, e) (record { answer = refl; view = λ key. refl })
+      pub opened_not : {i : ℕ} → last_rows b t ≡ refuse i → refuse i ≡ open_block b (says_order order)
+      opened_not e = sym (down_is ∙ rw e)
 
 -- what was answered of an opening w, with the cursor v beside it, tells how it ended
-module _ (d : Direction) (w : Res Cursor) {a : Verdict} (says : says_verdict a ≡ whether w) where
-  pub opened-so : {v : Cursor} → v ≡ cursor_or d w → a ≡ Good → w ≡ ok v
+module _ (d : Direction) (w : Res Cursor) {a : Result ⊤ Refusal} (says : says_verdict a ≡ whether w) where
+  pub opened-so : {v : Cursor} → v ≡ cursor_or d w → a ≡ Ok tt → w ≡ ok v
   opened-so {v} is e = whether-good w v (yes says_verdict says e) (λ c z. is ∙ ap (cursor_or d) z)
 
-  pub opened-not : {x : Refusal} → a ≡ Refused x → w ≡ refuse (number x)
+  pub opened-not : {x : Refusal} → a ≡ Err x → w ≡ refuse (number x)
   opened-not {x} e = whether-refused w (number x) (yes says_verdict says e)
 
 -- ---- whether a row is left

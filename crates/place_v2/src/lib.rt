@@ -3,17 +3,18 @@
 // for itself, and what its bytes can break is a refusal.
 #![tactic(auto)]
 
-ghost use Rattle.std.specs.Prelude.{◌≡◌};
+ghost use Rattle.std.specs.Prelude.{◌≡◌, List, ℕ};
+ghost use Rattle.layout.specs.Cursor.{open_block};
 ghost use Rattle.layout.specs.Res.{ok};
 ghost use Rattle.layout.specs.Trailer.{trailer_of};
+ghost use Rattle.basics.specs.Answers.{says_same};
+ghost use Rattle.basics.specs.Says.{says_order};
 ghost use Rattle.trailer.specs.Says.{trailer_from};
-ghost use Rattle.whole_regions_v2.specs.Says.{says_count};
-ghost use Rattle.place_v2.specs.Parts.{fresh, last_rows, OpensDown};
+ghost use Rattle.place_v2.specs.Parts.{fresh, last_rows, says_opened};
 ghost use Rattle.place_v2.specs.Promise.{OpensPlace, TellsPlaceEmpty};
 
-use basics::{IterationOrder, Refusal, Verdict};
-use trailer::{Trailer, TrailerRead};
-use whole_regions_v2::CountRead;
+use basics::{IterationOrder, Refusal};
+use trailer::Trailer;
 
 // A cursor without the bytes of its key: those stay where they are. `number` is how many rows of its region end at or before its position. The numbers that
 // change from step to step do not stand side by side, so that none is loaded in one with another that was stored apart; the region's changes with the region
@@ -32,13 +33,7 @@ pub struct Place {
 #[derive(Clone, Copy)]
 pub struct OpenedPlace {
     pub place: Place,
-    pub answer: Verdict,
-}
-
-#[derive(Clone, Copy)]
-pub enum EmptyRead {
-    Is(bool),
-    Refused(Refusal),
+    pub answer: Result<(), Refusal>,
 }
 
 // A cursor with no key.
@@ -56,40 +51,31 @@ fn fresh(order: IterationOrder, region: usize, at: usize, number: usize) -> Plac
 }
 
 // How many rows the last region has: they are read, to the data's end.
-fn last_rows(block: &[u8], t: Trailer) -> CountRead
+fn last_rows(block: &[u8], t: Trailer) -> Result<usize, Refusal>
     requires { trailer_of block.now ≡ ok (trailer_from t) }
-    ensures { says_count result ≡ last_rows block.now (trailer_from t) }
+    ensures { says_same result ≡ last_rows block.now (trailer_from t) }
 {
     let last = t.count - 1;
     let region = trailer::plain_region(block, t, last);
     // Never taken where all offsets were tested.
     if region.end == 0 {
-        return CountRead::Refused(Refusal::BadOffset);
+        return Err(Refusal::BadOffset);
     }
     let size = t.size;
     whole_regions_v2::count_rows(&block[..size], region)
 }
 
-// Descending: at the data's end, with the last region's rows passed. What they refuse, opening refuses.
-fn open_down(block: &[u8], t: Trailer) -> OpenedPlace
-    requires { trailer_of block.now ≡ ok (trailer_from t) }
-    ensures { OpensDown block.now (trailer_from t) result }
+// The cursor of a block whose offsets are all tested. Descending it is at the data's end, with the last region's rows passed; what they refuse, opening refuses.
+fn opened(block: &[u8], order: IterationOrder) -> Result<Place, Refusal>
+    ensures { (key : List ℕ) → says_opened key result ≡ open_block block.now (says_order order) }
 {
-    let rows = last_rows(block, t);
-    match rows {
-        CountRead::Rows(number) => {
-            let end = fresh(IterationOrder::Descending, t.count - 1, t.size, number);
-            OpenedPlace {
-                place: end,
-                answer: Verdict::Good,
-            }
-        }
-        CountRead::Refused(found) => {
-            let start = fresh(IterationOrder::Descending, 0, 0, 0);
-            OpenedPlace {
-                place: start,
-                answer: Verdict::Refused(found),
-            }
+    let t = trailer::trailer_of(block)?;
+    trailer::all_offsets(block, t)?;
+    match order {
+        IterationOrder::Ascending => Ok(fresh(order, 0, 0, 0)),
+        IterationOrder::Descending => {
+            let number = last_rows(block, t)?;
+            Ok(fresh(order, t.count - 1, t.size, number))
         }
     }
 }
@@ -98,46 +84,31 @@ fn open_down(block: &[u8], t: Trailer) -> OpenedPlace
 pub fn open_place(block: &[u8], order: IterationOrder) -> OpenedPlace
     ensures { OpensPlace block.now order result }
 {
-    let start = fresh(order, 0, 0, 0);
-    let read = trailer::trailer_of(block);
-    let TrailerRead::Good(t) = read else {
-        return OpenedPlace {
-            place: start,
-            answer: Verdict::Refused(trailer::trailer_refusal(read)),
-        };
-    };
-    let offsets = trailer::all_offsets(block, t);
-    if let Verdict::Refused(refusal) = offsets {
-        return OpenedPlace {
-            place: start,
-            answer: Verdict::Refused(refusal),
-        };
-    }
-    match order {
-        IterationOrder::Ascending => OpenedPlace {
-            place: start,
-            answer: Verdict::Good,
+    match opened(block, order) {
+        Ok(place) => OpenedPlace {
+            place,
+            answer: Ok(()),
         },
-        IterationOrder::Descending => open_down(block, t),
+        Err(refusal) => OpenedPlace {
+            place: fresh(order, 0, 0, 0),
+            answer: Err(refusal),
+        },
     }
 }
 
 // Whether the cursor is known to have no row left: ascending by its position or its mark; descending by its mark alone, so not before a step or a seek has
 // said "done". Only the trailer is tested: 14.
-pub fn is_empty_place(p: Place, block: &[u8]) -> EmptyRead
+pub fn is_empty_place(p: Place, block: &[u8]) -> Result<bool, Refusal>
     ensures { TellsPlaceEmpty p block.now result }
 {
-    let read = trailer::trailer_of(block);
-    let TrailerRead::Good(t) = read else {
-        return EmptyRead::Refused(trailer::trailer_refusal(read));
-    };
+    let t = trailer::trailer_of(block)?;
     if p.done {
-        return EmptyRead::Is(true);
+        return Ok(true);
     }
     let at = p.at;
     let order = p.order;
     match order {
-        IterationOrder::Ascending => EmptyRead::Is(t.size <= at),
-        IterationOrder::Descending => EmptyRead::Is(false),
+        IterationOrder::Ascending => Ok(t.size <= at),
+        IterationOrder::Descending => Ok(false),
     }
 }

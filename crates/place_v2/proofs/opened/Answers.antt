@@ -1,6 +1,6 @@
 -- `opened` keeps its promise: 14, then all of 15; else the order asked, and descending the rows of the last region.
 -- Each exit is a law of the opening, over what was read on the way to it.
-use mathlib.Core.Path.{◌≡◌, refl, sym, ◌∙◌}
+use mathlib.Core.Path.{◌≡◌, sym, ◌∙◌}
 use native.Mathlib.Omega.{arith}
 use Rattle.layout.specs.Res.{ok}
 use Rattle.layout.specs.Trailer.{trailer_of}
