@@ -1,16 +1,15 @@
 -- Each promise admits one outcome: two results, with the words and bytes that they leave, that both keep it are equal.
-use Rattle.std.specs.Prelude.{ℕ, Bool, ◌≡◌, List, []}
+use Rattle.std.specs.Prelude.{ℕ, Bool, ◌≡◌, List, [], Option}
 use Rattle.std.proofs.Common.{sym, ◌∙◌}
 use Rattle.layout.specs.Key.{Key}
 use Rattle.state_v2.specs.declared.State.{State}
-use Rattle.builder_words.specs.declared.StateRead.{StateRead}
-use Rattle.builder_words.specs.declared.OfferRead.{OfferRead}
+use Rattle.row_words.specs.declared.Offer.{Offer}
 use Rattle.builder_words.specs.Says.{says_state-one, says_offer-one}
 use Rattle.builder_words.specs.Promise.{LoadsState, PutsState, LoadsOffer}
 use Rattle.builder_words.specs.Exports.{AddsFlat}
 use Rattle.row_words.specs.OneOutcome.{stores_settled}
 
-pub state_in_settled : (ws : List ℕ) (r q : StateRead) → LoadsState ws r → LoadsState ws q → r ≡ q
+pub state_in_settled : (ws : List ℕ) (r q : Option State) → LoadsState ws r → LoadsState ws q → r ≡ q
 state_in_settled ws r q m n = says_state-one r q (m ∙ sym n)
 
 pub put-state-settled : (s : State) (ws : List ℕ) (r q : Bool) (ys zs : List ℕ) → PutsState s ws r ys → PutsState s ws q zs → (r ≡ q) × (ys ≡ zs)
@@ -18,7 +17,7 @@ put-state-settled s ws r q ys zs m n = stores_settled m n
 
 -- ---- what a call starts from
 
-pub offer_in_settled : (ws last fs : List ℕ) (r q : OfferRead) → LoadsOffer ws last fs r → LoadsOffer ws last fs q → r ≡ q
+pub offer_in_settled : (ws last fs : List ℕ) (r q : Option (Offer State)) → LoadsOffer ws last fs r → LoadsOffer ws last fs q → r ≡ q
 offer_in_settled ws last fs r q m n = says_offer-one last [] r q (m [] ∙ sym (n []))
 
 -- ---- the exports of the crates above

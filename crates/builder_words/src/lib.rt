@@ -5,44 +5,24 @@
 ghost use Rattle.std.specs.Prelude.{◌≡◌};
 ghost use Rattle.builder_words.specs.Promise.{LoadsState, PutsState, LoadsOffer};
 
-use row_flags::RowFields;
-use row_words::FieldsRead;
+use row_words::Offer;
 use state_v2::State;
 
 pub const BUILDER_WORDS: usize = 6;
 
-#[derive(Clone, Copy)]
-pub enum StateRead {
-    Is(State),
-    Bad,
-}
-
-// A builder, and the row that is offered to it.
-#[derive(Clone, Copy)]
-pub enum OfferRead {
-    Is { state: State, row: RowFields },
-    Bad,
-}
-
-fn size(word: u64) -> usize
-    ensures { result ≡ word }
-{
-    word as usize
-}
-
-pub fn state_in(words: &[u64]) -> StateRead
+pub fn state_in(words: &[u64]) -> Option<State>
     ensures { LoadsState words.now result }
 {
     if words.len() != BUILDER_WORDS {
-        return StateRead::Bad;
+        return None;
     }
-    StateRead::Is(State {
-        block_size: size(words[0]),
-        restart_interval: size(words[1]),
-        used: size(words[2]),
-        restarts: size(words[3]),
-        counter: size(words[4]),
-        last_key_len: size(words[5]),
+    Some(State {
+        block_size: words[0] as usize,
+        restart_interval: words[1] as usize,
+        used: words[2] as usize,
+        restarts: words[3] as usize,
+        counter: words[4] as usize,
+        last_key_len: words[5] as usize,
     })
 }
 
@@ -62,19 +42,13 @@ pub fn put_state(words: &mut [u64], s: State) -> bool
 }
 
 // The builder that a row is offered to, by its words and as many bytes as the longest key has, and the row's fields.
-pub fn offer_in(builder: &[u64], last_key: &[u8], fields: &[u64]) -> OfferRead
+pub fn offer_in(builder: &[u64], last_key: &[u8], fields: &[u64]) -> Option<Offer<State>>
     ensures { LoadsOffer builder.now last_key.now fields.now result }
 {
-    let words = state_in(builder);
-    let StateRead::Is(state) = words else {
-        return OfferRead::Bad;
-    };
+    let state = state_in(builder)?;
     if last_key.len() != basics::MAX_KEY {
-        return OfferRead::Bad;
+        return None;
     }
-    let loaded = row_words::fields_in(fields);
-    let FieldsRead::Is(row) = loaded else {
-        return OfferRead::Bad;
-    };
-    OfferRead::Is { state, row }
+    let row = row_words::fields_in(fields)?;
+    Some(Offer { state, row })
 }
