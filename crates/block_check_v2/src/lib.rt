@@ -55,10 +55,7 @@ fn check_region(
     requires stands { Stands block.now (trailer_from t) p key.old }
     ensures { Leaves block.now (trailer_from t) p result key.new }
 {
-    let g = trailer::plain_region(block, t, p.region);
-    if g.end == 0 {
-        return Err(Refusal::BadOffset);
-    }
+    let g = trailer::region_of(block, t, p.region)?;
     let size = t.size;
     let data = &block[..size];
     let mut at = p.at;

@@ -4,71 +4,77 @@ use native.Mathlib.Omega.{arith}
 use lib.Dec.{eqb}
 use lib.ListN.{length, length-take}
 use lib.Seq.{length-take-le}
+use Rattle.std.proofs.lemmas.Result.{err_from_is_err_and}
 use borrow.Author.Rules.{rules}
 use borrow.Author.Tests.{not-true, not-false}
 use Rattle.layout.specs.Res.{ok}
+use Rattle.layout.specs.RowRead.{RowRead}
 use Rattle.layout.specs.Trailer.{data_of, region_of, row_in}
 use Rattle.layout.proofs.Laws.Splice.{length-splice}
 use Rattle.layout.specs.Laws.Tells.{RowEnds}
 use Rattle.layout.proofs.Laws.Tells.{read_row-ends, row-shares}
 use Rattle.layout.proofs.Laws.Trailer.{trailer_of-tells}
 use Rattle.buf_mut.proofs.Laws.{copied}
-use Rattle.trailer.specs.Plain.{known_is_lem, known-not}
+use Rattle.trailer.specs.Laws.{region-known}
 use Rattle.trailer.specs.Says.{trailer_from, region_from}
 use Rattle.row_span_v2.specs.Laws.{numbered, numbered-known, span-refusal}
 use Rattle.row_span_v2.specs.Promise.{numbered_from}
 use Rattle.block_check_v2.specs.Laws.{Walks, stands-no, stands-inside, stands-walks, walks-over, walks-no, walks-room, walks-falls, walks-narrow, walks_more, may-told, the_trailer}
 use mathlib.Core.Bool.{not}
-use Rattle.block_check_v2.proofs.check_region.Goals.{At-loop-at, Else-g-eq0, Else-row-eq0, Start}
+use Rattle.block_check_v2.proofs.check_region.Goals.{At-loop-at, In_ok-g, Else-row-eq0, Start}
 use Rattle.block_check_v2.proofs.check_region.Goals as goal
 
 -- a length fits a word
 short : (s : Start) → length s.args.block.now < 2 ^ 64
 short s = search rules
 
--- the region's number is one of the trailer's
-inside : (s : Start) → s.args.p.region < s.args.t.count
-inside s = (s.requires.stands.starts s.requires.at_lt_size).0
-
--- and its numbers are the block's
+-- the region's number is one of the trailer's, and its numbers are the block's
 its : (s : Start) → (s.args.t.size + (2 + 2 * s.args.t.count) ≡ length s.args.block.now) × (s.args.p.region < s.args.t.count)
-its s = ((trailer_of-tells _ _ s.requires.block_value).0, ((s.requires.stands.starts s.requires.at_lt_size).0))
+its s = ((trailer_of-tells _ _ s.requires.block_value).0, (s.requires.stands.starts s.requires.at_lt_size).0)
 
 -- the region that was read
-used : (k : Else-g-eq0) → let a = k.args in region_of a.block.now (trailer_from a.t) a.p.region ≡ ok (region_from k.plain_region-g.result)
-used k =
-    known_is_lem _ _ _ (((trailer_of-tells _ _ k.requires.block_value).0, ((k.requires.stands.starts k.requires.at_lt_size).0))) _ k.plain_region-g.ensures k.if-g-eq0.false
+used : (k : In_ok-g) → let a = k.args in region_of a.block.now (trailer_from a.t) a.p.region ≡ ok (region_from k.in_ok-g.g)
+used k = region-known _ _ _ ((trailer_of-tells _ _ k.requires.block_value).0, (k.requires.stands.starts k.requires.at_lt_size).0) k.in_ok-g.ensures
 
-walk : (l : At-loop-at) → Walks l.args.block.now (trailer_from l.args.t) l.args.p.region (region_from (l.plain_region-g.result)) l.loop-at.at l.loop-at.rows l.loop-at.seq l.loop-at.key l.loop-at.key_len
+walk : (l : At-loop-at) → Walks l.args.block.now (trailer_from l.args.t) l.args.p.region (region_from l.in_ok-g.g) l.loop-at.at l.loop-at.rows l.loop-at.seq l.loop-at.key l.loop-at.key_len
 walk l = l.loop-at.invariant.1 _ l.requires.block_value
 
-read : (n : Else-row-eq0) → row_in (data_of n.args.block.now (trailer_from n.args.t)) (region_from (n.plain_region-g.result)) n.loop-at.at n.loop-at.key_len ≡ ok (numbered (numbered-known _ _ _ _ _ (numbered_from n.numbered_in-row.result) n.numbered_in-row.ensures.0 n.if-row-eq0.false n.numbered_in-row.ensures.1).0 (numbered_from n.numbered_in-row.result) n.numbered_in-row.result.seq)
-read n = (numbered-known _ _ _ _ _ (numbered_from n.numbered_in-row.result) n.numbered_in-row.ensures.0 n.if-row-eq0.false n.numbered_in-row.ensures.1).1
+-- the row that was read, with the numbers that were answered of it
+known : (n : Else-row-eq0) → let p = n.numbered_in-row.result in
+    (x : RowRead) × (row_in (data_of n.args.block.now (trailer_from n.args.t)) (region_from n.in_ok-g.g) n.loop-at.at n.loop-at.key_len ≡ ok (numbered x (numbered_from p) p.seq))
+known n = numbered-known _ _ _ _ _ (numbered_from n.numbered_in-row.result) n.numbered_in-row.ensures.0 n.if-row-eq0.false n.numbered_in-row.ensures.1
 
-told : (n : Else-row-eq0) → RowEnds (data_of n.args.block.now (trailer_from n.args.t)) n.loop-at.at (n.plain_region-g.result).end n.loop-at.key_len (eqb n.loop-at.at (n.plain_region-g.result).start) (numbered (numbered-known _ _ _ _ _ (numbered_from n.numbered_in-row.result) n.numbered_in-row.ensures.0 n.if-row-eq0.false n.numbered_in-row.ensures.1).0 (numbered_from n.numbered_in-row.result) n.numbered_in-row.result.seq)
-told n = read_row-ends _ _ _ _ _ _ ((numbered-known _ _ _ _ _ (numbered_from n.numbered_in-row.result) n.numbered_in-row.ensures.0 n.if-row-eq0.false n.numbered_in-row.ensures.1).1)
+abbrev row : Else-row-eq0 → RowRead
+row n = numbered (known n).0 (numbered_from n.numbered_in-row.result) n.numbered_in-row.result.seq
 
-shares : (n : Else-row-eq0) → (numbered (numbered-known _ _ _ _ _ (numbered_from n.numbered_in-row.result) n.numbered_in-row.ensures.0 n.if-row-eq0.false n.numbered_in-row.ensures.1).0 (numbered_from n.numbered_in-row.result) n.numbered_in-row.result.seq).shared ≤ n.loop-at.key_len
-shares n = row-shares _ _ _ _ _ _ (read_row-ends _ _ _ _ _ _ ((numbered-known _ _ _ _ _ (numbered_from n.numbered_in-row.result) n.numbered_in-row.ensures.0 n.if-row-eq0.false n.numbered_in-row.ensures.1).1))
+read : (n : Else-row-eq0) → row_in (data_of n.args.block.now (trailer_from n.args.t)) (region_from n.in_ok-g.g) n.loop-at.at n.loop-at.key_len ≡ ok (row n)
+read n = (known n).1
 
-pub returns-then-g-eq0 : goal.returns-then-g-eq0
-returns-then-g-eq0 c =
-    stands-no _ _ _ _ c.requires.stands c.requires.at_lt_size
-    (known-not _ _ _ (its (goal.at.returns-then-g-eq0 c).Start) _ c.plain_region-g.ensures c.if-g-eq0.true)
+told : (n : Else-row-eq0) → RowEnds (data_of n.args.block.now (trailer_from n.args.t)) n.loop-at.at n.in_ok-g.g.end n.loop-at.key_len (eqb n.loop-at.at n.in_ok-g.g.start) (row n)
+told n = read_row-ends _ _ _ _ _ _ (read n)
+
+shares : (n : Else-row-eq0) → (row n).shared ≤ n.loop-at.key_len
+shares n = row-shares _ _ _ _ _ _ (told n)
+
+pub returns-in_err-g : goal.returns-in_err-g
+returns-in_err-g c =
+    let p = err_from_is_err_and c.from_residual.result c.from_residual.ensures.1 in
+    rw (p.1, p.2)
+    (stands-no _ _ _ _ c.requires.stands c.requires.at_lt_size (region-known _ _ _ (its (goal.at.returns-in_err-g c).Start) c.in_err-g.ensures))
 
 pub slice_bounds-data-end : goal.slice_bounds-data-end
 slice_bounds-data-end c = sym (length-take-le _ _ (omega (arith, (trailer_of-tells _ _ c.requires.block_value).0)))
 
 pub loop-at-init : goal.loop-at-init
 loop-at-init c =
-    (refl, the_trailer _ _ _ c.requires.block_value (stands-walks _ _ _ _ c.requires.stands c.requires.at_lt_size _ (used (goal.at.loop-at-init c).Else-g-eq0)))
+    (refl, the_trailer _ _ _ c.requires.block_value (stands-walks _ _ _ _ c.requires.stands c.requires.at_lt_size _ (used (goal.at.loop-at-init c).In_ok-g)))
 
 pub shape_of-key-then-row-eq0 : goal.shape_of-key-then-row-eq0
 shape_of-key-then-row-eq0 c = c.loop-at.invariant.0
 
 pub returns-then-row-eq0 : goal.returns-then-row-eq0
 returns-then-row-eq0 c =
-    walks-no _ _ _ _ (used (goal.at.returns-then-row-eq0 c).Else-g-eq0) _ _ _ _ _ (walk (goal.at.returns-then-row-eq0 c).At-loop-at) c.loop-at-test.true
+    walks-no _ _ _ _ (used (goal.at.returns-then-row-eq0 c).In_ok-g) _ _ _ _ _ (walk (goal.at.returns-then-row-eq0 c).At-loop-at) c.loop-at-test.true
     (span-refusal _ _ _ _ _ (numbered_from c.numbered_in-row.result) c.numbered_in-row.ensures.0 c.if-row-eq0.true c.refusal_in.ensures)
 
 pub overflow_add-to : goal.overflow_add-to
@@ -92,7 +98,7 @@ shape_of-key-then-not-may_follow c = c.loop-at.invariant.0
 
 pub returns-then-not-may_follow : goal.returns-then-not-may_follow
 returns-then-not-may_follow c =
-    walks-falls _ _ _ _ (used (goal.at.returns-then-not-may_follow c).Else-g-eq0) _ _ _ _ _ (walk (goal.at.returns-then-not-may_follow c).At-loop-at) c.loop-at-test.true _ (read (goal.at.returns-then-not-may_follow c).Else-row-eq0) (may-told _ _ _ _ c.compare-order.ensures c.may_follow.ensures (not-true _ (ap not c.if-not-may_follow.true)))
+    walks-falls _ _ _ _ (used (goal.at.returns-then-not-may_follow c).In_ok-g) _ _ _ _ _ (walk (goal.at.returns-then-not-may_follow c).At-loop-at) c.loop-at-test.true _ (read (goal.at.returns-then-not-may_follow c).Else-row-eq0) (may-told _ _ _ _ c.compare-order.ensures c.may_follow.ensures (not-true _ (ap not c.if-not-may_follow.true)))
 
 pub overflow_add-key_len : goal.overflow_add-key_len
 overflow_add-key_len c = omega (arith, (told (goal.at.overflow_add-key_len c).Else-row-eq0).fits)
@@ -102,7 +108,7 @@ shape_of-key-then-key-key_len c = c.loop-at.invariant.0
 
 pub returns-then-key-key_len : goal.returns-then-key-key_len
 returns-then-key-key_len c =
-    walks-narrow _ _ _ _ (used (goal.at.returns-then-key-key_len c).Else-g-eq0) _ _ _ _ _ (walk (goal.at.returns-then-key-key_len c).At-loop-at) c.loop-at-test.true _ (read (goal.at.returns-then-key-key_len c).Else-row-eq0) c.if-key-key_len.true
+    walks-narrow _ _ _ _ (used (goal.at.returns-then-key-key_len c).In_ok-g) _ _ _ _ _ (walk (goal.at.returns-then-key-key_len c).At-loop-at) c.loop-at-test.true _ (read (goal.at.returns-then-key-key_len c).Else-row-eq0) c.if-key-key_len.true
 
 pub slice_bounds-copy_in-end : goal.slice_bounds-copy_in-end
 slice_bounds-copy_in-end c = (told (goal.at.slice_bounds-copy_in-end c).Else-row-eq0).suffix
@@ -115,7 +121,7 @@ loop-at-smaller c = let w = told (goal.at.loop-at-smaller c).Else-row-eq0 in ome
 
 pub loop-at-preserved : goal.loop-at-preserved
 loop-at-preserved c =
-    let u = used (goal.at.loop-at-preserved c).Else-g-eq0 in
+    let u = used (goal.at.loop-at-preserved c).In_ok-g in
     let t = c.loop-at-test.true in
     let k = c.if-key-key_len.false in
     let r = walks-room _ _ _ _ u _ _ _ _ _ (walk (goal.at.loop-at-preserved c).At-loop-at) t _ (read (goal.at.loop-at-preserved c).Else-row-eq0) k in
@@ -126,13 +132,13 @@ loop-at-preserved c =
     )
 
 pub overflow_add-result : goal.overflow_add-result
-overflow_add-result c = omega (arith, inside (goal.at.overflow_add-result c).Start, (trailer_of-tells _ _ c.requires.block_value).0)
+overflow_add-result c = omega (arith, (its (goal.at.overflow_add-result c).Start).1, (trailer_of-tells _ _ c.requires.block_value).0)
 
 pub shape_of-key : goal.shape_of-key
 shape_of-key c = c.loop-at.invariant.0
 
 pub returns : goal.returns
 returns c =
-    let u = used (goal.at.returns c).Else-g-eq0 in
+    let u = used (goal.at.returns c).In_ok-g in
     let over = c.loop-at-test.false in
     (omega (arith, stands-inside _ _ _ _ c.requires.stands c.requires.at_lt_size _ u), walks-over _ _ _ _ u _ _ _ _ _ (walk (goal.at.returns c).At-loop-at) over)
