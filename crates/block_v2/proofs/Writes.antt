@@ -5,6 +5,7 @@ use mathlib.Core.Path.{◌≡◌, refl, ap, sym, ◌∙◌}
 use mathlib.Core.List.{List}
 use native.Mathlib.Omega.{arith}
 use lib.ListN.{length}
+use Rattle.std.specs.Prelude.{Result, Ok, Err}
 use Rattle.layout.specs.Limits.{max_key}
 use Rattle.layout.specs.Res.{Res, ok, bind}
 use Rattle.layout.specs.Builder.{would_fit, grown, add}
@@ -13,14 +14,10 @@ use Rattle.layout.specs.Row.{Fields}
 use Rattle.layout.proofs.Laws.Made.{add-tells}
 use Rattle.layout.proofs.Laws.Splice.{key-over}
 use Rattle.basics.specs.declared.Refusal.{Refusal}
-use Rattle.basics.specs.declared.Verdict.TheVariants.{Good, Refused}
 use Rattle.build_in_place_v2.specs.Promise.{entered, AddsInPlaceAs}
 use Rattle.finish_in_place_v2.specs.Promise.{Finishes}
 use Rattle.state_v2.specs.Says.{state_from}
 use Rattle.state_v2.specs.declared.State.{State}
-use Rattle.finish_in_place_v2.specs.declared.BuildAnswer.{BuildAnswer}
-use Rattle.build_in_place_v2.specs.declared.Grown.{Grown}
-use Rattle.build_in_place_v2.specs.declared.Grown.TheVariants.{Row as GrownRow, Refused as GrownRefused}
 use Rattle.build_in_place_v2.proofs.Tests.{passed-not, passed}
 use Rattle.build_in_place_v2.proofs.Writes.{entered-is}
 use Rattle.block_v2.specs.declared.BlockBuilderV2.{BlockBuilderV2}
@@ -34,21 +31,21 @@ module _ (self : BlockBuilderV2) where
       → x ≡ (bind (entered self.state self.last_key) λ v. would_fit v data_len places_len key f) → x ≡ would_fit (view_of self) data_len places_len key f
   fits data_len places_len key f long q = rw (entered-is self.state self.last_key long) at q
 
-  module _ (bytes places : List ℕ) (key : Key) (f : Fields) (long : length self.last_key ≡ max_key) {r : Grown} {last' bytes' places' : List ℕ}
+  module _ (bytes places : List ℕ) (key : Key) (f : Fields) (long : length self.last_key ≡ max_key) {r : Result State Refusal} {last' bytes' places' : List ℕ}
       (g : AddsInPlaceAs (bind (entered self.state self.last_key) λ v. add v (length bytes) (length places) key f) self.state self.last_key bytes places key f r last' bytes' places') where
     added : AddsInPlaceAs (add (view_of self) (length bytes) (length places) key f) self.state self.last_key bytes places key f r last' bytes' places'
     added = rw (entered-is self.state self.last_key long) at g
 
-    pub adds-not : {x : Refusal} → r ≡ GrownRefused x
-        → AddsAs (add (view_of self) (length bytes) (length places) key f) self bytes places key f (record { builder = builder_from self.state last'; answer = Refused x }) bytes' places'
+    pub adds-not : {x : Refusal} → r ≡ Err x
+        → AddsAs (add (view_of self) (length bytes) (length places) key f) self bytes places key f (record { builder = builder_from self.state last'; answer = Err x }) bytes' places'
     adds-not q =
         let h = rw q at added in
         let e = passed-not (add (view_of self) (length bytes) (length places) key f) state_from (sym h.answer) in
         let k = rw e at h in
         rw (e, k.last-after) (record { answer = refl; view = refl; whole = refl; bytes_after = k.bytes_after; places-after = k.places-after })
 
-    pub adds-good : {t : State} → r ≡ GrownRow t
-        → AddsAs (add (view_of self) (length bytes) (length places) key f) self bytes places key f (record { builder = builder_from t last'; answer = Good }) bytes' places'
+    pub adds-good : {t : State} → r ≡ Ok t
+        → AddsAs (add (view_of self) (length bytes) (length places) key f) self bytes places key f (record { builder = builder_from t last'; answer = Ok tt }) bytes' places'
     adds-good {t} q =
         let h = rw q at added in
         let p = passed (add (view_of self) (length bytes) (length places) key f) state_from (sym h.answer) in
@@ -60,7 +57,7 @@ module _ (self : BlockBuilderV2) where
         rw (e, n, k.last-after)
         (record { answer = refl; view = rw over refl; whole = refl; bytes_after = k.bytes_after; places-after = k.places-after })
 
-  pub builds : (bytes places : List ℕ) {r : BuildAnswer} {bytes' : List ℕ} → Finishes self.state bytes places r bytes' → Builds self bytes places (record { builder = self; answer = r }) bytes'
+  pub builds : (bytes places : List ℕ) {r : Result ℕ Refusal} {bytes' : List ℕ} → Finishes self.state bytes places r bytes' → Builds self bytes places (record { builder = self; answer = r }) bytes'
   builds bytes places f =
       let e = f self.last_key in
       record { answer = e.answer; whole = refl; bytes_after = e.bytes_after }

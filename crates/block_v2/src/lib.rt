@@ -8,9 +8,7 @@ ghost use Rattle.layout.specs.Limits.{default_interval};
 ghost use Rattle.build_in_place_v2.specs.Promise.{AddsInPlace};
 ghost use Rattle.block_v2.specs.Promise.{Makes, Fits, Adds, Empties, Builds};
 
-use basics::Verdict;
-use build_in_place_v2::Grown;
-use finish_in_place_v2::BuildAnswer;
+use basics::Refusal;
 use row_flags::RowFields;
 use state_v2::State;
 
@@ -25,19 +23,19 @@ pub struct BlockBuilderV2 {
 #[derive(Clone, Copy)]
 pub struct New {
     pub builder: BlockBuilderV2,
-    pub answer: Verdict,
+    pub answer: Result<(), Refusal>,
 }
 
 #[derive(Clone, Copy)]
 pub struct Added {
     pub builder: BlockBuilderV2,
-    pub answer: Verdict,
+    pub answer: Result<(), Refusal>,
 }
 
 #[derive(Clone, Copy)]
 pub struct Built {
     pub builder: BlockBuilderV2,
-    pub answer: BuildAnswer,
+    pub answer: Result<usize, Refusal>,
 }
 
 // Adds a row where the last key lies. A builder's own array can be lent only as one.
@@ -49,7 +47,7 @@ fn add_in_array(
     key: &[u8],
     value: &[u8],
     row: RowFields,
-) -> Grown
+) -> Result<State, Refusal>
     ensures { AddsInPlace s last_key.old «data».old restarts.old key.now value.now row result last_key.new «data».new restarts.new }
 {
     build_in_place_v2::add_in_place(last_key, s, data, restarts, key, value, row)
@@ -85,7 +83,7 @@ impl BlockBuilderV2 {
         key: &[u8],
         value: &[u8],
         row: RowFields,
-    ) -> Verdict
+    ) -> Result<(), Refusal>
         ensures { Fits self data_len places_len key.now value.now row result }
     {
         let s = self.state;
@@ -114,17 +112,17 @@ impl BlockBuilderV2 {
         let s = self.state;
         let grown = add_in_array(&mut self.last_key, s, data, restarts, key, value, row);
         match grown {
-            Grown::Row(state) => {
+            Ok(state) => {
                 self.state = state;
                 Added {
                     builder: self,
-                    answer: Verdict::Good,
+                    answer: Ok(()),
                 }
             }
             // Nothing is written, and the last key is as it was.
-            Grown::Refused(refusal) => Added {
+            Err(refusal) => Added {
                 builder: self,
-                answer: Verdict::Refused(refusal),
+                answer: Err(refusal),
             },
         }
     }

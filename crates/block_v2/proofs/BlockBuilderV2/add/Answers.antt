@@ -11,8 +11,8 @@ use Rattle.block_v2.proofs.BlockBuilderV2.add.Goals as goal
 long : (c : Start) → length c.args.self.last_key ≡ max_key
 long c = search rules
 
-pub returns-in-Row : goal.returns-in-Row
-returns-in-Row c = adds-good _ _ _ _ _ (long (goal.at.returns-in-Row c).Start) c.add_in_array-grown.ensures c.in-Row.is
+pub returns-in-Ok : goal.returns-in-Ok
+returns-in-Ok c = adds-good _ _ _ _ _ (long (goal.at.returns-in-Ok c).Start) c.add_in_array-grown.ensures c.in-Ok.is
 
-pub returns-in-Refused : goal.returns-in-Refused
-returns-in-Refused c = adds-not _ _ _ _ _ (long (goal.at.returns-in-Refused c).Start) c.add_in_array-grown.ensures c.in-Refused.is
+pub returns-in-Err : goal.returns-in-Err
+returns-in-Err c = adds-not _ _ _ _ _ (long (goal.at.returns-in-Err c).Start) c.add_in_array-grown.ensures c.in-Err.is
