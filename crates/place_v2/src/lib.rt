@@ -56,11 +56,7 @@ fn last_rows(block: &[u8], t: Trailer) -> Result<usize, Refusal>
     ensures { says_same result ≡ last_rows block.now (trailer_from t) }
 {
     let last = t.count - 1;
-    let region = trailer::plain_region(block, t, last);
-    // Never taken where all offsets were tested.
-    if region.end == 0 {
-        return Err(Refusal::BadOffset);
-    }
+    let region = trailer::region_of(block, t, last)?;
     let size = t.size;
     whole_regions_v2::count_rows(&block[..size], region)
 }
