@@ -1,9 +1,9 @@
 -- The balance of a named card. "The balance is top-ups less debits, and a balance below zero is an answer."
-use Rattle.std.specs.Prelude.{ℕ, ◌+◌, cond, ◌&&◌, List, [], ◌∷◌, eqb, ℤ, pos, ◌-ℤ◌, length}
+use Rattle.std.specs.Prelude.{ℕ, ◌+◌, cond, ◌&&◌, List, [], ◌∷◌, eqb, ℤ, pos, ◌-ℤ◌, length, Result, Ok, Err}
 use Rattle.layout.specs.Bytes.{Bytes}
+use Rattle.journal.specs.declared.Refusal.{Refusal}
 use Rattle.journal.specs.declared.Record.{Record}
 use Rattle.journal_balance.specs.declared.Balanced.{Balanced}
-use Rattle.journal_balance.specs.declared.Balanced.TheVariants.{Amount, Refused}
 use Rattle.journal.specs.Record.{debit_kind, top_up_kind, kind_of, card_of, amount_of}
 use Rattle.journal_read.specs.Reader.{Journal, holds, refused, journal_of, tail_of}
 use Rattle.journal_balance.specs.Counts.{counts}
@@ -21,9 +21,9 @@ abbrev pub balance_of : ℕ → List Record → ℤ
 balance_of card rs = pos (total top_up_kind card [] rs) -ℤ pos (total debit_kind card [] rs)
 
 -- with the tail
-abbrev pub settled : ℕ → ℕ → Journal → Balanced
-settled card size (holds rs end) = Amount (balance_of card rs) (tail_of end size)
-settled card size (refused x) = Refused x
+abbrev pub settled : ℕ → ℕ → Journal → Result Balanced Refusal
+settled card size (holds rs end) = Ok (record { balance = balance_of card rs; tail = tail_of end size })
+settled card size (refused x) = Err x
 
-unfoldable pub balance_in : Bytes → ℕ → Balanced
+unfoldable pub balance_in : Bytes → ℕ → Result Balanced Refusal
 balance_in d card = settled card (length d) (journal_of d)

@@ -1,7 +1,7 @@
 -- The records of a card that were passed, kept in a binary tree, so that one of the same kind and retry number is found without reading all of them again. The tree is an
 -- array of slots: a slot has 0, or the place of a record and one more. A kind has a slot to start from, and the record at place p two slots of its own, 2 + p / 21 * 2 and
 -- the next: those that have retry numbers are 21 bytes long, so no two of them share a slot. From a record a walk goes on by the retry number's bits, the lowest first.
-use Rattle.std.specs.Prelude.{ℕ, ◌+◌, ◌*◌, ◌/◌, ◌%◌, ◌≤◌, ◌<◌, ◌≡◌, Bool, true, false, List, length, get_or}
+use Rattle.std.specs.Prelude.{ℕ, ◌+◌, ◌*◌, ◌/◌, ◌%◌, ◌≤◌, ◌<◌, ◌≡◌, Bool, true, false, List, length, get_or, Ok}
 use Rattle.journal.specs.declared.Record.{Record}
 use Rattle.journal.specs.declared.Found.TheVariants.{Whole}
 use Rattle.journal.specs.Record.{length_of, number_at, kind_at, found_in, max_journal}
@@ -27,7 +27,7 @@ pub data Met (d tree : List ℕ) (kind card retry : ℕ) : ℕ → ℕ → Type 
 pub record Node (d : List ℕ) (at : ℕ) (before : List Record) (slot p : ℕ) : Type 0 where
   pub is : Record
   pub next : ℕ
-  pub found : found_in d p ≡ Whole is next
+  pub found : found_in d p ≡ Ok (Whole is next)
   pub among : (test : Record → Bool) → test is ≡ true → some test before ≡ true
   pub early : p + 21 ≤ at
   pub above : slot < 2 + p / 21 * 2

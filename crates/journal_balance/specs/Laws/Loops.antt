@@ -1,10 +1,8 @@
 -- The balance's loop over a journal: a record says how far it has come, with a law for each thing that it meets.
-use Rattle.std.specs.Prelude.{ℕ, ◌+◌, ◌*◌, ◌^◌, ◌≤◌, ◌<◌, ◌≡◌, refl, false, List, [], ◌∷◌, ℤ, pos, ◌-ℤ◌, length}
+use Rattle.std.specs.Prelude.{ℕ, ◌+◌, ◌*◌, ◌^◌, ◌≤◌, ◌<◌, ◌≡◌, refl, false, List, [], ◌∷◌, ℤ, pos, ◌-ℤ◌, length, Ok, Err, Option}
 use Rattle.std.proofs.Common.{ap, sym, ◌∙◌, zero-add, add-zero, add_assoc, arith}
 use Rattle.journal.specs.declared.Refusal.TheVariants.{TooLong}
 use Rattle.journal.specs.declared.Record.{Record}
-use Rattle.journal_read.specs.declared.Tail.{Tail}
-use Rattle.journal_balance.specs.declared.Balanced.TheVariants.{Amount, Refused as BalancedRefused}
 use Rattle.journal_balance.specs.declared.Sums.{Sums}
 use Rattle.journal.specs.Record.{debit_kind, top_up_kind, length_of, kind_at, body_at, max_journal}
 use Rattle.journal_read.specs.Reader.{Journal, holds, refused, after, journal_of, tail_of}
@@ -24,7 +22,7 @@ pub total-more : (kind card : ℕ) (before : List Record) (r : Record) (rs : Lis
 unfolding total
 total-more kind card before r rs = refl
 
-pub balance_long : (d : List ℕ) (card : ℕ) → max_journal < length d → balance_in d card ≡ BalancedRefused TooLong
+pub balance_long : (d : List ℕ) (card : ℕ) → max_journal < length d → balance_in d card ≡ Err TooLong
 unfolding balance_in
 balance_long d card h = ap (settled card (length d)) (journal_long d h)
 
@@ -80,8 +78,8 @@ module _ (d : List ℕ) (card : ℕ) (s : Sums) (at : ℕ) (b : Balancing d card
       least : (n : ℕ) → (n ≡ 0 → ⊥) → t.ups + t.downs ≤ (at + n) * 2 ^ 32
       least n p = omega (arith, b.small)
 
-  pub balancing_last : (z : ℤ) (t : Tail) → z ≡ pos s.ups -ℤ pos s.downs → tail_of at (length d) ≡ t
-      → settled_from card (length d) b.before s.ups s.downs (holds [] at) ≡ Amount z t
+  pub balancing_last : (z : ℤ) (t : Option ℕ) → z ≡ pos s.ups -ℤ pos s.downs → tail_of at (length d) ≡ t
+      → settled_from card (length d) b.before s.ups s.downs (holds [] at) ≡ Ok (record { balance = z; tail = t })
   balancing_last z t e f =
       rw (
         total-none top_up_kind card b.before,

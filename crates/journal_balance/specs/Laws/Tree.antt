@@ -1,6 +1,6 @@
 -- The tree of the records passed. A slot that has a place keeps it, so a walk that met a record meets it again: only an empty slot at a walk's end is filled. A walk that ends at
 -- an empty slot has met no record of its name, and each one of the card that was passed is met: so there was none.
-use Rattle.std.specs.Prelude.{ℕ, zero, suc, ◌+◌, ◌*◌, ◌/◌, ◌≤◌, ◌<◌, ◌≡◌, refl, Bool, true, false, ◌&&◌, ◌||◌, List, [], ◌∷◌, eqb, length, get_or, set, replicate}
+use Rattle.std.specs.Prelude.{ℕ, zero, suc, ◌+◌, ◌*◌, ◌/◌, ◌≤◌, ◌<◌, ◌≡◌, refl, Bool, true, false, ◌&&◌, ◌||◌, List, [], ◌∷◌, eqb, length, get_or, set, replicate, Ok}
 use Rattle.std.proofs.Common.{ap, sym, ◌∙◌, ⊎_elim, arith, length-set, get_or-set_same, get_or-set_other, eq-eqb, eqb-true}
 use Rattle.std.proofs.lemmas.List.{length-replicate}
 use Rattle.layout.proofs.Laws.Res.{eqb-cases, clash}
@@ -66,7 +66,7 @@ tree-start d card n e =
 
 -- ---- a record is passed
 
-module _ (d : List ℕ) (card at : ℕ) (tree : List ℕ) (t : Tree d card at tree) (r : Record) (next : ℕ) (e : found_in d at ≡ Whole r next) where
+module _ (d : List ℕ) (card at : ℕ) (tree : List ℕ) (t : Tree d card at tree) (r : Record) (next : ℕ) (e : found_in d at ≡ Ok (Whole r next)) where
   some-on : (test : Record → Bool) → some test t.before ≡ true → some test (r ∷ t.before) ≡ true
   some-on test h = some_more test r t.before ∙ ap (λ (b : Bool). test r || b) h ∙ or-true (test r)
 
@@ -160,7 +160,7 @@ module _ (d : List ℕ) (card at : ℕ) (tree : List ℕ) (t : Tree d card at tr
         go false q = q
 
     -- and this one is put there
-    module _ (r : Record) (next : ℕ) (e : found_in d at ≡ Whole r next) (k : kind_of r ≡ kind) (c : card_of r ≡ card) (y : retry_of r ≡ retry) (long : next ≡ at + 21) (size : at + 21 ≤ max_journal)
+    module _ (r : Record) (next : ℕ) (e : found_in d at ≡ Ok (Whole r next)) (k : kind_of r ≡ kind) (c : card_of r ≡ card) (y : retry_of r ≡ retry) (long : next ≡ at + 21) (size : at + 21 ≤ max_journal)
         (above : slot < 2 + at / 21 * 2) where
       in' : slot < length tree
       in' = omega (arith, t.size, size, above)
@@ -205,10 +205,10 @@ module _ (d : List ℕ) (at kind card retry : ℕ) (o : Offers d at kind card re
   long-here : length_of (kind_at d at) ≡ 21
   long-here = ap length_of (sym o.kind-is) ∙ o.long
 
-  offers_found : found_in d at ≡ Whole (body_at (kind_at d at) d at) (at + 21)
+  offers_found : found_in d at ≡ Ok (Whole (body_at (kind_at d at) d at) (at + 21))
   offers_found =
       let l = long-here in
-      found-whole d at (omega (arith, o.inside)) (λ z. absurd (omega (arith, l, z))) (omega (arith, l, o.inside)) ∙ ap (λ (n : ℕ). Whole (body_at (kind_at d at) d at) (at + n)) l
+      found-whole d at (omega (arith, o.inside)) (λ z. absurd (omega (arith, l, z))) (omega (arith, l, o.inside)) ∙ ap (λ (n : ℕ). Ok (Whole (body_at (kind_at d at) d at) (at + n))) l
 
   module _ (tree : List ℕ) (t : Tree d card at tree) where
     pub offered-double : Met d tree kind card retry (root kind) retry → Tree d card (at + 21) tree

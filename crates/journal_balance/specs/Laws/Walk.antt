@@ -1,5 +1,5 @@
 -- The records that were passed: a walk goes on by the record that stands at its end.
-use Rattle.std.specs.Prelude.{ℕ, ◌≤◌, ◌<◌, ◌≡◌, refl, Bool, true, false, ◌||◌, List, [], ◌∷◌}
+use Rattle.std.specs.Prelude.{ℕ, ◌≤◌, ◌<◌, ◌≡◌, refl, Bool, true, false, ◌||◌, List, [], ◌∷◌, Ok}
 use Rattle.std.proofs.Common.{arith}
 use Rattle.journal.specs.declared.Record.{Record}
 use Rattle.journal.specs.declared.Found.TheVariants.{Whole}
@@ -25,7 +25,7 @@ module _ {d : List ℕ} {end : ℕ} {all : List Record} where
   walk-le here = omega arith
   walk-le {at} (step {next} {r} e w) = let m = found-moves d at r next e in omega (arith, walk-le w)
 
-  pub walk_more : {r : Record} {next : ℕ} {at : ℕ} {before : List Record} → Walk d end all at before → found_in d end ≡ Whole r next → Walk d next (r ∷ all) at before
+  pub walk_more : {r : Record} {next : ℕ} {at : ℕ} {before : List Record} → Walk d end all at before → found_in d end ≡ Ok (Whole r next) → Walk d next (r ∷ all) at before
   walk_more here f = step f here
   walk_more (step e w) f = step e (walk_more w f)
 
@@ -35,6 +35,6 @@ module _ {d : List ℕ} {end : ℕ} {all : List Record} where
   walk-over {at} (step {next} {r} e w) h = absurd (let m = found-moves d at r next e in omega (arith, walk-le w))
 
   pub walk-rest : {A : Type 0} {at : ℕ} {before : List Record} → Walk d end all at before → at < end
-      → ((r : Record) (next : ℕ) → found_in d at ≡ Whole r next → Walk d end all next (r ∷ before) → A) → A
+      → ((r : Record) (next : ℕ) → found_in d at ≡ Ok (Whole r next) → Walk d end all next (r ∷ before) → A) → A
   walk-rest here h k = absurd (omega arith)
   walk-rest (step {next} {r} e w) h k = k r next e w
