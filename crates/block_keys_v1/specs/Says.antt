@@ -1,20 +1,20 @@
--- What each case of a search's answer says: where it closed and its count, or the number of the refusal. No two cases say the same.
-use Rattle.std.specs.Prelude.{◌≡◌}
-use Rattle.std.proofs.Common.{ap, sym}
-use Rattle.layout.specs.Res.{Res, ok, refuse}
-use Rattle.layout.specs.Seek.{Found as FoundL, found_is}
-use Rattle.layout.proofs.Laws.Res.{ok-inj}
-use Rattle.basics.specs.Answers.{apart, refused-one}
-use Rattle.basics.specs.Number.{number}
+-- What a search's answer says: where it closed and its count, or the number of the refusal. No two say the same.
+use Rattle.std.specs.Prelude.{◌≡◌, Result}
+use Rattle.std.proofs.Common.{ap}
+use Rattle.layout.specs.Res.{Res}
+use Rattle.layout.specs.Seek.{Found, found_is}
+use Rattle.basics.specs.Answers.{says, says-one}
+use Rattle.basics.specs.declared.Refusal.{Refusal}
 use Rattle.block_keys_v1.specs.declared.Search.{Search}
-use Rattle.block_keys_v1.specs.declared.Search.TheVariants.{Found, Refused}
 
-abbrev pub says_search : Search → Res FoundL
-says_search (Found place reads) = ok (found_is place reads)
-says_search (Refused r) = refuse (number r)
+abbrev pub found_from : Search → Found
+found_from s = found_is s.place s.reads
 
-pub says_search-one : (a b : Search) → says_search a ≡ says_search b → a ≡ b
-says_search-one (Found p m) (Found q n) e = ap (λ (x : FoundL). Found x.place x.reads) (ok-inj e)
-says_search-one (Found p m) (Refused r) e = absurd (apart e)
-says_search-one (Refused r) (Found p m) e = absurd (apart (sym e))
-says_search-one (Refused r) (Refused q) e = ap Refused (refused-one e)
+abbrev pub says_search : Result Search Refusal → Res Found
+says_search = says found_from
+
+found_from-one : (a b : Search) → found_from a ≡ found_from b → a ≡ b
+found_from-one a b e = ap (λ (x : Found). record { place = x.place; reads = x.reads }) e
+
+pub says_search-one : (a b : Result Search Refusal) → says_search a ≡ says_search b → a ≡ b
+says_search-one = says-one found_from found_from-one

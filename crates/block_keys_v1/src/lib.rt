@@ -6,21 +6,22 @@
 ghost use Rattle.std.specs.Prelude.{◌≡◌, ◌≤◌, ◌<◌, ◌+◌, ◌-◌, ◌*◌, length};
 ghost use Rattle.layout.specs.Laws.Search.{search_on};
 ghost use Rattle.layout_v1.specs.Seek.{keeps_upper, key_passes};
+ghost use Rattle.basics.specs.Answers.{says_same};
 ghost use Rattle.basics.specs.Says.{says_order};
 ghost use Rattle.trailer.specs.Says.{trailer_from};
-ghost use Rattle.block_keys_v1.specs.Parts.{says_kept, Stands};
+ghost use Rattle.block_keys_v1.specs.Parts.{Stands};
 ghost use Rattle.block_keys_v1.specs.Promise.{ReadsFirst, MayShare, FindsRow};
 ghost use Rattle.block_keys_v1.specs.Says.{says_search};
 
 use basics::{IterationOrder, Refusal};
-use row_decode_v2::KeyRead;
+use row_decode_v2::KeyPlace;
 use trailer::Trailer;
 
 // Where the search's span closed, and how many keys it read.
 #[derive(Clone, Copy)]
-pub enum Search {
-    Found { place: usize, reads: usize },
-    Refused(Refusal),
+pub struct Search {
+    pub place: usize,
+    pub reads: usize,
 }
 
 // How a key stands to the target: how many bytes they begin with in common, and whether the search keeps the part above it.
@@ -30,33 +31,26 @@ struct Stand {
     keeps: bool,
 }
 
-#[derive(Clone, Copy)]
-enum Kept {
-    Is(bool),
-    Refused(Refusal),
-}
-
 // Where row 0's key lies: 15 for its offset and the next, then the key alone, which shares nothing. 18 for a trailer that is not the block's.
 // (`decode_first_key` in the Rust.)
-pub fn first_key(block: &[u8], t: Trailer) -> KeyRead
+pub fn first_key(block: &[u8], t: Trailer) -> Result<KeyPlace, Refusal>
     ensures { ReadsFirst block.now t result }
 {
     if !trailer::has_region(t, block.len(), 0) {
-        return KeyRead::Refused(Refusal::BadState);
+        return Err(Refusal::BadState);
     }
     let region = trailer::plain_region(block, t, 0);
     if region.end == 0 {
-        return KeyRead::Refused(Refusal::BadOffset);
+        return Err(Refusal::BadOffset);
     }
-    let size = t.size;
-    row_decode_v0::decode_key_only(&block[..size], region.start, region.end, 0)
+    row_decode_v0::decode_key_only(&block[..t.size], region.start, region.end, 0)
 }
 
 // How many bytes row `index` may share with a first key of `first_len` bytes: row 0 shares nothing.
 pub fn may_share(index: usize, first_len: usize) -> usize
     ensures { MayShare index first_len result }
 {
-    if index == 0 { 0 } else { first_len }
+    row_decode_v2::may_share(index == 0, first_len)
 }
 
 // Ascending, the search keeps the part above a key that is below the target; descending, above one that is at or below it.
@@ -91,30 +85,26 @@ fn keeps_above(
     whole: Stand,
     target: &[u8],
     index: usize,
-) -> Kept
+) -> Result<bool, Refusal>
     requires count_value { (t.size + (2 + 2 * t.count) ≡ length block.now) × (index < t.count) }
     requires stands { Stands (says_order order) first.now target.now whole }
-    ensures { says_kept result ≡ key_passes block.now (trailer_from t) first.now (keeps_upper (says_order order) target.now) index }
+    ensures { says_same result ≡ key_passes block.now (trailer_from t) first.now (keeps_upper (says_order order) target.now) index }
 {
     let region = trailer::plain_region(block, t, index);
     if region.end == 0 {
-        return Kept::Refused(Refusal::BadOffset);
+        return Err(Refusal::BadOffset);
     }
-    let size = t.size;
-    let rows = &block[..size];
+    let rows = &block[..t.size];
     let most = may_share(index, first.len());
-    let k = row_decode_v0::decode_key_only(rows, region.start, region.end, most);
-    let KeyRead::Read(key) = k else {
-        return Kept::Refused(row_decode_v2::key_refusal(k));
-    };
+    let key = row_decode_v0::decode_key_only(rows, region.start, region.end, most)?;
     let shared = key.shared;
     if whole.common < shared {
-        return Kept::Is(whole.keeps);
+        return Ok(whole.keeps);
     }
     let from = key.suffix_at;
     let to = from + key.suffix_len;
     let rest = held_against(order, &rows[from..to], &target[shared..]);
-    Kept::Is(rest.keeps)
+    Ok(rest.keeps)
 }
 
 // The first row from `low` on, and before `high`, that the search does not keep the part above of; `high` where there is none. `reads` keys were read before.
@@ -128,42 +118,46 @@ fn search_rows(
     low: usize,
     high: usize,
     reads: usize,
-) -> Search
+) -> Result<Search, Refusal>
     requires count_value { (t.size + (2 + 2 * t.count) ≡ length block.now) × (high ≤ t.count) }
     requires low_bound { reads + (high - low) ≤ t.count }
     requires stands { Stands (says_order order) first.now target.now whole }
     ensures { says_search result ≡ search_on (key_passes block.now (trailer_from t) first.now (keeps_upper (says_order order) target.now)) low high reads }
 {
     if high <= low {
-        return Search::Found { place: low, reads };
+        return Ok(Search { place: low, reads });
     }
     let mid = low + (high - low) / 2;
-    let kept = keeps_above(block, t, order, first, whole, target, mid);
-    let up = mid + 1;
-    let more = reads + 1;
-    match kept {
-        Kept::Is(upper) => {
-            if upper {
-                search_rows(block, t, order, first, whole, target, up, high, more)
-            } else {
-                search_rows(block, t, order, first, whole, target, low, mid, more)
-            }
-        }
-        Kept::Refused(refusal) => Search::Refused(refusal),
+    let upper = keeps_above(block, t, order, first, whole, target, mid)?;
+    if upper {
+        search_rows(
+            block,
+            t,
+            order,
+            first,
+            whole,
+            target,
+            mid + 1,
+            high,
+            reads + 1,
+        )
+    } else {
+        search_rows(block, t, order, first, whole, target, low, mid, reads + 1)
     }
 }
 
 // The first row that is not below the target, descending the first above it; the count where there is none. Row 0's key comes first, and is not counted.
 // Answers 18 for a trailer that is not the block's, and what reading a key answers.
-pub fn find_row(block: &[u8], t: Trailer, order: IterationOrder, target: &[u8]) -> Search
+pub fn find_row(
+    block: &[u8],
+    t: Trailer,
+    order: IterationOrder,
+    target: &[u8],
+) -> Result<Search, Refusal>
     ensures { FindsRow block.now t order target.now result }
 {
-    let k = first_key(block, t);
-    let KeyRead::Read(key) = k else {
-        return Search::Refused(row_decode_v2::key_refusal(k));
-    };
-    let size = t.size;
-    let rows = &block[..size];
+    let key = first_key(block, t)?;
+    let rows = &block[..t.size];
     let from = key.suffix_at;
     let to = from + key.suffix_len;
     let first = &rows[from..to];

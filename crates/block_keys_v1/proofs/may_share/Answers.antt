@@ -1,9 +1,14 @@
--- `may_share` keeps its promise: its one test is the definition's.
-use borrow.Author.Tests.{eq-eqb, ne_eqb}
+-- `may_share` keeps its promise: row 0 is the one restart.
+use Prim.Native.Nat.{ℕ}
+use mathlib.Core.Path.{◌≡◌, refl, ◌∙◌}
+use lib.Dec.{eqb}
+use mathlib.Core.Bool.{Bool, true, false, cond}
+use Rattle.layout.specs.RowRead.{may_share}
 use Rattle.block_keys_v1.proofs.may_share.Goals as goal
 
-pub returns-then-index-eq0 : goal.returns-then-index-eq0
-returns-then-index-eq0 c = simp (eq-eqb _ _ c.if-index-eq0.true)
+same : (restart : Bool) (n : ℕ) → may_share restart n ≡ cond restart 0 n
+same true n = refl
+same false n = refl
 
-pub returns-else-index-eq0 : goal.returns-else-index-eq0
-returns-else-index-eq0 c = simp (ne_eqb _ _ c.if-index-eq0.false)
+pub returns : goal.returns
+returns c = c.may_share.ensures ∙ same (eqb c.args.index 0) c.args.first_len
