@@ -23,24 +23,24 @@ use Rattle.block_check_v2.specs.Laws.{may-told}
 use Rattle.block_check_v1.specs.declared.Passed.{Passed}
 use Rattle.block_check_v1.specs.Walk.{Stands}
 
-abbrev pub passed_from : ℕ → ℕ → ℕ → ℕ → ℕ → ℕ → Passed
-passed_from rows len s at n seq = record { rows = rows; first_len = len; shared = s; suffix_at = at; suffix_len = n; seq = seq }
+abbrev pub passed_from : ℕ → ℕ → ℕ → ℕ → ℕ → Passed
+passed_from len s at n seq = record { first_len = len; shared = s; suffix_at = at; suffix_len = n; seq = seq }
 
 -- the bytes that are lent for a suffix, after those that are shared
 abbrev pub key_lent : List ℕ → ℕ → ℕ → ℕ → Key
 key_lent d s at n = take s (drop first_at d) ++ take (at + n - at) (drop at d)
 
-module _ (b : List ℕ) (t : Trailer) (p : Passed) (st : Stands b t p) (h : p.rows < t.count) where
-  pub walk-region : {n : ℕ} → region_of b t p.rows ≡ refuse n → refuse n ≡ rows_of b t
+module _ (b : List ℕ) (t : Trailer) (k : ℕ) (p : Passed) (st : Stands b t k p) (h : k < t.count) where
+  pub walk-region : {n : ℕ} → region_of b t k ≡ refuse n → refuse n ≡ rows_of b t
   walk-region e =
-      checking-no b t p.rows p.first_len p.shared p.suffix_at p.suffix_len p.seq st h
-      (row-region b t p.rows p.first_len p.shared p.suffix_at p.suffix_len p.seq st.first e)
+      checking-no b t k p.first_len p.shared p.suffix_at p.suffix_len p.seq st h
+      (row-region b t k p.first_len p.shared p.suffix_at p.suffix_len p.seq st.first e)
 
-  module _ (g : Region) (e : region_of b t p.rows ≡ ok g) where
+  module _ (g : Region) (e : region_of b t k ≡ ok g) where
     pub walk_no : {n : ℕ} → read_row (data_of b t) g.start g.end p.first_len ≡ refuse n → refuse n ≡ rows_of b t
     walk_no q =
-        checking-no b t p.rows p.first_len p.shared p.suffix_at p.suffix_len p.seq st h
-        (row-no b t p.rows p.first_len p.shared p.suffix_at p.suffix_len p.seq st.first g e q)
+        checking-no b t k p.first_len p.shared p.suffix_at p.suffix_len p.seq st h
+        (row-no b t k p.first_len p.shared p.suffix_at p.suffix_len p.seq st.first g e q)
 
     module _ (r : RowRead) (q : read_row (data_of b t) g.start g.end p.first_len ≡ ok r) where
       ends : RowEnds (data_of b t) g.start p.first_len r
@@ -67,21 +67,21 @@ module _ (b : List ℕ) (t : Trailer) (p : Passed) (st : Stands b t p) (h : p.ro
 
         pub walk-falls : m ≡ false → refuse 17 ≡ rows_of b t
         walk-falls f =
-            checking-no b t p.rows p.first_len p.shared p.suffix_at p.suffix_len p.seq st h
-            (row-falls b t p.rows p.first_len p.shared p.suffix_at p.suffix_len p.seq st.first g e r q (order f))
+            checking-no b t k p.first_len p.shared p.suffix_at p.suffix_len p.seq st h
+            (row-falls b t k p.first_len p.shared p.suffix_at p.suffix_len p.seq st.first g e r q (order f))
 
         -- row 0 starts at 0
-        starts : all_offsets b t ≡ ok tt → p.rows ≡ 0 → g.start ≡ 0
-        starts a z = (region_of-tells b t p.rows g e).from ∙ ap (offset_at b t) z ∙ (all_offsets-tell b t tt a).first
+        starts : all_offsets b t ≡ ok tt → k ≡ 0 → g.start ≡ 0
+        starts a z = (region_of-tells b t k g e).from ∙ ap (offset_at b t) z ∙ (all_offsets-tell b t tt a).first
 
-        pub walk-on : m ≡ true → all_offsets b t ≡ ok tt → (len : ℕ) → len ≡ cond (eqb p.rows 0) r.suffix_len p.first_len
-            → Stands b t (passed_from (p.rows + 1) len r.shared r.suffix_at r.suffix_len r.seq)
+        pub walk-on : m ≡ true → all_offsets b t ≡ ok tt → (len : ℕ) → len ≡ cond (eqb k 0) r.suffix_len p.first_len
+            → Stands b t (k + 1) (passed_from len r.shared r.suffix_at r.suffix_len r.seq)
         walk-on f a len is =
             let z = starts a in
-            rw (is, add-one p.rows)
-            (checking-more b t p.rows p.first_len p.shared p.suffix_at p.suffix_len p.seq st h
-            (len_after p.rows p.first_len r) r.shared r.suffix_at r.suffix_len r.seq
-            (first_on b t p.rows p.first_len p.shared p.suffix_at p.suffix_len p.seq st.first g e r q z)
-            (shares-on b t p.rows p.first_len p.shared p.suffix_at p.suffix_len p.seq st.first g e r q z)
+            rw (is, add-one k)
+            (checking-more b t k p.first_len p.shared p.suffix_at p.suffix_len p.seq st h
+            (len_after k p.first_len r) r.shared r.suffix_at r.suffix_len r.seq
+            (first_on b t k p.first_len p.shared p.suffix_at p.suffix_len p.seq st.first g e r q z)
+            (shares-on b t k p.first_len p.shared p.suffix_at p.suffix_len p.seq st.first g e r q z)
             walk-suffix
-            (row-passed b t p.rows p.first_len p.shared p.suffix_at p.suffix_len p.seq st.first g e r q z (order f)))
+            (row-passed b t k p.first_len p.shared p.suffix_at p.suffix_len p.seq st.first g e r q z (order f)))

@@ -1,8 +1,8 @@
 -- What the public function promises: the definition's answer, for any bytes.
-use Rattle.std.specs.Prelude.{ℕ, ◌≡◌, List}
+use Rattle.std.specs.Prelude.{ℕ, ◌≡◌, List, Result}
 use Rattle.layout_v1.specs.Check.{check}
-use Rattle.block_check_v2.specs.Says.{says_checked}
-use Rattle.block_check_v2.specs.declared.Checked.{Checked}
+use Rattle.basics.specs.Answers.{says_same}
+use Rattle.basics.specs.declared.Refusal.{Refusal}
 
-abbrev pub Checks : List ℕ → Checked → Type 0
-Checks b r = says_checked r ≡ check b
+abbrev pub Checks : List ℕ → Result ℕ Refusal → Type 0
+Checks b r = says_same r ≡ check b

@@ -1,33 +1,28 @@
 -- `check` keeps its promise: 14, all of 15, then the rows.
 use mathlib.Core.Path.{◌≡◌, sym, ◌∙◌}
 use Rattle.layout.specs.Res.{ok}
-use Rattle.layout.specs.Trailer.{trailer_of, all_offsets}
+use Rattle.layout.specs.Trailer.{all_offsets}
 use Rattle.layout_v1.proofs.Laws.Check.{check-trailer, check-offsets, check-rows}
-use Rattle.basics.specs.Answers.{yes, says_verdict}
+use Rattle.basics.specs.Answers.{handed-on}
 use Rattle.trailer.specs.Laws.{offsets-used}
-use Rattle.trailer.specs.Plain.{trailer-is, trailer-not}
 use Rattle.trailer.specs.Says.{trailer_from}
-use Rattle.block_check_v1.proofs.check.Goals.{Else-t-eq0, In_default}
+use Rattle.block_check_v1.proofs.check.Goals.{In_ok-all_offsets}
 use Rattle.block_check_v1.proofs.check.Goals as goal
 
--- the trailer that was read
-read : (k : Else-t-eq0) → trailer_of k.args.block.now ≡ ok (trailer_from k.plain_trailer-t.result)
-read k = trailer-is _ _ k.plain_trailer-t.ensures k.if-t-eq0.false
-
 -- the offsets that were tested
-rises : (o : In_default) → all_offsets o.args.block.now (trailer_from o.plain_trailer-t.result) ≡ ok tt
-rises o = sym (offsets-used _ _ (trailer-is _ _ o.plain_trailer-t.ensures o.if-t-eq0.false)) ∙ yes says_verdict o.all_offsets-tested.ensures o.in_default.is
+rises : (o : In_ok-all_offsets) → all_offsets o.args.block.now (trailer_from o.in_ok-t.t) ≡ ok tt
+rises o = sym (offsets-used _ _ (sym o.in_ok-t.ensures)) ∙ sym o.in_ok-all_offsets.ensures
 
-pub returns-then-t-eq0 : goal.returns-then-t-eq0
-returns-then-t-eq0 c = check-trailer _ (sym (trailer-not _ (trailer_from c.plain_trailer-t.result) c.plain_trailer-t.ensures c.if-t-eq0.true))
+pub returns-in_err-t : goal.returns-in_err-t
+returns-in_err-t c = handed-on (λ v. v) _ _ c.from_residual.ensures.1 (check-trailer _ (sym c.in_err-t.ensures))
 
-pub returns-in-Refused : goal.returns-in-Refused
-returns-in-Refused c =
-    let e = read (goal.at.returns-in-Refused c).Else-t-eq0 in
-    check-offsets _ _ e (sym (offsets-used _ _ e) ∙ yes says_verdict c.all_offsets-tested.ensures c.in-Refused.is)
+pub returns-in_err-all_offsets : goal.returns-in_err-all_offsets
+returns-in_err-all_offsets c =
+    let e = sym c.in_ok-t.ensures in
+    handed-on (λ v. v) _ _ c.from_residual-in_err-all_offsets.ensures.1 (check-offsets _ _ e (sym (offsets-used _ _ e) ∙ sym c.in_err-all_offsets.ensures))
 
-pub check_rows-requires : goal.check_rows-requires
-check_rows-requires c = record { block_value = read (goal.at.check_rows-requires c).Else-t-eq0; t_value = rises (goal.at.check_rows-requires c).In_default }
+pub check_rows-requires-clause-t_value : goal.check_rows-requires-clause-t_value
+check_rows-requires-clause-t_value c = rises (goal.at.check_rows-requires-clause-t_value c).In_ok-all_offsets
 
 pub returns : goal.returns
-returns c = check-rows _ _ (read (goal.at.returns c).Else-t-eq0) (rises (goal.at.returns c).In_default) c.check_rows.ensures
+returns c = check-rows _ _ (sym c.in_ok-t.ensures) (rises (goal.at.returns c).In_ok-all_offsets) c.check_rows.ensures

@@ -2,8 +2,8 @@
 use borrow.Author.Tests.{eq-eqb, ne_eqb}
 use Rattle.block_check_v1.proofs.first_after.Goals as goal
 
-pub returns-then-rows-eq0 : goal.returns-then-rows-eq0
-returns-then-rows-eq0 c = rw (eq-eqb c.args.rows 0 c.if-rows-eq0.true)
+pub returns-then-r-eq0 : goal.returns-then-r-eq0
+returns-then-r-eq0 c = rw (eq-eqb c.args.r 0 c.if-r-eq0.true)
 
-pub returns-else-rows-eq0 : goal.returns-else-rows-eq0
-returns-else-rows-eq0 c = rw (ne_eqb c.args.rows 0 c.if-rows-eq0.false)
+pub returns-else-r-eq0 : goal.returns-else-r-eq0
+returns-else-r-eq0 c = rw (ne_eqb c.args.r 0 c.if-r-eq0.false)
