@@ -30,7 +30,8 @@ use Rattle.layout.proofs.Laws.Place.{fixed_at-eight}
 use Rattle.layout.specs.Laws.Plain.{PlainTells}
 use Rattle.layout.proofs.Laws.Plain.{or-false, fixed_at-is, plain_at-tells, plain-read}
 use Rattle.layout.proofs.Laws.Trailer.{trailer_of-tells, region_of-tells}
-use Rattle.trailer.specs.Plain.{region_or, region_by, region-is, region_by-tells}
+use Rattle.trailer.specs.Handed.{region_by}
+use Rattle.trailer.specs.Joined.{region_by-tells}
 use Rattle.step_plain_v2.specs.declared.Ahead.{Ahead}
 use Rattle.step_plain_v2.specs.declared.Stepped.{Stepped}
 use Rattle.step_plain_v2.specs.Ahead.{no_ahead, ahead_with, ahead_at, ascends, plain_step_of, no_step, stepped_of, stepped_to, row_made, Moved}
@@ -48,20 +49,20 @@ module _ (b : List ℕ) (region at number key_len held room : ℕ) where
   unfolding ahead_at
   ahead-odd e = rw e
 
-  module _ (e : (ltb max_key key_len || not (eqb held max_key)) ≡ false) (g : Region) (q : g ≡ region_or (region_by b region)) where
-    pub ahead_none : g.end ≡ 0 → no_ahead ≡ ahead_at b region at number key_len held room
+  module _ (e : (ltb max_key key_len || not (eqb held max_key)) ≡ false) where
+    pub ahead_none : {n : ℕ} → refuse n ≡ region_by b region → no_ahead ≡ ahead_at b region at number key_len held room
     unfolding ahead_at
-    ahead_none z = rw (e, ← q, eq-eqb g.end 0 z)
+    ahead_none q = rw (e, ← q)
 
-    module _ (z : g.end ≡ 0 → ⊥) where
+    module _ (g : Region) (q : ok g ≡ region_by b region) where
       pub ahead_before : at < g.start → no_ahead ≡ ahead_at b region at number key_len held room
       unfolding ahead_at
-      ahead_before h = rw (e, ← q, ne_eqb g.end 0 z, lt-ltb at g.start h)
+      ahead_before h = rw (e, ← q, lt-ltb at g.start h)
 
       module _ (h : g.start ≤ at) where
         pub ahead_wrong : wrong_after (at - g.start) number ≡ true → no_ahead ≡ ahead_at b region at number key_len held room
         unfolding ahead_at
-        ahead_wrong w = rw (e, ← q, ne_eqb g.end 0 z, le-ltb at g.start h, w)
+        ahead_wrong w = rw (e, ← q, le-ltb at g.start h, w)
 
       module _ (h : g.start ≤ at) (w : wrong_after (at - g.start) number ≡ false) {most : ℕ} (m : most ≡ cond (eqb at g.start) 0 key_len) (p : Plain) (r : p ≡ plain_at (take g.end b) at g.end most) where
         row_is_lem : p ≡ plain_at (take g.end b) at g.end (may_share (eqb at g.start) key_len)
@@ -69,7 +70,7 @@ module _ (b : List ℕ) (region at number key_len held room : ℕ) where
 
         pub ahead-not : p.next ≡ 0 → no_ahead ≡ ahead_at b region at number key_len held room
         unfolding ahead_at
-        ahead-not n = rw (e, ← q, ne_eqb g.end 0 z, le-ltb at g.start h, w, ← row_is_lem, eq-eqb p.next 0 n)
+        ahead-not n = rw (e, ← q, le-ltb at g.start h, w, ← row_is_lem, eq-eqb p.next 0 n)
 
         module _ (n : p.next ≡ 0 → ⊥) where
           pub ahead-tells : PlainTells (take g.end b) at g.end (may_share (eqb at g.start) key_len) p
@@ -77,16 +78,16 @@ module _ (b : List ℕ) (region at number key_len held room : ℕ) where
 
           pub ahead-narrow : room < p.shared + p.unshared → no_ahead ≡ ahead_at b region at number key_len held room
           unfolding ahead_at
-          ahead-narrow k = rw (e, ← q, ne_eqb g.end 0 z, le-ltb at g.start h, w, ← row_is_lem, ne_eqb p.next 0 n, lt-ltb room (p.shared + p.unshared) k)
+          ahead-narrow k = rw (e, ← q, le-ltb at g.start h, w, ← row_is_lem, ne_eqb p.next 0 n, lt-ltb room (p.shared + p.unshared) k)
 
           pub ahead-good : p.shared + p.unshared ≤ room → ahead_with g.reach p ≡ ahead_at b region at number key_len held room
           unfolding ahead_at
-          ahead-good k = rw (e, ← q, ne_eqb g.end 0 z, le-ltb at g.start h, w, ← row_is_lem, ne_eqb p.next 0 n, le-ltb room (p.shared + p.unshared) k)
+          ahead-good k = rw (e, ← q, le-ltb at g.start h, w, ← row_is_lem, ne_eqb p.next 0 n, le-ltb room (p.shared + p.unshared) k)
 
--- a region that is good ends inside the block; one that is refused ends at 0
-pub region-inside : (b : List ℕ) (region : ℕ) (g : Region) → g ≡ region_or (region_by b region) → (g.end ≡ 0 → ⊥) → g.end ≤ length b
-region-inside b region g q z =
-    region_by-tells b region g (region-is (region_by b region) g q z) λ t read inside bounds.
+-- a region that is good ends inside the block
+pub region-inside : (b : List ℕ) (region : ℕ) (g : Region) → ok g ≡ region_by b region → g.end ≤ length b
+region-inside b region g q =
+    region_by-tells b region g (sym q) λ t read inside bounds.
     omega (arith, (region_of-tells b t region g bounds).inside, (trailer_of-tells b t read).0)
 
 -- ---- what a plain step stands on
@@ -135,54 +136,55 @@ module _ (b : List ℕ) (region at number key_len held room : ℕ) (a : Ahead) (
   never : {A : Type 0} → no_ahead ≡ ahead_at b region at number key_len held room → A
   never q = absurd (n (ap (λ (x : Ahead). x.next) (e ∙ sym q)))
 
-  abbrev g₀ : Region
-  g₀ = region_or (region_by b region)
+  module _ (g : Region) (q : ok g ≡ region_by b region) where
+    abbrev p₀ : Plain
+    p₀ = plain_at (take g.end b) at g.end (cond (eqb at g.start) 0 key_len)
 
-  abbrev p₀ : Plain
-  p₀ = plain_at (take g₀.end b) at g₀.end (cond (eqb at g₀.start) 0 key_len)
+    last : (o : (ltb max_key key_len || not (eqb held max_key)) ≡ false) (h : g.start ≤ at) (w : wrong_after (at - g.start) number ≡ false) (r : p₀.next ≡ 0 → ⊥) → p₀.shared + p₀.unshared ≤ room → Standing b region at number key_len held room a
+    last o h w r k =
+        let u = or-false {a = ltb max_key key_len} {b = not (eqb held max_key)} o in
+        region_by-tells b region g (sym q) λ t read inside bounds.
+        let v = region_of-tells b t region g bounds in
+        let size = (trailer_of-tells b t read).0 in
+        record {
+          t = t;
+          g = g;
+          p = p₀;
+          few = ltb-false max_key key_len u.0;
+          whole = eqb-true held max_key (was (eqb held max_key) u.1);
+          read = read;
+          inside = inside;
+          bounds = bounds;
+          from = h;
+          right = w;
+          plain = cut b g.end t.size at g.end (may_share (eqb at g.start) key_len) p₀ (omega arith) v.inside (omega arith) (ahead-tells b region at number key_len held room o g q h w refl p₀ refl r);
+          fits = k;
+          is = e ∙ sym (ahead-good b region at number key_len held room o g q h w refl p₀ refl r k);
+        }
 
-  last : (o : (ltb max_key key_len || not (eqb held max_key)) ≡ false) (z : g₀.end ≡ 0 → ⊥) (h : g₀.start ≤ at) (w : wrong_after (at - g₀.start) number ≡ false) (r : p₀.next ≡ 0 → ⊥) → p₀.shared + p₀.unshared ≤ room → Standing b region at number key_len held room a
-  last o z h w r k =
-      let u = or-false {a = ltb max_key key_len} {b = not (eqb held max_key)} o in
-      region_by-tells b region g₀ (region-is (region_by b region) g₀ refl z) λ t read inside bounds.
-      let v = region_of-tells b t region g₀ bounds in
-      let size = (trailer_of-tells b t read).0 in
-      record {
-        t = t;
-        g = g₀;
-        p = p₀;
-        few = ltb-false max_key key_len u.0;
-        whole = eqb-true held max_key (was (eqb held max_key) u.1);
-        read = read;
-        inside = inside;
-        bounds = bounds;
-        from = h;
-        right = w;
-        plain = cut b g₀.end t.size at g₀.end (may_share (eqb at g₀.start) key_len) p₀ (omega arith) v.inside (omega arith) (ahead-tells b region at number key_len held room o g₀ refl z h w refl p₀ refl r);
-        fits = k;
-        is = e ∙ sym (ahead-good b region at number key_len held room o g₀ refl z h w refl p₀ refl r k);
-      }
+    stands_in : (ltb max_key key_len || not (eqb held max_key)) ≡ false → Standing b region at number key_len held room a
+    stands_in o =
+        ⊎_elim (λ h. never (ahead_before b region at number key_len held room o g q h.1))
+        (λ h.
+        ⊎_elim (λ w. never (ahead_wrong b region at number key_len held room o g q h.1 w))
+        (λ w.
+        ⊎_elim (λ r. never (ahead-not b region at number key_len held room o g q h.1 w refl p₀ refl r.1))
+        (λ r.
+        ⊎_elim (λ k. never (ahead-narrow b region at number key_len held room o g q h.1 w refl p₀ refl r.1 k.1))
+        (λ k. last o h.1 w r.1 k.1)
+        (ltb-cases room (p₀.shared + p₀.unshared)))
+        (eqb-cases p₀.next 0))
+        (bool_cases (wrong_after (at - g.start) number)))
+        (ltb-cases at g.start)
 
   pub standing : Standing b region at number key_len held room a
   standing =
-      ⊎_elim (λ o. never (ahead-odd b region at number key_len held room o))
-      (λ o.
-      ⊎_elim (λ z. never (ahead_none b region at number key_len held room o g₀ refl z.1))
-      (λ z.
-      ⊎_elim (λ h. never (ahead_before b region at number key_len held room o g₀ refl z.1 h.1))
-      (λ h.
-      ⊎_elim (λ w. never (ahead_wrong b region at number key_len held room o g₀ refl z.1 h.1 w))
-      (λ w.
-      ⊎_elim (λ r. never (ahead-not b region at number key_len held room o g₀ refl z.1 h.1 w refl p₀ refl r.1))
-      (λ r.
-      ⊎_elim (λ k. never (ahead-narrow b region at number key_len held room o g₀ refl z.1 h.1 w refl p₀ refl r.1 k.1))
-      (λ k. last o z.1 h.1 w r.1 k.1)
-      (ltb-cases room (p₀.shared + p₀.unshared)))
-      (eqb-cases p₀.next 0))
-      (bool_cases (wrong_after (at - g₀.start) number)))
-      (ltb-cases at g₀.start))
-      (eqb-cases g₀.end 0))
+      ⊎_elim (λ o. never (ahead-odd b region at number key_len held room o)) (λ o. go o (region_by b region) refl)
       (bool_cases (ltb max_key key_len || not (eqb held max_key)))
+    where
+      go : (ltb max_key key_len || not (eqb held max_key)) ≡ false → (x : Res Region) → x ≡ region_by b region → Standing b region at number key_len held room a
+      go o (ok g) q = stands_in g q o
+      go o (refuse n) q = never (ahead_none b region at number key_len held room o q)
 
 -- the numbers of a plain step, for the sums and places that are made of them
 pub record Numbers (b : List ℕ) (region at number : ℕ) (key out : List ℕ) (a : Ahead) : Type 0 where

@@ -10,7 +10,7 @@ use Rattle.layout.specs.Trailer.{Region}
 use Rattle.layout.specs.Plain.{Plain, plain_at}
 use Rattle.layout.specs.Number.{wrong_after}
 use Rattle.layout.specs.Cursor.{ascending, Cursor, kept_cursor, Answer, found, done, Step, next}
-use Rattle.trailer.specs.Plain.{region_or, region_by}
+use Rattle.trailer.specs.Handed.{region_by}
 use Rattle.step_plain_v2.specs.declared.Ahead.{Ahead}
 use Rattle.step_plain_v2.specs.declared.Stepped.{Stepped}
 
@@ -24,19 +24,22 @@ ahead_with reach p = record { next = p.next; reach = reach; shared = p.shared; u
 abbrev pub ahead_of : ℕ → ℕ → Plain → Ahead
 ahead_of reach room p = cond (eqb p.next 0) no_ahead (cond (ltb room (p.shared + p.unshared)) no_ahead (ahead_with reach p))
 
--- the row at `at` in a region, whose bytes end with it, after `number` rows; a region that is refused ends
--- at 0
+-- the row at `at` in a region, whose bytes end with it, after `number` rows
 abbrev pub ahead_in : List ℕ → Region → ℕ → ℕ → ℕ → ℕ → Ahead
 ahead_in b g at number key_len room =
-    cond (eqb g.end 0) no_ahead
-    (cond (ltb at g.start) no_ahead
+    cond (ltb at g.start) no_ahead
     (cond (wrong_after (at - g.start) number) no_ahead
-    (ahead_of g.reach room (plain_at (take g.end b) at g.end (may_share (eqb at g.start) key_len)))))
+    (ahead_of g.reach room (plain_at (take g.end b) at g.end (may_share (eqb at g.start) key_len))))
+
+-- there is none in a region that is refused
+abbrev pub ahead_by : List ℕ → Res Region → ℕ → ℕ → ℕ → ℕ → Ahead
+ahead_by b (ok g) at number key_len room = ahead_in b g at number key_len room
+ahead_by b (refuse n) at number key_len room = no_ahead
 
 -- `held` key bytes are lent
 unfoldable pub ahead_at : List ℕ → ℕ → ℕ → ℕ → ℕ → ℕ → ℕ → Ahead
 ahead_at b region at number key_len held room =
-    cond (ltb max_key key_len || not (eqb held max_key)) no_ahead (ahead_in b (region_or (region_by b region)) at number key_len room)
+    cond (ltb max_key key_len || not (eqb held max_key)) no_ahead (ahead_by b (region_by b region) at number key_len room)
 
 -- ---- the step
 

@@ -82,8 +82,7 @@ fn wrong_here(passed: usize, number: usize) -> bool
     basics::wrong_after(passed, number)
 }
 
-// All that the step tests, with nothing written. A region that is refused ends at 0; that is tested by
-// itself, so that the compiler knows its numbers after it.
+// All that the step tests, with nothing written.
 fn look_plain(
     block: &[u8],
     region: usize,
@@ -98,11 +97,9 @@ fn look_plain(
     if (basics::MAX_KEY < key_len) | (held != basics::MAX_KEY) {
         return no_ahead();
     }
-    let g = trailer::plain_region_at(block, region);
-    let end = g.end;
-    if end == 0 {
+    let Ok(g) = trailer::region_by(block, region) else {
         return no_ahead();
-    }
+    };
     if at < g.start {
         return no_ahead();
     }
@@ -110,6 +107,7 @@ fn look_plain(
         return no_ahead();
     }
     let most = pick(at == g.start, 0, key_len);
+    let end = g.end;
     let row = row_plain_v2::plain_at(&block[..end], at, end, most);
     if row.next == 0 {
         return no_ahead();

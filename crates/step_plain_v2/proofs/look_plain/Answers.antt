@@ -10,34 +10,34 @@ use Rattle.step_plain_v2.proofs.look_plain.Goals as goal
 pub returns-then-key_len-held : goal.returns-then-key_len-held
 returns-then-key_len-held c = c.no_ahead.ensures ∙ ahead-odd _ _ _ _ _ _ _ c.if-key_len-held.true
 
-pub returns-then-end-eq0 : goal.returns-then-end-eq0
-returns-then-end-eq0 c = c.no_ahead-then-end-eq0.ensures ∙ ahead_none _ _ _ _ _ _ _ c.if-key_len-held.false _ c.plain_region_at-g.ensures c.if-end-eq0.true
+pub returns-in_default : goal.returns-in_default
+returns-in_default c = c.no_ahead-in_default.ensures ∙ ahead_none _ _ _ _ _ _ _ c.if-key_len-held.false c.in_default.ensures
 
 pub returns-then-at-g : goal.returns-then-at-g
-returns-then-at-g c = c.no_ahead-then-at-g.ensures ∙ ahead_before _ _ _ _ _ _ _ c.if-key_len-held.false _ c.plain_region_at-g.ensures c.if-end-eq0.false c.if-at-g.true
+returns-then-at-g c = c.no_ahead-then-at-g.ensures ∙ ahead_before _ _ _ _ _ _ _ c.if-key_len-held.false _ c.in-Ok.ensures c.if-at-g.true
 
 pub returns-then-wrong_here : goal.returns-then-wrong_here
 returns-then-wrong_here c =
-    c.no_ahead-then-wrong_here.ensures ∙ ahead_wrong _ _ _ _ _ _ _ c.if-key_len-held.false _ c.plain_region_at-g.ensures c.if-end-eq0.false c.if-at-g.false (sym c.wrong_here.ensures ∙ c.if-wrong_here.true)
+    c.no_ahead-then-wrong_here.ensures ∙ ahead_wrong _ _ _ _ _ _ _ c.if-key_len-held.false _ c.in-Ok.ensures c.if-at-g.false (sym c.wrong_here.ensures ∙ c.if-wrong_here.true)
 
 pub slice_bounds-plain_at-end : goal.slice_bounds-plain_at-end
 slice_bounds-plain_at-end c =
-    sym (length-take-le _ _ (region-inside _ _ _ c.plain_region_at-g.ensures c.if-end-eq0.false))
+    sym (length-take-le _ _ (region-inside _ _ _ c.in-Ok.ensures))
 
 pub returns-then-row-eq0 : goal.returns-then-row-eq0
 returns-then-row-eq0 c =
-    c.no_ahead-then-row-eq0.ensures ∙ ahead-not _ _ _ _ _ _ _ c.if-key_len-held.false _ c.plain_region_at-g.ensures c.if-end-eq0.false c.if-at-g.false (sym c.wrong_here.ensures ∙ c.if-wrong_here.false) c.pick-most.ensures _ c.plain_at-row.ensures c.if-row-eq0.true
+    c.no_ahead-then-row-eq0.ensures ∙ ahead-not _ _ _ _ _ _ _ c.if-key_len-held.false _ c.in-Ok.ensures c.if-at-g.false (sym c.wrong_here.ensures ∙ c.if-wrong_here.false) c.pick-most.ensures _ c.plain_at-row.ensures c.if-row-eq0.true
 
 pub overflow_add-row : goal.overflow_add-row
 overflow_add-row c =
     let a = c.args in
-    let w = ahead-tells a.block.now a.region a.at a.number a.key_len a.held a.room c.if-key_len-held.false _ c.plain_region_at-g.ensures c.if-end-eq0.false c.if-at-g.false (sym c.wrong_here.ensures ∙ c.if-wrong_here.false) c.pick-most.ensures _ c.plain_at-row.ensures c.if-row-eq0.false in
+    let w = ahead-tells a.block.now a.region a.at a.number a.key_len a.held a.room c.if-key_len-held.false _ c.in-Ok.ensures c.if-at-g.false (sym c.wrong_here.ensures ∙ c.if-wrong_here.false) c.pick-most.ensures _ c.plain_at-row.ensures c.if-row-eq0.false in
     omega (arith, w.shared-small, w.unshared-small)
 
 pub returns-then-room-row : goal.returns-then-room-row
 returns-then-room-row c =
-    c.no_ahead-then-room-row.ensures ∙ ahead-narrow _ _ _ _ _ _ _ c.if-key_len-held.false _ c.plain_region_at-g.ensures c.if-end-eq0.false c.if-at-g.false (sym c.wrong_here.ensures ∙ c.if-wrong_here.false) c.pick-most.ensures _ c.plain_at-row.ensures c.if-row-eq0.false c.if-room-row.true
+    c.no_ahead-then-room-row.ensures ∙ ahead-narrow _ _ _ _ _ _ _ c.if-key_len-held.false _ c.in-Ok.ensures c.if-at-g.false (sym c.wrong_here.ensures ∙ c.if-wrong_here.false) c.pick-most.ensures _ c.plain_at-row.ensures c.if-row-eq0.false c.if-room-row.true
 
 pub returns : goal.returns
 returns c =
-    ahead-good _ _ _ _ _ _ _ c.if-key_len-held.false _ c.plain_region_at-g.ensures c.if-end-eq0.false c.if-at-g.false (sym c.wrong_here.ensures ∙ c.if-wrong_here.false) c.pick-most.ensures _ c.plain_at-row.ensures c.if-row-eq0.false c.if-room-row.false
+    ahead-good _ _ _ _ _ _ _ c.if-key_len-held.false _ c.in-Ok.ensures c.if-at-g.false (sym c.wrong_here.ensures ∙ c.if-wrong_here.false) c.pick-most.ensures _ c.plain_at-row.ensures c.if-row-eq0.false c.if-room-row.false
