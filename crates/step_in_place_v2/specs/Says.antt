@@ -1,17 +1,17 @@
--- What each case of an answer says: the values, or the number of the refusal.
-use Rattle.std.specs.Prelude.{ℕ, ◌≡◌, List}
+-- What a step's answer says: the values, or the number of the refusal.
+use Rattle.std.specs.Prelude.{ℕ, ◌≡◌, List, Result, Ok, Err}
 use Rattle.std.proofs.Common.{ap, sym, arith}
-use Rattle.layout.specs.Res.{Res, ok, refuse}
+use Rattle.layout.specs.Res.{Res, ok}
 use Rattle.layout.specs.RowRead.{RowRead as RowReadL}
 use Rattle.layout.specs.Cursor.{Answer, found, done, Step}
 use Rattle.layout.proofs.Laws.Res.{ok-inj}
-use Rattle.basics.specs.Answers.{apart, refused-one}
-use Rattle.basics.specs.Number.{number}
+use Rattle.basics.specs.Answers.{says, apart, refused-one}
+use Rattle.basics.specs.declared.Refusal.{Refusal}
 use Rattle.row_decode_v2.specs.Says.{row_from, row_from-one}
 use Rattle.place_v2.specs.declared.Place.{Place}
 use Rattle.place_v2.specs.Says.{view_in, view_in-one}
 use Rattle.step_in_place_v2.specs.declared.Moved.{Moved}
-use Rattle.step_in_place_v2.specs.declared.Moved.TheVariants.{Found, Done, Refused}
+use Rattle.step_in_place_v2.specs.declared.Moved.TheVariants.{Found, Done}
 
 -- what a step answers beside the key, which goes to the lent buffer: the row's region, its number there, and the row
 pub data Told : Type 0 where
@@ -25,16 +25,21 @@ told_of done = none
 abbrev pub told : Step → Res Told
 told s = ok (told_of s.answer)
 
-abbrev pub says_moved : Moved → Res Told
-says_moved (Found p region n r) = ok (row region n (row_from r))
-says_moved (Done p) = ok none
-says_moved (Refused r) = refuse (number r)
+abbrev pub moved_from : Moved → Told
+moved_from (Found p region n r) = row region n (row_from r)
+moved_from (Done p) = none
+
+abbrev pub says_moved : Result Moved Refusal → Res Told
+says_moved = says moved_from
+
+abbrev pub place_in : Moved → Place
+place_in (Found p region n r) = p
+place_in (Done p) = p
 
 -- a refusal leaves the place as it came
-abbrev pub place_after : Moved → Place → Place
-place_after (Found p region n r) came = p
-place_after (Done p) came = p
-place_after (Refused r) came = came
+abbrev pub place_after : Result Moved Refusal → Place → Place
+place_after (Ok m) came = place_in m
+place_after (Err r) came = came
 
 -- ---- one to one
 
@@ -45,15 +50,17 @@ pub told-apart : {g n : ℕ} {r : RowReadL} → ◌≡◌ {A = Told} (row g n r)
 told-apart e = let z : ◌≡◌ {A = ℕ} 0 1 = cc in omega arith
 
 -- two answers that say the same, with places that are known as one
-pub says_moved-one : (a b : Moved) (came : Place) (k l : List ℕ) → says_moved a ≡ says_moved b → view_in (place_after a came) k ≡ view_in (place_after b came) l → a ≡ b
-says_moved-one (Found p g m r) (Found q h n s) came k l e v =
-    let t = told-row (ok-inj e) in
+moved_from-one : (a b : Moved) (k l : List ℕ) → moved_from a ≡ moved_from b → view_in (place_in a) k ≡ view_in (place_in b) l → a ≡ b
+moved_from-one (Found p g m r) (Found q h n s) k l e v =
+    let t = told-row e in
     rw (view_in-one p q k l v, t.0, t.1, row_from-one r s t.2)
-says_moved-one (Found p g m r) (Done q) came k l e v = absurd (told-apart (ok-inj e))
-says_moved-one (Found p g m r) (Refused s) came k l e v = absurd (apart e)
-says_moved-one (Done p) (Found q h n s) came k l e v = absurd (told-apart (sym (ok-inj e)))
-says_moved-one (Done p) (Done q) came k l e v = ap Done (view_in-one p q k l v)
-says_moved-one (Done p) (Refused s) came k l e v = absurd (apart e)
-says_moved-one (Refused r) (Found q h n s) came k l e v = absurd (apart (sym e))
-says_moved-one (Refused r) (Done q) came k l e v = absurd (apart (sym e))
-says_moved-one (Refused r) (Refused s) came k l e v = ap Refused (refused-one e)
+moved_from-one (Found p g m r) (Done q) k l e v = absurd (told-apart e)
+moved_from-one (Done p) (Found q h n s) k l e v = absurd (told-apart (sym e))
+moved_from-one (Done p) (Done q) k l e v = ap Done (view_in-one p q k l v)
+
+pub says_moved-one : (a b : Result Moved Refusal) (came : Place) (k l : List ℕ) → says_moved a ≡ says_moved b → view_in (place_after a came) k ≡ view_in (place_after b came) l
+    → a ≡ b
+says_moved-one (Ok a) (Ok b) came k l e v = ap Ok (moved_from-one a b k l (ok-inj e) v)
+says_moved-one (Ok a) (Err s) came k l e v = absurd (apart e)
+says_moved-one (Err r) (Ok b) came k l e v = absurd (apart (sym e))
+says_moved-one (Err r) (Err s) came k l e v = ap Err (refused-one e)

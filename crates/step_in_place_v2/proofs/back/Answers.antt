@@ -1,6 +1,6 @@
 -- `back` keeps the promise of a step back in a region: the row that ends at the position, or the refusal of the read for it.
 -- The cursor stands after the region's start, so the read is the definition's; each exit is a law over its answer.
-use mathlib.Core.Path.{sym}
+use mathlib.Core.Path.{refl, sym}
 use native.Mathlib.Omega.{arith}
 use lib.Seq.{length-take-le}
 use Rattle.layout.proofs.Laws.Trailer.{trailer_of-tells}
@@ -11,10 +11,10 @@ pub slice_bounds-row_ending_at-end : goal.slice_bounds-row_ending_at-end
 slice_bounds-row_ending_at-end c =
     sym (length-take-le _ _ (omega (arith, (trailer_of-tells _ _ c.requires.0).0)))
 
-pub returns-in_default : goal.returns-in_default
-returns-in_default c =
-    λ key. back-not c.args.p key _ _ _ _ c.requires.1 c.requires.2 c.args.passed _ _ c.row_ending_at-ended.ensures c.in_default.is c.ended_refusal.ensures
+pub returns-in_err-ended : goal.returns-in_err-ended
+returns-in_err-ended c =
+    λ key. back-not c.args.p key _ _ _ _ c.requires.1 c.requires.2 c.args.behind.passed _ _ c.in_err-ended.ensures _ _ c.from_residual.ensures.1 refl refl
 
 pub returns : goal.returns
 returns c =
-    λ key. back_to c.args.p key _ _ _ _ c.requires.1 c.requires.2 c.args.passed _ _ c.row_ending_at-ended.ensures c.in-Row.is c.found.ensures
+    λ key. back_to c.args.p key _ _ _ _ c.requires.1 c.requires.2 c.args.behind.passed _ _ c.in_ok-ended.ensures refl c.found.ensures

@@ -21,7 +21,7 @@ put_suffix-requires c =
 
 pub give_key-requires : goal.give_key-requires
 give_key-requires c =
-    (key-held c.args.p c.args.key.now _ _ _ c.args.row c.args.out.now _ c.requires.key_len c.requires.stands c.requires.fits c.put_suffix.ensures, c.requires.fits.held)
+    (key-held c.args.p c.args.key.now _ _ _ c.args.ahead.row c.args.out.now _ c.requires.key_len c.requires.stands c.requires.fits c.put_suffix.ensures, c.requires.fits.held)
 
 pub overflow_add-place : goal.overflow_add-place
 overflow_add-place c =
@@ -29,12 +29,12 @@ overflow_add-place c =
 
 pub overflow_add-place-2 : goal.overflow_add-place-2
 overflow_add-place-2 c =
-    omega (arith, right-tells (c.args.p.at - c.args.region.start) c.args.p.number c.requires.fits.right)
+    omega (arith, right-tells (c.args.p.at - c.args.ahead.region.start) c.args.p.number c.requires.fits.right)
 
-pub returns-then-region-row : goal.returns-then-region-row
-returns-then-region-row c =
-    pass-over c.args.p _ _ _ _ _ _ _ c.requires.key_len c.requires.stands c.requires.fits c.put_suffix.ensures _ c.give_key.ensures c.if-region-row.true c.found.ensures
+pub returns-then-ahead-row : goal.returns-then-ahead-row
+returns-then-ahead-row c =
+    pass-over c.args.p _ _ _ _ _ _ _ c.requires.key_len c.requires.stands c.requires.fits c.put_suffix.ensures _ c.give_key.ensures c.if-ahead-row.true c.found.ensures
 
 pub returns : goal.returns
 returns c =
-    pass-stay c.args.p _ _ _ _ _ _ _ c.requires.key_len c.requires.stands c.requires.fits c.put_suffix.ensures _ c.give_key.ensures c.if-region-row.false c.found-2.ensures
+    pass-stay c.args.p _ _ _ _ _ _ _ c.requires.key_len c.requires.stands c.requires.fits c.put_suffix.ensures _ c.give_key.ensures c.if-ahead-row.false c.found-2.ensures
