@@ -1,11 +1,10 @@
 -- Doubles, other cards and closes: what changes no balance. And that no balance leaves its 64 bits.
-use Rattle.std.specs.Prelude.{ℕ, zero, suc, ◌+◌, ◌-◌, ◌*◌, ◌^◌, ◌≤◌, ◌<◌, ◌≡◌, refl, Bool, true, false, cond, ◌&&◌, List, [], ◌∷◌, ◌++◌, ltb, eqb, ℤ, pos, negsuc, ◌-ℤ◌, length, take, drop, get_or}
+use Rattle.std.specs.Prelude.{ℕ, zero, suc, ◌+◌, ◌-◌, ◌*◌, ◌^◌, ◌≤◌, ◌<◌, ◌≡◌, refl, Bool, true, false, cond, ◌&&◌, List, [], ◌∷◌, ◌++◌, ltb, eqb, ℤ, pos, negsuc, ◌-ℤ◌, length, take, drop, get_or, Ok, Option}
 use Rattle.std.proofs.Common.{ap, sym, ◌∙◌, arith, get_or-drop, eq-eqb, ne_eqb}
 use Rattle.std.specs.Int.Signed.{mag}
 use Rattle.layout.specs.Fixed.{unbig}
 use Rattle.journal.specs.declared.Record.{Record}
 use Rattle.journal.specs.declared.Found.TheVariants.{Whole}
-use Rattle.journal_balance.specs.declared.Balanced.TheVariants.{Amount}
 use Rattle.journal.specs.Record.{debit_kind, top_up_kind, close_kind, length_of, kind_of, card_of, amount_of, record_bytes, number_at, kind_at, found_in, max_journal}
 use Rattle.journal_read.specs.Reader.{holds, journal_of, tail_of}
 use Rattle.journal_balance.specs.Counts.{alike, closes, some, counts}
@@ -30,8 +29,8 @@ pub double_changes_nothing : (d : List ℕ) (rs : List Record) (r : Record) → 
     → (card : ℕ) → balance_in (d ++ record_bytes r) card ≡ balance_in d card
 double_changes_nothing d rs r e f s h card =
     balance_holds (d ++ record_bytes r) (rs ++ (r ∷ [])) (length (d ++ record_bytes r)) card (append-holds d rs r e f h)
-    ∙ ap (λ (z : ℤ). Amount z (tail_of (length (d ++ record_bytes r)) (length (d ++ record_bytes r)))) (double-adds-nothing rs r s card)
-    ∙ ap (Amount (balance_of card rs)) (tail_none (length (d ++ record_bytes r)) (length (d ++ record_bytes r)) (omega arith) ∙ sym (tail_none (length d) (length d) (omega arith)))
+    ∙ ap (λ (z : ℤ). Ok (record { balance = z; tail = tail_of (length (d ++ record_bytes r)) (length (d ++ record_bytes r)) })) (double-adds-nothing rs r s card)
+    ∙ ap (λ (t : Option ℕ). Ok (record { balance = balance_of card rs; tail = t })) (tail_none (length (d ++ record_bytes r)) (length (d ++ record_bytes r)) (omega arith) ∙ sym (tail_none (length d) (length d) (omega arith)))
     ∙ sym (balance_holds d rs (length d) card e)
 
 -- ---- "Another card's records never change this card's balance as long as the journal stays readable": journals with the same records of a card have its balance
@@ -42,9 +41,9 @@ other_cards_silent card rs qs e =
     total-own kind card [] rs ∙ ap (total kind card (own card [])) e ∙ sym (total-own kind card [] qs)
 
 pub other_cards_silent_in : (d d' : List ℕ) (rs qs : List Record) (end end' : ℕ) → journal_of d ≡ holds rs end → journal_of d' ≡ holds qs end' → (card : ℕ) → own card rs ≡ own card qs
-    → (balance_in d card ≡ Amount (balance_of card rs) (tail_of end (length d))) × (balance_in d' card ≡ Amount (balance_of card rs) (tail_of end' (length d')))
+    → (balance_in d card ≡ Ok (record { balance = balance_of card rs; tail = tail_of end (length d) })) × (balance_in d' card ≡ Ok (record { balance = balance_of card rs; tail = tail_of end' (length d') }))
 other_cards_silent_in d d' rs qs end end' p q card e =
-    (balance_holds d rs end card p, balance_holds d' qs end' card q ∙ ap (λ (z : ℤ). Amount z (tail_of end' (length d'))) (sym (other_cards_silent card rs qs e)))
+    (balance_holds d rs end card p, balance_holds d' qs end' card q ∙ ap (λ (z : ℤ). Ok (record { balance = z; tail = tail_of end' (length d') })) (sym (other_cards_silent card rs qs e)))
 
 -- ---- after the first close of a card no record changes its balance
 
@@ -99,7 +98,7 @@ module _ (d : List ℕ) (bytes : (i : ℕ) → get_or d i 0 < 256) (kind card : 
   abbrev Most : ℕ → Record → ℕ → List Record → List Record → Type 0
   Most at r next rs before = (at + 21 * money (r ∷ rs) ≤ next + 21 * money rs) × (worth kind card before r + money rs * 4294967295 ≤ money (r ∷ rs) * 4294967295)
 
-  one : (at : ℕ) (r : Record) (next : ℕ) → found_in d at ≡ Whole r next → (rs before : List Record) → Most at r next rs before
+  one : (at : ℕ) (r : Record) (next : ℕ) → found_in d at ≡ Ok (Whole r next) → (rs before : List Record) → Most at r next rs before
   one at r next e rs before = go (tells d at r next e) (one_of (kind_at d at) (tells d at r next e).some) (worth-most kind card before r)
     where
       long : Tells d at r next → length_of (kind_at d at) ≡ 21 → (kind_at d at ≡ 3 → ⊥) → worth kind card before r ≤ amount_of r → Most at r next rs before

@@ -1,12 +1,11 @@
 -- "Cut a readable one at any byte: the balance is that of the complete records before the cut, and an incomplete tail is reported with its start."
-use Rattle.std.specs.Prelude.{ℕ, ◌+◌, ◌≤◌, ◌<◌, ◌≡◌, refl, Bool, true, false, cond, List, [], ◌∷◌, ltb, leb, eqb, length, take}
+use Rattle.std.specs.Prelude.{ℕ, ◌+◌, ◌≤◌, ◌<◌, ◌≡◌, refl, Bool, true, false, cond, List, [], ◌∷◌, ltb, leb, eqb, length, take, Ok, Err}
 use Rattle.std.proofs.Common.{ap, sym, ◌∙◌, subst, ⊎_elim, arith, length-take-le, ltb-true, ltb-false, leb-true, le-leb}
 use Rattle.std.proofs.lemmas.Bool.{lt-leb, eqb-false}
 use Rattle.layout.proofs.Laws.Res.{ltb-cases}
 use Rattle.journal.specs.declared.Record.{Record}
 use Rattle.journal.specs.declared.Refusal.TheVariants.{UnknownKind}
-use Rattle.journal.specs.declared.Found.TheVariants.{Whole, Incomplete, End, Refused}
-use Rattle.journal_balance.specs.declared.Balanced.TheVariants.{Amount}
+use Rattle.journal.specs.declared.Found.TheVariants.{Whole, Incomplete, End}
 use Rattle.journal.specs.Record.{length_of, kind_of, kind_at, body_at, found_in}
 use Rattle.journal_read.specs.Reader.{holds, journal_of, tail_of}
 use Rattle.journal_balance.specs.Balance.{balance_of, settled, balance_in}
@@ -24,12 +23,12 @@ end_by n at [] = at
 end_by n at (r ∷ rs) = cond (leb (at + length_of (kind_of r)) n) (end_by n (at + length_of (kind_of r)) rs) at
 
 -- an incomplete record is there for a kind that has a length, and is longer than what is left
-unfinished : (d : List ℕ) (at : ℕ) → found_in d at ≡ Incomplete → (0 < length_of (kind_at d at)) × (length d < at + length_of (kind_at d at))
+unfinished : (d : List ℕ) (at : ℕ) → found_in d at ≡ Ok Incomplete → (0 < length_of (kind_at d at)) × (length d < at + length_of (kind_at d at))
 unfolding found_in
 unfinished d at e = go (leb (length d) at) (eqb (length_of (kind_at d at)) 0) refl (ltb (length d) (at + length_of (kind_at d at))) refl e
   where
     go : (a b : Bool) → eqb (length_of (kind_at d at)) 0 ≡ b → (t : Bool) → ltb (length d) (at + length_of (kind_at d at)) ≡ t
-        → cond a End (cond b (Refused (UnknownKind at)) (cond t Incomplete (Whole (body_at (kind_at d at) d at) (at + length_of (kind_at d at))))) ≡ Incomplete
+        → cond a (Ok End) (cond b (Err (UnknownKind at)) (cond t (Ok Incomplete) (Ok (Whole (body_at (kind_at d at) d at) (at + length_of (kind_at d at)))))) ≡ Ok Incomplete
         → (0 < length_of (kind_at d at)) × (length d < at + length_of (kind_at d at))
     go true b q t u e = absurd (let z : ◌≡◌ {A = ℕ} 0 1 = cc in omega arith)
     go false true q t u e = absurd (let z : ◌≡◌ {A = ℕ} 0 1 = cc in omega arith)
@@ -39,12 +38,12 @@ unfinished d at e = go (leb (length d) at) (eqb (length_of (kind_at d at)) 0) re
         positive n h = omega arith
     go false false q false u e = absurd (let z : ◌≡◌ {A = ℕ} 0 1 = cc in omega arith)
 
-ended : (d : List ℕ) (at : ℕ) → found_in d at ≡ End → length d ≤ at
+ended : (d : List ℕ) (at : ℕ) → found_in d at ≡ Ok End → length d ≤ at
 unfolding found_in
 ended d at e = go (leb (length d) at) refl (eqb (length_of (kind_at d at)) 0) (ltb (length d) (at + length_of (kind_at d at))) e
   where
     go : (a : Bool) → leb (length d) at ≡ a → (b t : Bool)
-        → cond a End (cond b (Refused (UnknownKind at)) (cond t Incomplete (Whole (body_at (kind_at d at) d at) (at + length_of (kind_at d at))))) ≡ End → length d ≤ at
+        → cond a (Ok End) (cond b (Err (UnknownKind at)) (cond t (Ok Incomplete) (Ok (Whole (body_at (kind_at d at) d at) (at + length_of (kind_at d at)))))) ≡ Ok End → length d ≤ at
     go true p b t e = leb-true (length d) at p
     go false p true t e = absurd (let z : ◌≡◌ {A = ℕ} 0 1 = cc in omega arith)
     go false p false true e = absurd (let z : ◌≡◌ {A = ℕ} 0 1 = cc in omega arith)
@@ -88,18 +87,18 @@ module _ (n : ℕ) (d : List ℕ) (h : n ≤ length d) where
           let l : next ≤ n = ltb-false n next p in
           let w' : Run (take n d) (at + length_of (kind_of r)) (complete_by n (at + length_of (kind_of r)) rs) (end_by n (at + length_of (kind_of r)) rs) =
           subst (λ (x : ℕ). Run (take n d) x (complete_by n x rs) (end_by n x rs)) q (ih l) in
-          made_of (more_by at r rs (omega arith)) (more (found_shorter n d h at r next e l ∙ ap (Whole r) q) w')
+          made_of (more_by at r rs (omega arith)) (more (found_shorter n d h at r next e l ∙ ap (λ (m : ℕ). Ok (Whole r m)) q) w')
 
-pub balance_holds : (d : List ℕ) (rs : List Record) (end card : ℕ) → journal_of d ≡ holds rs end → balance_in d card ≡ Amount (balance_of card rs) (tail_of end (length d))
+pub balance_holds : (d : List ℕ) (rs : List Record) (end card : ℕ) → journal_of d ≡ holds rs end → balance_in d card ≡ Ok (record { balance = balance_of card rs; tail = tail_of end (length d) })
 unfolding balance_in
 balance_holds d rs end card e = ap (settled card (length d)) e
 
 -- the records of a part, and its balances
 pub cut_anywhere : (d : List ℕ) (rs : List Record) (end : ℕ) → journal_of d ≡ holds rs end → (n : ℕ) → n ≤ length d
     → (journal_of (take n d) ≡ holds (complete_by n 0 rs) (end_by n 0 rs))
-    × ((card : ℕ) → balance_in (take n d) card ≡ Amount (balance_of card (complete_by n 0 rs)) (tail_of (end_by n 0 rs) n))
+    × ((card : ℕ) → balance_in (take n d) card ≡ Ok (record { balance = balance_of card (complete_by n 0 rs); tail = tail_of (end_by n 0 rs) n }))
 cut_anywhere d rs end e n h =
     let long : length (take n d) ≡ n = length-take-le n d h in
     let part : journal_of (take n d) ≡ holds (complete_by n 0 rs) (end_by n 0 rs) =
     read-run (omega (arith, long, readable_short d rs end e)) (run-cut n d h (omega arith) (run_of d rs end e)) in
-    (part, λ card. balance_holds (take n d) (complete_by n 0 rs) (end_by n 0 rs) card part ∙ ap (λ (m : ℕ). Amount (balance_of card (complete_by n 0 rs)) (tail_of (end_by n 0 rs) m)) long)
+    (part, λ card. balance_holds (take n d) (complete_by n 0 rs) (end_by n 0 rs) card part ∙ ap (λ (m : ℕ). Ok (record { balance = balance_of card (complete_by n 0 rs); tail = tail_of (end_by n 0 rs) m })) long)

@@ -1,15 +1,12 @@
 -- Each theorem once, on a journal of the desk's, so that none is empty: what it asks for is there, by computation. Card 7 is topped up with 500, debited 200 twice under one retry number
 -- (the second time 999), topped up under the same retry number, and closed; card 8 has a debit of 4,294,967,295, a number below zero.
-use Rattle.std.specs.Prelude.{ℕ, zero, suc, ◌+◌, ◌*◌, ◌^◌, ◌<◌, ◌≤◌, ◌≡◌, refl, Bool, true, false, cond, List, [], ◌∷◌, ◌++◌, ltb, pos, negsuc, take, get_or}
+use Rattle.std.specs.Prelude.{ℕ, zero, suc, ◌+◌, ◌*◌, ◌^◌, ◌<◌, ◌≤◌, ◌≡◌, refl, Bool, true, false, cond, List, [], ◌∷◌, ◌++◌, ltb, pos, negsuc, take, get_or, Ok, Some, None}
 use Rattle.std.proofs.Common.{⊎_elim, arith}
 use Rattle.std.specs.Int.Signed.{mag}
 use Rattle.layout.specs.Fixed.{big, unbig}
 use Rattle.layout.proofs.Laws.Res.{ltb-cases, clash}
 use Rattle.journal.specs.declared.Record.{Record}
 use Rattle.journal.specs.declared.Record.TheVariants.{Debit, TopUp, Close}
-use Rattle.journal_read.specs.declared.Tail.TheVariants.{Nothing, From}
-use Rattle.journal_balance.specs.declared.Balanced.TheVariants.{Amount}
-use Rattle.journal_append.specs.declared.Appended.TheVariants.{Used}
 use Rattle.journal.specs.Record.{debit_kind, top_up_kind, length_of, record_bytes, number_at, body_at, found_in}
 use Rattle.journal_read.specs.Reader.{holds, records_from, journal_of}
 use Rattle.journal_balance.specs.Counts.{some}
@@ -42,21 +39,21 @@ unfolding journal_of records_from found_in body_at length_of number_at unbig
 desk-holds = refl
 
 -- top-ups 500 and 30 less the debit of 200: the double and the debit after the close count for nothing
-desk_7 : balance_in desk 7 ≡ Amount (pos 330) Nothing
+desk_7 : balance_in desk 7 ≡ Ok (record { balance = pos 330; tail = None })
 unfolding balance_in total some journal_of records_from found_in body_at length_of number_at unbig
 desk_7 = refl
 
-desk_8 : balance_in desk 8 ≡ Amount (negsuc 4294967294) Nothing
+desk_8 : balance_in desk 8 ≡ Ok (record { balance = negsuc 4294967294; tail = None })
 unfolding balance_in total some journal_of records_from found_in body_at length_of number_at unbig
 desk_8 = refl
 
 -- ---- cut after the second record, and one byte further
 
-cut-here : (journal_of (take 42 desk) ≡ holds (TopUp 7 1 500 ∷ Debit 7 2 200 ∷ []) 42) × (balance_in (take 42 desk) 7 ≡ Amount (pos 300) Nothing)
+cut-here : (journal_of (take 42 desk) ≡ holds (TopUp 7 1 500 ∷ Debit 7 2 200 ∷ []) 42) × (balance_in (take 42 desk) 7 ≡ Ok (record { balance = pos 300; tail = None }))
 unfolding complete_by end_by length_of total some
 cut-here = let c = cut_anywhere desk records 135 desk-holds 42 (omega arith) in (c.0, c.1 7)
 
-cut_inside : (journal_of (take 43 desk) ≡ holds (TopUp 7 1 500 ∷ Debit 7 2 200 ∷ []) 42) × (balance_in (take 43 desk) 7 ≡ Amount (pos 300) (From 42))
+cut_inside : (journal_of (take 43 desk) ≡ holds (TopUp 7 1 500 ∷ Debit 7 2 200 ∷ []) 42) × (balance_in (take 43 desk) 7 ≡ Ok (record { balance = pos 300; tail = Some 42 }))
 unfolding complete_by end_by length_of total some
 cut_inside = let c = cut_anywhere desk records 135 desk-holds 43 (omega arith) in (c.0, c.1 7)
 
@@ -89,7 +86,7 @@ closed-here = closed-stays 7 (TopUp 7 1 500 ∷ Close 7 ∷ []) (TopUp 7 2 30 �
 abbrev buffer : List ℕ
 buffer = (3 ∷ 0 ∷ 0 ∷ 0 ∷ 0 ∷ 0 ∷ 0 ∷ 0 ∷ 7 ∷ []) ++ (9 ∷ 9 ∷ 9 ∷ 9 ∷ 9 ∷ 9 ∷ 9 ∷ 9 ∷ 9 ∷ 9 ∷ [])
 
-back-here : (rs : List Record) × (journal_of (take 9 buffer) ≡ holds rs 9) × (18 ≡ 9 + length_of 3) × (journal_of (take 18 (written (Used 18) buffer 9 (Close 8))) ≡ holds (rs ++ (Close 8 ∷ [])) 18)
+back-here : (rs : List Record) × (journal_of (take 9 buffer) ≡ holds rs 9) × (18 ≡ 9 + length_of 3) × (journal_of (take 18 (written (Ok 18) buffer 9 (Close 8))) ≡ holds (rs ++ (Close 8 ∷ [])) 18)
 unfolding appended journal_of records_from found_in body_at length_of number_at unbig
 back-here = append-reads-back buffer 9 (Close 8) 18 (omega arith) refl
 

@@ -1,6 +1,6 @@
 -- Parts of a journal: what stands at a place of it is told by its bytes up to the record's end. So a record of a part is one of the whole, and a record of the whole that ends
 -- inside the part is one of the part.
-use Rattle.std.specs.Prelude.{ℕ, ◌+◌, ◌-◌, ◌≤◌, ◌<◌, ◌≡◌, List, ◌++◌, length, take, drop}
+use Rattle.std.specs.Prelude.{ℕ, ◌+◌, ◌-◌, ◌≤◌, ◌<◌, ◌≡◌, List, ◌++◌, length, take, drop, Ok}
 use Rattle.std.proofs.Math.Path.{ap}
 use Rattle.std.proofs.Common.{sym, ◌∙◌, arith, take-take, take-add, get_or-take, length-take-le, drop_at}
 use Rattle.layout.specs.Fixed.{unbig}
@@ -47,35 +47,35 @@ module _ (n : ℕ) (d : List ℕ) (h : n ≤ length d) where
       go (close a b) = body-close k (take n d) at a ∙ ap Close (part-number 8 (at + 1) (omega arith)) ∙ sym (body-close k d at a)
 
   -- a record of the whole that ends inside the part
-  pub found_shorter : (at : ℕ) (r : Record) (next : ℕ) → found_in d at ≡ Whole r next → next ≤ n → found_in (take n d) at ≡ Whole r next
+  pub found_shorter : (at : ℕ) (r : Record) (next : ℕ) → found_in d at ≡ Ok (Whole r next) → next ≤ n → found_in (take n d) at ≡ Ok (Whole r next)
   found_shorter at r next e f =
       let t = tells d at r next e in
       let inside : at < n = omega (arith, t.past, t.some) in
       let same : kind_at (take n d) at ≡ kind_at d at = part-kind at inside in
       let len : length_of (kind_at (take n d) at) ≡ length_of (kind_at d at) = ap length_of same in
       found-whole (take n d) at (omega (arith, long)) (λ z. absurd (omega (arith, t.some))) (omega (arith, long, t.past))
-      ∙ (λ i. Whole (body_at (same i) (take n d) at) (at + len i))
-      ∙ ap (λ (q : Record). Whole q (at + length_of (kind_at d at))) (part_body (kind_at d at) at t.some (omega (arith, t.past)) ∙ sym t.is)
-      ∙ ap (Whole r) (sym t.past)
+      ∙ (λ i. Ok (Whole (body_at (same i) (take n d) at) (at + len i)))
+      ∙ ap (λ (q : Record). Ok (Whole q (at + length_of (kind_at d at)))) (part_body (kind_at d at) at t.some (omega (arith, t.past)) ∙ sym t.is)
+      ∙ ap (λ (m : ℕ). Ok (Whole r m)) (sym t.past)
 
   -- a record of the part
-  pub found-longer : (at : ℕ) (r : Record) (next : ℕ) → found_in (take n d) at ≡ Whole r next → found_in d at ≡ Whole r next
+  pub found-longer : (at : ℕ) (r : Record) (next : ℕ) → found_in (take n d) at ≡ Ok (Whole r next) → found_in d at ≡ Ok (Whole r next)
   found-longer at r next e =
       let t = tells (take n d) at r next e in
       let inside : at < n = omega (arith, t.past, t.some, t.inside, long) in
       let same : kind_at (take n d) at ≡ kind_at d at = part-kind at inside in
       let len : length_of (kind_at (take n d) at) ≡ length_of (kind_at d at) = ap length_of same in
       found-whole d at (omega arith) (λ z. absurd (omega (arith, t.some))) (omega (arith, long, t.past, t.inside))
-      ∙ ap (λ (q : Record). Whole q (at + length_of (kind_at d at))) (sym (part_body (kind_at d at) at (omega (arith, t.some)) (omega (arith, long, t.past, t.inside))))
-      ∙ sym (λ i. Whole (body_at (same i) (take n d) at) (at + len i))
-      ∙ ap (λ (q : Record). Whole q (at + length_of (kind_at (take n d) at))) (sym t.is)
-      ∙ ap (Whole r) (sym t.past)
+      ∙ ap (λ (q : Record). Ok (Whole q (at + length_of (kind_at d at)))) (sym (part_body (kind_at d at) at (omega (arith, t.some)) (omega (arith, long, t.past, t.inside))))
+      ∙ sym (λ i. Ok (Whole (body_at (same i) (take n d) at) (at + len i)))
+      ∙ ap (λ (q : Record). Ok (Whole q (at + length_of (kind_at (take n d) at)))) (sym t.is)
+      ∙ ap (λ (m : ℕ). Ok (Whole r m)) (sym t.past)
 
   -- a record that the cut goes through
-  pub found-cut : (at : ℕ) → at < n → 0 < length_of (kind_at d at) → n < at + length_of (kind_at d at) → found_in (take n d) at ≡ Incomplete
+  pub found-cut : (at : ℕ) → at < n → 0 < length_of (kind_at d at) → n < at + length_of (kind_at d at) → found_in (take n d) at ≡ Ok Incomplete
   found-cut at k s f =
       let len : length_of (kind_at (take n d) at) ≡ length_of (kind_at d at) = ap length_of (part-kind at k) in
       found_incomplete (take n d) at (omega (arith, long)) (λ z. absurd (omega arith)) (omega (arith, long))
 
-  pub found-past : (at : ℕ) → n ≤ at → found_in (take n d) at ≡ End
+  pub found-past : (at : ℕ) → n ≤ at → found_in (take n d) at ≡ Ok End
   found-past at k = found-end (take n d) at (omega (arith, long))

@@ -1,5 +1,5 @@
 -- What the writer appends, the reader gives back, after the records that were there.
-use Rattle.std.specs.Prelude.{ℕ, ◌+◌, ◌^◌, ◌≤◌, ◌<◌, ◌≡◌, Bool, true, false, cond, ◌||◌, List, [], ◌∷◌, ◌++◌, ltb, length, take, drop}
+use Rattle.std.specs.Prelude.{ℕ, ◌+◌, ◌^◌, ◌≤◌, ◌<◌, ◌≡◌, Bool, true, false, cond, ◌||◌, List, [], ◌∷◌, ◌++◌, ltb, length, take, drop, Ok, Err}
 use Rattle.std.proofs.Math.Path.{refl, ap}
 use Rattle.std.proofs.Common.{sym, ◌∙◌, subst, append_assoc, append-nil, arith, length-append, take_at, drop_at, drop-drop, length-take-le, ltb-false}
 use Rattle.layout.specs.Fixed.{big}
@@ -11,7 +11,6 @@ use Rattle.journal.specs.declared.Refusal.TheVariants.{UsedPastBuffer, EndsInsid
 use Rattle.journal.specs.declared.Record.{Record}
 use Rattle.journal.specs.declared.Record.TheVariants.{Debit, TopUp, Close}
 use Rattle.journal.specs.declared.Found.TheVariants.{Whole}
-use Rattle.journal_append.specs.declared.Appended.TheVariants.{Used, Refused}
 use Rattle.journal.specs.Record.{length_of, kind_of, body_bytes, record_bytes, number_at, kind_at, body_at, found_in, max_journal}
 use Rattle.journal_read.specs.Reader.{Journal, holds, refused, journal_of}
 use Rattle.journal_append.specs.Append.{placed, appended, written}
@@ -73,7 +72,7 @@ module _ (d : List ℕ) (at : ℕ) where
       (k.0, body-close 3 d at refl ∙ ap Close (laid-number d (at + 1) 8 card post f k.1))
 
 -- a record after a whole journal is found there
-found-laid : (d : List ℕ) (r : Record) → Fits r → found_in (d ++ record_bytes r) (length d) ≡ Whole r (length d + length_of (kind_of r))
+found-laid : (d : List ℕ) (r : Record) → Fits r → found_in (d ++ record_bytes r) (length d) ≡ Ok (Whole r (length d + length_of (kind_of r)))
 found-laid d r f =
     let all = d ++ record_bytes r in
     let at = length d in
@@ -83,8 +82,8 @@ found-laid d r f =
     let len : length_of (kind_at all at) ≡ length_of (kind_of r) = ap length_of l.0 in
     let some = kind-length r in
     found-whole all at (omega (arith, size, some)) (λ z. absurd (omega (arith, len, some))) (omega (arith, size, len))
-    ∙ (λ i. Whole (body_at (l.0 i) all at) (at + len i))
-    ∙ ap (λ (q : Record). Whole q (at + length_of (kind_of r))) l.1
+    ∙ (λ i. Ok (Whole (body_at (l.0 i) all at) (at + len i)))
+    ∙ ap (λ (q : Record). Ok (Whole q (at + length_of (kind_of r)))) l.1
 
 -- ---- one journal after another
 
@@ -108,13 +107,13 @@ append-holds d rs r e f h =
 -- ---- the writer
 
 -- an answer that is no refusal has come through every test
-taken : (room used n : ℕ) (j : Journal) (next : ℕ) → placed room used n j ≡ Used next
+taken : (room used n : ℕ) (j : Journal) (next : ℕ) → placed room used n j ≡ Ok next
     → (rs : List Record) × (end : ℕ) × (j ≡ holds rs end) × (used ≤ end) × (used + n ≤ room) × (used + n ≤ max_journal) × (next ≡ used + n)
 taken room used n (refused x) next e = absurd (let z : ◌≡◌ {A = ℕ} 0 1 = cc in omega arith)
 taken room used n (holds rs end) next e = go (ltb end used) refl (ltb room (used + n)) refl (ltb max_journal (used + n)) refl e
   where
     go : (a : Bool) → ltb end used ≡ a → (b : Bool) → ltb room (used + n) ≡ b → (c : Bool) → ltb max_journal (used + n) ≡ c
-        → cond a (Refused EndsInside) (cond (b || c) (Refused NoRoom) (Used (used + n))) ≡ Used next
+        → cond a (Err EndsInside) (cond (b || c) (Err NoRoom) (Ok (used + n))) ≡ Ok next
         → (qs : List Record) × (f : ℕ) × (holds rs end ≡ holds qs f) × (used ≤ f) × (used + n ≤ room) × (used + n ≤ max_journal) × (next ≡ used + n)
     go true p b q c t e = absurd (let z : ◌≡◌ {A = ℕ} 0 1 = cc in omega arith)
     go false p true q c t e = absurd (let z : ◌≡◌ {A = ℕ} 0 1 = cc in omega arith)
@@ -123,20 +122,20 @@ taken room used n (holds rs end) next e = go (ltb end used) refl (ltb room (used
         let same : used + n ≡ next = cc in
         (rs, end, refl, ltb-false end used p, ltb-false room (used + n) q, ltb-false max_journal (used + n) t, sym same)
 
-appended-tells : (buffer : List ℕ) (used : ℕ) (r : Record) (next : ℕ) → appended buffer used r ≡ Used next
-    → (used ≤ length buffer) × (placed (length buffer) used (length_of (kind_of r)) (journal_of (take used buffer)) ≡ Used next)
+appended-tells : (buffer : List ℕ) (used : ℕ) (r : Record) (next : ℕ) → appended buffer used r ≡ Ok next
+    → (used ≤ length buffer) × (placed (length buffer) used (length_of (kind_of r)) (journal_of (take used buffer)) ≡ Ok next)
 unfolding appended
 appended-tells buffer used r next e = go (ltb (length buffer) used) refl e
   where
-    go : (a : Bool) → ltb (length buffer) used ≡ a → cond a (Refused UsedPastBuffer) (placed (length buffer) used (length_of (kind_of r)) (journal_of (take used buffer))) ≡ Used next
-        → (used ≤ length buffer) × (placed (length buffer) used (length_of (kind_of r)) (journal_of (take used buffer)) ≡ Used next)
+    go : (a : Bool) → ltb (length buffer) used ≡ a → cond a (Err UsedPastBuffer) (placed (length buffer) used (length_of (kind_of r)) (journal_of (take used buffer))) ≡ Ok next
+        → (used ≤ length buffer) × (placed (length buffer) used (length_of (kind_of r)) (journal_of (take used buffer)) ≡ Ok next)
     go true p e = absurd (let z : ◌≡◌ {A = ℕ} 0 1 = cc in omega arith)
     go false p e = (ltb-false (length buffer) used p, e)
 
 -- the used part was whole, its records are as they were, and the record comes after them; the new used length is where it ends
-pub append-reads-back : (buffer : List ℕ) (used : ℕ) (r : Record) (next : ℕ) → Fits r → appended buffer used r ≡ Used next
+pub append-reads-back : (buffer : List ℕ) (used : ℕ) (r : Record) (next : ℕ) → Fits r → appended buffer used r ≡ Ok next
     → (rs : List Record) × (journal_of (take used buffer) ≡ holds rs used) × (next ≡ used + length_of (kind_of r))
-    × (journal_of (take next (written (Used next) buffer used r)) ≡ holds (rs ++ (r ∷ [])) next)
+    × (journal_of (take next (written (Ok next) buffer used r)) ≡ holds (rs ++ (r ∷ [])) next)
 append-reads-back buffer used r next f e =
     let a = appended-tells buffer used r next e in
     let t = taken (length buffer) used (length_of (kind_of r)) (journal_of (take used buffer)) next a.1 in

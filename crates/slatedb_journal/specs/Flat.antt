@@ -1,23 +1,15 @@
 -- The journal's answers as codes and lent words. A refusal leaves the words, but for the position that 31 tells.
-use Rattle.std.specs.Prelude.{ℕ, cond, List, [], ◌∷◌, eqb, ℤ}
+use Rattle.std.specs.Prelude.{ℕ, cond, List, [], ◌∷◌, eqb, ℤ, Result, Ok, Err, Option, Some, None}
 use Rattle.journal.specs.declared.Refusal.{Refusal}
 use Rattle.journal.specs.declared.Refusal.TheVariants.{TooLong, UnknownKind, UsedPastBuffer, EndsInside, NoRoom}
 use Rattle.journal.specs.declared.Record.{Record}
 use Rattle.journal.specs.declared.Record.TheVariants.{Debit, TopUp, Close}
 use Rattle.journal.specs.declared.Found.{Found}
-use Rattle.journal.specs.declared.Found.TheVariants.{Whole, Incomplete, End, Refused as FoundRefused}
-use Rattle.journal_read.specs.declared.Tail.{Tail}
-use Rattle.journal_read.specs.declared.Tail.TheVariants.{Nothing, From}
+use Rattle.journal.specs.declared.Found.TheVariants.{Whole, Incomplete, End}
 use Rattle.journal_read.specs.declared.Reading.{Reading}
-use Rattle.journal_read.specs.declared.Reading.TheVariants.{Complete, Refused as ReadingRefused}
 use Rattle.journal_balance.specs.declared.Balanced.{Balanced}
-use Rattle.journal_balance.specs.declared.Balanced.TheVariants.{Amount, Refused as BalancedRefused}
-use Rattle.journal_append.specs.declared.Appended.{Appended}
-use Rattle.journal_append.specs.declared.Appended.TheVariants.{Used, Refused as AppendedRefused}
 use Rattle.journal.specs.Number.{number}
 use Rattle.journal.specs.Record.{debit_kind, top_up_kind, close_kind, kind_of, card_of, retry_of, amount_of}
-use Rattle.slatedb_journal.specs.declared.Offered.{Offered}
-use Rattle.slatedb_journal.specs.declared.Offered.TheVariants.{Is, Unknown}
 
 -- lent words that are not as many as they must be, and a kind offered that is none of the three
 abbrev pub bad_words : ℕ
@@ -32,9 +24,9 @@ place_told EndsInside p = p
 place_told NoRoom p = p
 
 -- where the complete records end: the tail's start, or the journal's end
-abbrev pub tail_place : Tail → ℕ → ℕ
-tail_place Nothing size = size
-tail_place (From at) size = at
+abbrev pub tail_place : Option ℕ → ℕ → ℕ
+tail_place None size = size
+tail_place (Some at) size = at
 
 -- ---- a record, as words
 
@@ -47,59 +39,59 @@ five_words kind card retry amount next = kind ∷ card ∷ retry ∷ amount ∷ 
 abbrev pub record_words : Record → ℕ → List ℕ
 record_words r next = five_words (kind_of r) (card_of r) (retry_of r) (amount_of r) next
 
-abbrev pub found_code : Found → ℕ
-found_code (Whole r next) = 0
-found_code Incomplete = 253
-found_code End = 255
-found_code (FoundRefused x) = number x
+abbrev pub found_code : Result Found Refusal → ℕ
+found_code (Ok (Whole r next)) = 0
+found_code (Ok Incomplete) = 253
+found_code (Ok End) = 255
+found_code (Err x) = number x
 
-abbrev pub found_words : Found → List ℕ → List ℕ
-found_words (Whole r next) ws = record_words r next
-found_words Incomplete ws = ws
-found_words End ws = ws
-found_words (FoundRefused x) ws = ws
+abbrev pub found_words : Result Found Refusal → List ℕ → List ℕ
+found_words (Ok (Whole r next)) ws = record_words r next
+found_words (Ok Incomplete) ws = ws
+found_words (Ok End) ws = ws
+found_words (Err x) ws = ws
 
 -- ---- what was read
 
-abbrev pub read_code : Reading → ℕ
-read_code (Complete n t) = 0
-read_code (ReadingRefused x) = number x
+abbrev pub read_code : Result Reading Refusal → ℕ
+read_code (Ok r) = 0
+read_code (Err x) = number x
 
-abbrev pub read_count : Reading → ℕ → ℕ
-read_count (Complete n t) m = n
-read_count (ReadingRefused x) m = m
+abbrev pub read_count : Result Reading Refusal → ℕ → ℕ
+read_count (Ok r) m = r.records
+read_count (Err x) m = m
 
-abbrev pub read_place : ℕ → Reading → ℕ → ℕ
-read_place size (Complete n t) p = tail_place t size
-read_place size (ReadingRefused x) p = place_told x p
+abbrev pub read_place : ℕ → Result Reading Refusal → ℕ → ℕ
+read_place size (Ok r) p = tail_place r.tail size
+read_place size (Err x) p = place_told x p
 
 -- ---- a balance
 
-abbrev pub balance_code : Balanced → ℕ
-balance_code (Amount z t) = 0
-balance_code (BalancedRefused x) = number x
+abbrev pub balance_code : Result Balanced Refusal → ℕ
+balance_code (Ok b) = 0
+balance_code (Err x) = number x
 
-abbrev pub balance_sum : Balanced → ℤ → ℤ
-balance_sum (Amount z t) y = z
-balance_sum (BalancedRefused x) y = y
+abbrev pub balance_sum : Result Balanced Refusal → ℤ → ℤ
+balance_sum (Ok b) y = b.balance
+balance_sum (Err x) y = y
 
-abbrev pub balance_place : ℕ → Balanced → ℕ → ℕ
-balance_place size (Amount z t) p = tail_place t size
-balance_place size (BalancedRefused x) p = place_told x p
+abbrev pub balance_place : ℕ → Result Balanced Refusal → ℕ → ℕ
+balance_place size (Ok b) p = tail_place b.tail size
+balance_place size (Err x) p = place_told x p
 
 -- ---- what was appended
 
-abbrev pub append_code : Appended → ℕ
-append_code (Used next) = 0
-append_code (AppendedRefused x) = number x
+abbrev pub append_code : Result ℕ Refusal → ℕ
+append_code (Ok next) = 0
+append_code (Err x) = number x
 
-abbrev pub append_place : Appended → ℕ → ℕ
-append_place (Used next) p = next
-append_place (AppendedRefused x) p = place_told x p
+abbrev pub append_place : Result ℕ Refusal → ℕ → ℕ
+append_place (Ok next) p = next
+append_place (Err x) p = place_told x p
 
 -- the record that a kind and the numbers beside it stand for
-unfoldable pub offered_by : ℕ → ℕ → ℕ → ℕ → Offered
+unfoldable pub offered_by : ℕ → ℕ → ℕ → ℕ → Option Record
 offered_by kind card retry amount =
-    cond (eqb kind debit_kind) (Is (Debit card retry amount))
-    (cond (eqb kind top_up_kind) (Is (TopUp card retry amount))
-    (cond (eqb kind close_kind) (Is (Close card)) Unknown))
+    cond (eqb kind debit_kind) (Some (Debit card retry amount))
+    (cond (eqb kind top_up_kind) (Some (TopUp card retry amount))
+    (cond (eqb kind close_kind) (Some (Close card)) None))

@@ -4,13 +4,10 @@
 #![tactic(auto)]
 
 ghost use Rattle.std.specs.Prelude.{◌≡◌, length};
-ghost use Rattle.slatedb_journal.specs.Flat.{record_count, five_words, record_words, place_told, tail_place, offered_by};
+ghost use Rattle.slatedb_journal.specs.Flat.{record_count, record_words, place_told, offered_by};
 ghost use Rattle.slatedb_journal.specs.Promise.{FindsFlat, ReadsFlat, BalancesFlat, AppendsFlat};
 
 use journal::{Found, Record, Refusal};
-use journal_append::Appended;
-use journal_balance::Balanced;
-use journal_read::{Reading, Tail};
 
 const GOOD: u8 = 0;
 
@@ -29,53 +26,30 @@ fn told(refusal: Refusal, place: u64) -> u64
 {
     match refusal {
         Refusal::UnknownKind(at) => at as u64,
-        Refusal::TooLong => place,
-        Refusal::UsedPastBuffer => place,
-        Refusal::EndsInside => place,
-        Refusal::NoRoom => place,
-    }
-}
-
-// Where the tail starts, or the journal ends.
-fn tail_place(tail: Tail, size: usize) -> u64
-    ensures { result ≡ tail_place tail size }
-{
-    match tail {
-        Tail::Nothing => size as u64,
-        Tail::From(at) => at as u64,
+        _ => place,
     }
 }
 
 // ---- the reader
-
-fn put_words(words: &mut [u64], kind: u64, card: u64, retry: u64, amount: u64, next: u64)
-    requires { length words.old ≡ record_count }
-    ensures { words.new ≡ five_words kind card retry amount next }
-{
-    words[0] = kind;
-    words[1] = card;
-    words[2] = retry;
-    words[3] = amount;
-    words[4] = next;
-}
 
 // A record that was found. A close has retry number and amount 0.
 fn put_record(words: &mut [u64], record: Record, next: usize)
     requires { length words.old ≡ record_count }
     ensures { words.new ≡ record_words «record» next }
 {
+    let kind = u64::from(u8::from(record.kind()));
     match record {
         Record::Debit {
             card,
             retry,
             amount,
-        } => put_words(words, 1, card, retry, amount as u64, next as u64),
-        Record::TopUp {
+        }
+        | Record::TopUp {
             card,
             retry,
             amount,
-        } => put_words(words, 2, card, retry, amount as u64, next as u64),
-        Record::Close { card } => put_words(words, 3, card, 0, 0, next as u64),
+        } => words.copy_from_slice(&[kind, card, retry, amount as u64, next as u64]),
+        Record::Close { card } => words.copy_from_slice(&[kind, card, 0, 0, next as u64]),
     }
 }
 
@@ -87,15 +61,14 @@ pub extern "C" fn slatedb_journal_record_at(journal: &[u8], at: usize, words: &m
     if words.len() != RECORD_WORDS {
         return BAD_WORDS;
     }
-    let found = journal::record_at(journal, at);
-    match found {
-        Found::Whole { record, next } => {
+    match journal::record_at(journal, at) {
+        Ok(Found::Whole { record, next }) => {
             put_record(words, record, next);
             GOOD
         }
-        Found::Incomplete => INCOMPLETE,
-        Found::End => END,
-        Found::Refused(refusal) => journal::number(refusal),
+        Ok(Found::Incomplete) => INCOMPLETE,
+        Ok(Found::End) => END,
+        Err(refusal) => u8::from(refusal),
     }
 }
 
@@ -104,16 +77,15 @@ pub extern "C" fn slatedb_journal_record_at(journal: &[u8], at: usize, words: &m
 pub extern "C" fn slatedb_journal_read(journal: &[u8], records: &mut u64, place: &mut u64) -> u8
     ensures { ReadsFlat journal.now records.old place.old result records.new place.new }
 {
-    let reading = journal_read::read(journal);
-    match reading {
-        Reading::Complete { records: n, tail } => {
-            *records = n as u64;
-            *place = tail_place(tail, journal.len());
+    match journal_read::read(journal) {
+        Ok(reading) => {
+            *records = reading.records as u64;
+            *place = reading.tail.unwrap_or(journal.len()) as u64;
             GOOD
         }
-        Reading::Refused(refusal) => {
+        Err(refusal) => {
             *place = told(refusal, *place);
-            journal::number(refusal)
+            u8::from(refusal)
         }
     }
 }
@@ -130,50 +102,39 @@ pub extern "C" fn slatedb_journal_balance(
 ) -> u8
     ensures { BalancesFlat journal.now card balance.old place.old result balance.new place.new }
 {
-    let balanced = journal_balance::balance(journal, card);
-    match balanced {
-        Balanced::Amount { balance: z, tail } => {
-            *balance = z;
-            *place = tail_place(tail, journal.len());
+    match journal_balance::balance(journal, card) {
+        Ok(balanced) => {
+            *balance = balanced.balance;
+            *place = balanced.tail.unwrap_or(journal.len()) as u64;
             GOOD
         }
-        Balanced::Refused(refusal) => {
+        Err(refusal) => {
             *place = told(refusal, *place);
-            journal::number(refusal)
+            u8::from(refusal)
         }
     }
 }
 
 // ---- the writer
 
-// What is offered to be appended.
-#[derive(Clone, Copy)]
-enum Offered {
-    Is(Record),
-    Unknown,
-}
-
-fn offer_of(kind: u64, card: u64, retry: u64, amount: u32) -> Offered
+// What is offered to be appended; none for a kind that is none of the three.
+fn offer_of(kind: u64, card: u64, retry: u64, amount: u32) -> Option<Record>
     ensures { result ≡ offered_by kind card retry amount }
 {
-    if kind == 1 {
-        return Offered::Is(Record::Debit {
+    match kind {
+        1 => Some(Record::Debit {
             card,
             retry,
             amount,
-        });
-    }
-    if kind == 2 {
-        return Offered::Is(Record::TopUp {
+        }),
+        2 => Some(Record::TopUp {
             card,
             retry,
             amount,
-        });
+        }),
+        3 => Some(Record::Close { card }),
+        _ => None,
     }
-    if kind == 3 {
-        return Offered::Is(Record::Close { card });
-    }
-    Offered::Unknown
 }
 
 // Appends a record to the first `used` bytes: 254, 32, 30, 31, 33, 34. Good sets `place` to the new used length. A close takes no notice of the retry number and the amount.
@@ -189,19 +150,17 @@ pub extern "C" fn slatedb_journal_append(
 ) -> u8
     ensures { AppendsFlat buffer.old used (offered_by kind card retry amount) place.old result buffer.new place.new }
 {
-    let offer = offer_of(kind, card, retry, amount);
-    let Offered::Is(record) = offer else {
+    let Some(record) = offer_of(kind, card, retry, amount) else {
         return BAD_WORDS;
     };
-    let appended = journal_append::append(buffer, used, record);
-    match appended {
-        Appended::Used(next) => {
+    match journal_append::append(buffer, used, record) {
+        Ok(next) => {
             *place = next as u64;
             GOOD
         }
-        Appended::Refused(refusal) => {
+        Err(refusal) => {
             *place = told(refusal, *place);
-            journal::number(refusal)
+            u8::from(refusal)
         }
     }
 }

@@ -1,20 +1,22 @@
 -- `offer_of` makes the tests of the definition.
-use borrow.Author.Tests.{eq-eqb, ne_eqb}
+use mathlib.Core.Path.{refl}
+use native.Mathlib.Omega.{arith}
+use borrow.Author.Tests.{ne_eqb}
 use Rattle.slatedb_journal.specs.Flat.{offered_by}
 use Rattle.slatedb_journal.proofs.offer_of.Goals as goal
 
-pub returns-then-kind-eq1 : goal.returns-then-kind-eq1
+pub returns-in-1 : goal.returns-in-1
 unfolding offered_by
-returns-then-kind-eq1 c = rw (eq-eqb _ _ c.if-kind-eq1.true)
+returns-in-1 c = rw c.in-1.is refl
 
-pub returns-then-kind-eq2 : goal.returns-then-kind-eq2
+pub returns-in-2 : goal.returns-in-2
 unfolding offered_by
-returns-then-kind-eq2 c = rw (ne_eqb _ _ c.if-kind-eq1.false, eq-eqb _ _ c.if-kind-eq2.true)
+returns-in-2 c = rw c.in-2.is refl
 
-pub returns-then-kind-eq3 : goal.returns-then-kind-eq3
+pub returns-in-3 : goal.returns-in-3
 unfolding offered_by
-returns-then-kind-eq3 c = rw (ne_eqb _ _ c.if-kind-eq1.false, ne_eqb _ _ c.if-kind-eq2.false, eq-eqb _ _ c.if-kind-eq3.true)
+returns-in-3 c = rw c.in-3.is refl
 
-pub returns : goal.returns
+pub returns-in_default : goal.returns-in_default
 unfolding offered_by
-returns c = rw (ne_eqb _ _ c.if-kind-eq1.false, ne_eqb _ _ c.if-kind-eq2.false, ne_eqb _ _ c.if-kind-eq3.false)
+returns-in_default c = rw (ne_eqb c.args.kind 1 (λ e. omega (arith, e)), ne_eqb c.args.kind 2 (λ e. omega (arith, e)), ne_eqb c.args.kind 3 (λ e. omega (arith, e))) refl
