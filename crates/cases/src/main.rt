@@ -2,7 +2,6 @@
 // they should be stands in the file `stdout` alone.
 #![tactic(auto)]
 
-mod say;
 mod show;
 mod writing;
 

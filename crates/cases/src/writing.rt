@@ -1,10 +1,8 @@
 // Cases 1 to 5 and 11, and the slips on writing.
-use crate::{say, show};
-use basics::{Kind, Time, Verdict};
+use crate::show;
+use basics::Kind;
 use block_v2::BlockBuilderV2;
-use buf_mut::Put;
-use finish_in_place_v2::BuildAnswer;
-use row_encode_v2::Encoded;
+use replay_text::say;
 use row_flags::RowFields;
 use std::io;
 
@@ -12,8 +10,8 @@ fn fields(seq: u64) -> RowFields {
     RowFields {
         kind: Kind::Value,
         seq,
-        expire: Time::Absent,
-        create: Time::Absent,
+        expire: None,
+        create: None,
     }
 }
 
@@ -27,21 +25,14 @@ fn row(
 ) -> io::Result<()> {
     let mut out = [0u8; 64];
     match row_encode_v2::encode(&mut out, previous_len, shared, suffix, value, held) {
-        Encoded::Bytes(n) => show::bytes(rt, &out, n),
-        Encoded::Refused(r) => say::refusal(rt, r),
+        Ok(n) => show::bytes(rt, &out, n),
+        Err(r) => say::refusal(rt, r),
     }
 }
 
 pub fn rows(rt: &impl Print) -> io::Result<()> {
-    say::text(rt, b"case 1: ")?;
+    print!(rt; "case 1: ")?;
     row(rt, 0, 0, b"a", b"", fields(1))
-}
-
-fn added(rt: &impl Print, answer: Verdict) -> io::Result<()> {
-    match answer {
-        Verdict::Good => say::text(rt, b"taken\n"),
-        Verdict::Refused(r) => say::refusal(rt, r),
-    }
 }
 
 // Offers a row to the builder, and says whether it was taken.
@@ -54,10 +45,12 @@ fn add(
     value: &[u8],
     seq: u64,
 ) -> io::Result<BlockBuilderV2> {
-    let r = builder.add(data, restarts, key, value, fields(seq));
-    let answer = r.answer;
-    added(rt, answer)?;
-    Ok(r.builder)
+    let added = builder.add(data, restarts, key, value, fields(seq));
+    match added.answer {
+        Ok(()) => println!(rt; "taken")?,
+        Err(r) => say::refusal(rt, r)?,
+    }
+    Ok(added.builder)
 }
 
 fn built(
@@ -66,11 +59,9 @@ fn built(
     data: &mut [u8],
     restarts: &[u16],
 ) -> io::Result<()> {
-    let b = builder.build(data, restarts);
-    let answer = b.answer;
-    match answer {
-        BuildAnswer::Block(n) => show::bytes(rt, data, n),
-        BuildAnswer::Refused(r) => say::refusal(rt, r),
+    match builder.build(data, restarts).answer {
+        Ok(n) => show::bytes(rt, data, n),
+        Err(r) => say::refusal(rt, r),
     }
 }
 
@@ -85,40 +76,38 @@ fn two_rows(rt: &impl Print, block_size: usize, restart_interval: usize) -> io::
 }
 
 pub fn blocks(rt: &impl Print) -> io::Result<()> {
-    say::text(rt, b"case 2\n")?;
+    println!(rt; "case 2")?;
     two_rows(rt, 4096, basics::DEFAULT_RESTART_INTERVAL)?;
-    say::text(rt, b"case 3, block size 31\n")?;
+    println!(rt; "case 3, block size 31")?;
     two_rows(rt, 31, basics::DEFAULT_RESTART_INTERVAL)?;
-    say::text(rt, b"case 3, block size 30\n")?;
+    println!(rt; "case 3, block size 30")?;
     two_rows(rt, 30, basics::DEFAULT_RESTART_INTERVAL)?;
-    say::text(rt, b"case 4\n")?;
+    println!(rt; "case 4")?;
     two_rows(rt, 4096, 1)
 }
 
 // The block that `cases_reads` is about.
 pub fn five_rows(rt: &impl Print) -> io::Result<()> {
-    say::text(rt, b"keys a, b, b, b, c\n")?;
+    println!(rt; "keys a, b, b, b, c")?;
     let mut data = [0u8; 72];
     let mut restarts = [0u16; 3];
-    let fresh = BlockBuilderV2::new_with_restart_interval(4096, 2).builder;
-    let one = add(rt, fresh, &mut data, &mut restarts, b"a", b"", 0)?;
-    let two = add(rt, one, &mut data, &mut restarts, b"b", b"", 3)?;
-    let three = add(rt, two, &mut data, &mut restarts, b"b", b"", 2)?;
-    let four = add(rt, three, &mut data, &mut restarts, b"b", b"", 1)?;
-    let five = add(rt, four, &mut data, &mut restarts, b"c", b"", 4)?;
-    built(rt, five, &mut data, &restarts)
+    let mut builder = BlockBuilderV2::new_with_restart_interval(4096, 2).builder;
+    for (key, seq) in [(b"a", 0), (b"b", 3), (b"b", 2), (b"b", 1), (b"c", 4)] {
+        builder = add(rt, builder, &mut data, &mut restarts, key, b"", seq)?;
+    }
+    built(rt, builder, &mut data, &restarts)
 }
 
 fn varint(rt: &impl Print, v: u32) -> io::Result<()> {
     let mut out = [0u8; 5];
     match utils::encode_varint(&mut out, 0, v) {
-        Put::At(n) => show::bytes(rt, &out, n),
-        Put::Refused(r) => say::refusal(rt, r),
+        Ok(n) => show::bytes(rt, &out, n),
+        Err(r) => say::refusal(rt, r),
     }
 }
 
 pub fn numbers(rt: &impl Print) -> io::Result<()> {
-    say::text(rt, b"case 5\n")?;
+    println!(rt; "case 5")?;
     varint(rt, 127)?;
     varint(rt, 128)?;
     varint(rt, 16383)?;
@@ -131,15 +120,13 @@ fn second_restart(rt: &impl Print, value: &[u8]) -> io::Result<()> {
     let mut restarts = [0u16; 2];
     let fresh = BlockBuilderV2::new_with_restart_interval(131072, 1).builder;
     let one = add(rt, fresh, &mut data, &mut restarts, b"a", value, 1)?;
-    say::text(rt, b"the next row at ")?;
-    say::number(rt, one.state.used as u64)?;
-    say::text(rt, b"\n")?;
+    println!(rt; "the next row at {}", one.state.used)?;
     add(rt, one, &mut data, &mut restarts, b"b", b"", 2)?;
     Ok(())
 }
 
 pub fn far_restarts(rt: &impl Print) -> io::Result<()> {
-    say::text(rt, b"case 11\n")?;
+    println!(rt; "case 11")?;
     let value = [0u8; 65520];
     second_restart(rt, &value)?;
     let longer = [0u8; 65521];
@@ -158,9 +145,9 @@ fn refused_key(rt: &impl Print) -> io::Result<()> {
 }
 
 pub fn slips(rt: &impl Print) -> io::Result<()> {
-    say::text(rt, b"the last key of a refused row\n")?;
+    println!(rt; "the last key of a refused row")?;
     refused_key(rt)?;
-    say::text(rt, b"the expire time, then the create time: ")?;
+    print!(rt; "the expire time, then the create time: ")?;
     row(
         rt,
         0,
@@ -170,8 +157,8 @@ pub fn slips(rt: &impl Print) -> io::Result<()> {
         RowFields {
             kind: Kind::Merge,
             seq: 1,
-            expire: Time::At(2),
-            create: Time::At(3),
+            expire: Some(2),
+            create: Some(3),
         },
     )
 }
