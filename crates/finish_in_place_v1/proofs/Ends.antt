@@ -8,6 +8,7 @@ use native.Mathlib.Omega.{arith}
 use lib.Dec.{ltb}
 use lib.ListN.{length, take}
 use borrow.Author.Tests.{lt-ltb, le-ltb, eq-eqb, ne_eqb}
+use Rattle.std.specs.Prelude.{Result, Ok, Err}
 use Rattle.layout.specs.Res.{ok, refuse, guard}
 use Rattle.layout.specs.Block.{trailer}
 use Rattle.layout.specs.Limits.{max_key, max_block, max_restarts}
@@ -19,9 +20,6 @@ use Rattle.basics.specs.Number.{number}
 use Rattle.basics.specs.declared.Refusal.{Refusal}
 use Rattle.basics.specs.declared.Refusal.TheVariants.{EmptyBlock, BadState}
 use Rattle.buf_mut.specs.Promise.{Puts}
-use Rattle.buf_mut.specs.declared.Put.{Put}
-use Rattle.buf_mut.specs.declared.Put.TheVariants.{At, Refused as PutRefused}
-use Rattle.finish_in_place_v2.specs.declared.BuildAnswer.TheVariants.{Block, Refused as BuildRefused}
 use Rattle.finish_in_place_v2.proofs.Ends.{trailer-put, trailer-not}
 use Rattle.state_v1.specs.declared.State.{State}
 use Rattle.state_v1.specs.Says.{view_from}
@@ -49,30 +47,29 @@ module _ (b : Builder) (data_len places_len : ℕ) (block : b.block_size ≤ max
 -- ---- building
 
 module _ (s : State) (bytes places first : List ℕ) where
-  ends-not : {x : Refusal} → build (view_from s first) (length bytes) (length places) ≡ refuse (number x) → Ends (view_from s first) bytes places (BuildRefused x) bytes
+  ends-not : {x : Refusal} → build (view_from s first) (length bytes) (length places) ≡ refuse (number x) → Ends (view_from s first) bytes places (Err x) bytes
   ends-not e = record { answer = sym e; bytes_after = rw e refl }
 
-  pub ends_bad : state_tests (view_from s first) (length bytes) (length places) ≡ refuse 18 → Ends (view_from s first) bytes places (BuildRefused BadState) bytes
+  pub ends_bad : state_tests (view_from s first) (length bytes) (length places) ≡ refuse 18 → Ends (view_from s first) bytes places (Err BadState) bytes
   ends_bad e = ends-not (build-by (view_from s first) (length bytes) (length places) e refl refl)
 
   module _ (state : state_tests (view_from s first) (length bytes) (length places) ≡ ok tt) where
-    pub ends-none : s.rows ≡ 0 → Ends (view_from s first) bytes places (BuildRefused EmptyBlock) bytes
+    in_places : s.rows ≤ length places
+    in_places = (state-tells (view_from s first) (length bytes) (length places) tt state).in_places
+
+    pub ends-none : s.rows ≡ 0 → Ends (view_from s first) bytes places (Err EmptyBlock) bytes
     ends-none z = ends-not (build-by (view_from s first) (length bytes) (length places) state (eq-eqb s.rows 0 z) refl)
 
-    module _ (some : s.rows ≡ 0 → ⊥) {p : Put} {bytes' : List ℕ} (q : Puts (trailer (take s.rows places)) bytes s.used p bytes') where
-      in_places : s.rows ≤ length places
-      in_places = (state-tells (view_from s first) (length bytes) (length places) tt state).in_places
-
-      pub ends-block : {n : ℕ} → p ≡ At n → Ends (view_from s first) bytes places (Block n) bytes'
-      ends-block t =
-          let w = trailer-put bytes places s.used s.rows in_places q t in
-          let room = le-ltb (length bytes) (s.used + 2 * s.rows + 2) (omega (arith, w.next, w.room)) in
-          let e = build-by (view_from s first) (length bytes) (length places) state (ne_eqb s.rows 0 some) room in
-          record { answer = ap ok w.next ∙ sym e; bytes_after = rw e w.is }
-
-      pub ends-short : {x : Refusal} → p ≡ PutRefused x → Ends (view_from s first) bytes places (BuildRefused x) bytes'
-      ends-short t =
-          let no = trailer-not bytes places s.used s.rows in_places q t in
-          let short = lt-ltb (length bytes) (s.used + 2 * s.rows + 2) no.2 in
-          let e = build-by (view_from s first) (length bytes) (length places) state (ne_eqb s.rows 0 some) short in
-          rw (no.0, no.1) (ends-not e)
+    -- what the trailer's writer answers is what building answers
+    pub ends-put : (s.rows ≡ 0 → ⊥) → (p : Result ℕ Refusal) {bytes' : List ℕ} → Puts (trailer (take s.rows places)) bytes s.used p bytes'
+        → Ends (view_from s first) bytes places p bytes'
+    ends-put some (Ok n) q =
+        let w = trailer-put bytes places s.used s.rows in_places q refl in
+        let room = le-ltb (length bytes) (s.used + 2 * s.rows + 2) (omega (arith, w.next, w.room)) in
+        let e = build-by (view_from s first) (length bytes) (length places) state (ne_eqb s.rows 0 some) room in
+        record { answer = ap ok w.next ∙ sym e; bytes_after = rw e w.is }
+    ends-put some (Err x) q =
+        let no = trailer-not bytes places s.used s.rows in_places q refl in
+        let short = lt-ltb (length bytes) (s.used + 2 * s.rows + 2) no.2 in
+        let e = build-by (view_from s first) (length bytes) (length places) state (ne_eqb s.rows 0 some) short in
+        rw (no.0, no.1) (ends-not e)

@@ -6,8 +6,6 @@
 ghost use Rattle.finish_in_place_v1.specs.Promise.{Judges, Finishes};
 
 use basics::Refusal;
-use buf_mut::Put;
-use finish_in_place_v2::BuildAnswer;
 use state_v1::State;
 
 // No row takes fewer bytes: two lengths of two, the sequence number and the flags.
@@ -42,18 +40,14 @@ pub fn is_bad_state(s: State, data_len: usize, places_len: usize) -> bool
 }
 
 // Puts the trailer after the rows, and answers the block's length: 18, 7, 6. The trailer tests its own room, which is that of 6.
-pub fn build_in_place(s: State, data: &mut [u8], offsets: &[u16]) -> BuildAnswer
+pub fn build_in_place(s: State, data: &mut [u8], offsets: &[u16]) -> Result<usize, Refusal>
     ensures { Finishes s «data».old offsets.now result «data».new }
 {
     if is_bad_state(s, data.len(), offsets.len()) {
-        return BuildAnswer::Refused(Refusal::BadState);
+        return Err(Refusal::BadState);
     }
     if s.rows == 0 {
-        return BuildAnswer::Refused(Refusal::EmptyBlock);
+        return Err(Refusal::EmptyBlock);
     }
-    let put = trailer_encode::put_trailer(data, s.used, offsets, s.rows);
-    match put {
-        Put::At(n) => BuildAnswer::Block(n),
-        Put::Refused(refusal) => BuildAnswer::Refused(refusal),
-    }
+    trailer_encode::put_trailer(data, s.used, offsets, s.rows)
 }

@@ -13,9 +13,7 @@ ghost use Rattle.row_encode_v0.specs.Parts.{key_bytes, held_bytes};
 ghost use Rattle.row_encode_v0.specs.Promise.{Encodes};
 
 use basics::{Kind, Refusal};
-use row_encode_v2::Encoded;
 use row_flags::RowFields;
-use row_size_v2::Sized;
 
 // The share, the suffix and its length, and the sequence number, at the start of `output`. Each of these answers the place after what it writes.
 fn write_key(output: &mut [u8], shared: usize, key_suffix: &[u8], seq: u64) -> usize
@@ -77,11 +75,11 @@ pub fn encode(
     key_suffix: &[u8],
     value: &[u8],
     row: RowFields,
-) -> Encoded
+) -> Result<usize, Refusal>
     ensures { Encodes first_len shared key_suffix.now value.now row output.old result output.new }
 {
     if first_len < shared {
-        return Encoded::Refused(Refusal::BadShare);
+        return Err(Refusal::BadShare);
     }
     let kind = row.kind;
     let expire = row.expire;
@@ -93,12 +91,9 @@ pub fn encode(
         value.len(),
         expire,
         create,
-    );
-    let Sized::Bytes(n) = size else {
-        return Encoded::Refused(row_size_v2::size_refusal(size));
-    };
-    if output.len() < n {
-        return Encoded::Refused(Refusal::BufferTooSmall);
+    )?;
+    if output.len() < size {
+        return Err(Refusal::BufferTooSmall);
     }
-    Encoded::Bytes(write_row(output, shared, key_suffix, value, row))
+    Ok(write_row(output, shared, key_suffix, value, row))
 }

@@ -7,8 +7,7 @@ ghost use Rattle.basics.specs.Says.{says_kind};
 ghost use Rattle.row_size_v0.specs.Parts.{length_size};
 ghost use Rattle.row_size_v0.specs.Promise.{Sizes};
 
-use basics::{Kind, Refusal, Time};
-use row_size_v2::Sized;
+use basics::{Kind, Refusal};
 
 // How many bytes the value's length takes: a tombstone has none.
 fn value_len_size(kind: Kind) -> usize
@@ -27,20 +26,17 @@ pub fn encoded_size(
     suffix_len: usize,
     kind: Kind,
     value_len: usize,
-    expire: Time,
-    create: Time,
-) -> Sized
+    expire: Option<i64>,
+    create: Option<i64>,
+) -> Result<usize, Refusal>
     ensures { Sizes shared suffix_len kind value_len expire create result }
 {
-    let key = row_size_v2::key_len(shared, suffix_len);
-    if let Sized::Refused(refusal) = key {
-        return Sized::Refused(refusal);
-    }
+    row_size_v2::key_len(shared, suffix_len)?;
     let kept = row_flags::kept_len(kind, value_len);
     if basics::MAX_VALUE < kept {
-        return Sized::Refused(Refusal::ValueTooLong);
+        return Err(Refusal::ValueTooLong);
     }
     let times = row_flags::time_len(expire) + row_flags::time_len(create);
     // 4: the lengths of the share and the suffix; 9: the sequence number and the flags
-    Sized::Bytes(4 + 9 + times + value_len_size(kind) + kept + suffix_len)
+    Ok(4 + 9 + times + value_len_size(kind) + kept + suffix_len)
 }

@@ -8,7 +8,7 @@ ghost use Rattle.layout_v1.specs.Builder.{fresh};
 ghost use Rattle.state_v1.specs.Says.{state_from};
 ghost use Rattle.state_v1.specs.Promise.{MakesState, TellsStateEmpty};
 
-use basics::{Refusal, Verdict};
+use basics::Refusal;
 
 // A builder without the bytes of its first key: those stay where they are, to compute the shared prefix. Bytes past the key's length tell nothing.
 #[derive(Clone, Copy)]
@@ -25,7 +25,7 @@ pub struct State {
 #[derive(Clone, Copy)]
 pub struct NewState {
     pub state: State,
-    pub answer: Verdict,
+    pub answer: Result<(), Refusal>,
 }
 
 fn empty_state(block_size: usize) -> State
@@ -46,12 +46,12 @@ pub fn new_state(block_size: usize) -> NewState
     if basics::MAX_BLOCK < block_size {
         return NewState {
             state: empty_state(0),
-            answer: Verdict::Refused(Refusal::BadSettings),
+            answer: Err(Refusal::BadSettings),
         };
     }
     NewState {
         state: empty_state(block_size),
-        answer: Verdict::Good,
+        answer: Ok(()),
     }
 }
 
