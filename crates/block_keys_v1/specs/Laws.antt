@@ -27,7 +27,7 @@ use Rattle.basics.specs.declared.IterationOrder.{IterationOrder}
 use Rattle.basics.specs.declared.IterationOrder.TheVariants.{Ascending, Descending}
 use Rattle.match_keys.specs.Promise.{Matches}
 use Rattle.match_keys.specs.declared.Matched.{Matched}
-use Rattle.trailer.specs.Handed.{has_region, handed}
+use Rattle.trailer.specs.Handed.{has_region, handed, region_at}
 use Rattle.trailer.specs.Laws.{handed-known}
 use Rattle.block_keys_v1.specs.declared.Stand.{Stand}
 use Rattle.block_keys_v1.specs.Handed.{first_place, first_at, row_found, row_found_at}
@@ -43,6 +43,15 @@ module _ (b : List ℕ) (t : Trailer) where
   pub place_read : {x : Res KeyRead} (g : Region) → region_of b t 0 ≡ ok g → x ≡ read_key (data_of b t) g.start g.end 0 → x ≡ first_place b t
   unfolding first_place
   place_read g e q = rw e q
+
+  -- the test of the trailer is the same
+  pub place_not : {n : ℕ} → region_at b t 0 ≡ refuse n → refuse n ≡ first_at b t
+  unfolding handed
+  place_not {n} e = go (not (has_region (length b) t 0)) e
+    where
+      go : (x : Bool) → guard x 18 (region_of b t 0) ≡ refuse n → refuse n ≡ guard x 18 (first_place b t)
+      go true q = let w : n ≡ 18 = cc in ap refuse w
+      go false q = place-region q
 
   pub first-used : trailer_of b ≡ ok t → first_at b t ≡ first_place b t
   first-used read = handed-known b t 0 _ (trailer_of-tells b t read)

@@ -36,13 +36,7 @@ struct Stand {
 pub fn first_key(block: &[u8], t: Trailer) -> Result<KeyPlace, Refusal>
     ensures { ReadsFirst block.now t result }
 {
-    if !trailer::has_region(t, block.len(), 0) {
-        return Err(Refusal::BadState);
-    }
-    let region = trailer::plain_region(block, t, 0);
-    if region.end == 0 {
-        return Err(Refusal::BadOffset);
-    }
+    let region = trailer::region_of(block, t, 0)?;
     row_decode_v0::decode_key_only(&block[..t.size], region.start, region.end, 0)
 }
 
@@ -90,10 +84,7 @@ fn keeps_above(
     requires stands { Stands (says_order order) first.now target.now whole }
     ensures { says_same result ≡ key_passes block.now (trailer_from t) first.now (keeps_upper (says_order order) target.now) index }
 {
-    let region = trailer::plain_region(block, t, index);
-    if region.end == 0 {
-        return Err(Refusal::BadOffset);
-    }
+    let region = trailer::region_of(block, t, index)?;
     let rows = &block[..t.size];
     let most = may_share(index, first.len());
     let key = row_decode_v0::decode_key_only(rows, region.start, region.end, most)?;
