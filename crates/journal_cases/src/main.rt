@@ -4,7 +4,6 @@
 mod say;
 
 use journal::Record;
-use journal_append::Appended;
 use std::io;
 
 fn debit(card: u64, retry: u64, amount: u32) -> Record {
@@ -25,10 +24,7 @@ fn top_up(card: u64, retry: u64, amount: u32) -> Record {
 
 // The first `n` bytes.
 fn first(buffer: &[u8], n: usize) -> &[u8] {
-    if buffer.len() < n {
-        return buffer;
-    }
-    &buffer[..n]
+    buffer.get(..n).unwrap_or(buffer)
 }
 
 fn add(rt: &impl Print, buffer: &mut [u8], used: usize, record: Record) -> io::Result<usize> {
@@ -47,11 +43,11 @@ fn at(rt: &impl Print, journal: &[u8], place: usize) -> io::Result<()> {
 }
 
 fn kinds(rt: &impl Print) -> io::Result<()> {
-    say::text(rt, b"empty\n")?;
+    println!(rt; "empty")?;
     let mut buffer = [0u8; 51];
     shown(rt, first(&buffer, 0))?;
     at(rt, first(&buffer, 0), 0)?;
-    say::text(rt, b"one of each kind\n")?;
+    println!(rt; "one of each kind")?;
     let a = add(rt, &mut buffer, 0, top_up(7, 1, 500))?;
     let b = add(rt, &mut buffer, a, debit(7, 2, 200))?;
     add(rt, &mut buffer, b, Record::Close { card: 7 })?;
@@ -65,7 +61,7 @@ fn kinds(rt: &impl Print) -> io::Result<()> {
 }
 
 fn doubles(rt: &impl Print) -> io::Result<()> {
-    say::text(rt, b"doubles of each kind\n")?;
+    println!(rt; "doubles of each kind")?;
     let mut buffer = [0u8; 84];
     let a = add(rt, &mut buffer, 0, top_up(7, 1, 500))?;
     let b = add(rt, &mut buffer, a, top_up(7, 1, 900))?;
@@ -75,7 +71,7 @@ fn doubles(rt: &impl Print) -> io::Result<()> {
 }
 
 fn two_kinds(rt: &impl Print) -> io::Result<()> {
-    say::text(rt, b"one retry number, two kinds, two cards\n")?;
+    println!(rt; "one retry number, two kinds, two cards")?;
     let mut buffer = [0u8; 63];
     let a = add(rt, &mut buffer, 0, top_up(7, 1, 500))?;
     let b = add(rt, &mut buffer, a, debit(7, 1, 30))?;
@@ -84,7 +80,7 @@ fn two_kinds(rt: &impl Print) -> io::Result<()> {
 }
 
 fn closes(rt: &impl Print) -> io::Result<()> {
-    say::text(rt, b"a close, a second one, and what comes after\n")?;
+    println!(rt; "a close, a second one, and what comes after")?;
     let mut buffer = [0u8; 81];
     let a = add(rt, &mut buffer, 0, top_up(7, 1, 500))?;
     let b = add(rt, &mut buffer, a, Record::Close { card: 7 })?;
@@ -103,10 +99,7 @@ fn cut(rt: &impl Print, journal: &[u8]) -> io::Result<()> {
 }
 
 fn cuts(rt: &impl Print) -> io::Result<()> {
-    say::text(
-        rt,
-        b"a top-up, another card's close and a debit, cut at every byte\n",
-    )?;
+    println!(rt; "a top-up, another card's close and a debit, cut at every byte")?;
     let mut buffer = [0u8; 51];
     let a = add(rt, &mut buffer, 0, top_up(7, 1, 500))?;
     let b = add(rt, &mut buffer, a, Record::Close { card: 8 })?;
@@ -116,17 +109,14 @@ fn cuts(rt: &impl Print) -> io::Result<()> {
 }
 
 fn unknown(rt: &impl Print) -> io::Result<()> {
-    say::text(
-        rt,
-        b"an unknown kind, as the last byte, and a used length past the buffer\n",
-    )?;
+    println!(rt; "an unknown kind, as the last byte, and a used length past the buffer")?;
     let mut buffer = [0u8; 22];
     add(rt, &mut buffer, 0, top_up(7, 1, 500))?;
     shown(rt, &buffer)?;
     at(rt, &buffer, 21)?;
     add(rt, &mut buffer, 22, debit(7, 2, 1))?;
     add(rt, &mut buffer, 23, debit(7, 2, 1))?;
-    say::text(rt, b"a tail of one byte\n")?;
+    println!(rt; "a tail of one byte")?;
     buffer[21] = 3;
     shown(rt, &buffer)?;
     add(rt, &mut buffer, 22, debit(7, 2, 1))?;
@@ -134,10 +124,7 @@ fn unknown(rt: &impl Print) -> io::Result<()> {
 }
 
 fn rooms(rt: &impl Print) -> io::Result<()> {
-    say::text(
-        rt,
-        b"a buffer with a byte too few, and one with none to spare\n",
-    )?;
+    println!(rt; "a buffer with a byte too few, and one with none to spare")?;
     let mut short = [0u8; 20];
     add(rt, &mut short, 0, debit(7, 2, 1))?;
     let mut exact = [0u8; 21];
@@ -153,31 +140,20 @@ fn rooms(rt: &impl Print) -> io::Result<()> {
 fn fill(buffer: &mut [u8]) -> usize {
     let mut used = 0;
     for i in 0..3120 {
-        match journal_append::append(buffer, used, debit(7, i, 4294967295)) {
-            Appended::Used(n) => {
-                used = n;
-            }
-            Appended::Refused(_) => (),
-        }
+        used = journal_append::append(buffer, used, debit(7, i, 4294967295)).unwrap_or(used);
     }
     used
 }
 
 fn full(rt: &impl Print) -> io::Result<()> {
-    say::text(
-        rt,
-        b"3,120 debits, each the largest, and a close: 65,529 bytes\n",
-    )?;
+    println!(rt; "3,120 debits, each the largest, and a close: 65,529 bytes")?;
     let mut buffer = [3u8; 65537];
     let used = fill(&mut buffer);
     shown(rt, first(&buffer, used))?;
     add(rt, &mut buffer, used, debit(7, 9, 1))?;
     let a = add(rt, &mut buffer, used, Record::Close { card: 8 })?;
     add(rt, &mut buffer, a, Record::Close { card: 8 })?;
-    say::text(
-        rt,
-        b"65,536 bytes, and one more, also with an unknown kind\n",
-    )?;
+    println!(rt; "65,536 bytes, and one more, also with an unknown kind")?;
     shown(rt, first(&buffer, 65536))?;
     shown(rt, &buffer)?;
     add(rt, &mut buffer, 65536, Record::Close { card: 8 })?;
