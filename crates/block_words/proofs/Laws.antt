@@ -7,6 +7,7 @@ use mathlib.Core.List.{List}
 use lib.Dec.{eqb}
 use lib.ListN.{length}
 use borrow.Author.Tests.{eqb-true, not-false}
+use Rattle.std.specs.Prelude.{Some}
 use Rattle.layout.specs.Res.{ok, refuse}
 use Rattle.layout.specs.Cursor.{Direction, Cursor}
 use Rattle.layout.proofs.Laws.Res.{guard-then}
@@ -14,7 +15,6 @@ use Rattle.basics.specs.Says.{says_order}
 use Rattle.place_v2.specs.declared.Place.{Place}
 use Rattle.row_words.specs.Words.{bad_words, truth_in, order_in, word_at, cursor_from, cursor_in, cursor_count}
 use Rattle.block_words.specs.Says.{says_cursor}
-use Rattle.block_words.specs.declared.CursorRead.TheVariants.{Is as IsCursor}
 use Rattle.row_words.proofs.Laws.{counted-not, counted-so}
 
 pub cursor-short : (ws : List ℕ) → (length ws ≡ cursor_count → ⊥) → (key : List ℕ) → refuse bad_words ≡ cursor_in ws key
@@ -36,7 +36,7 @@ module _ (ws : List ℕ) (h : length ws ≡ cursor_count) {d : Direction} (o : o
 
 pub cursor-loaded : (ws : List ℕ) (p : Place) → length ws ≡ cursor_count → order_in (word_at ws 0) ≡ ok (says_order p.order) → truth_in (word_at ws 4) ≡ ok p.done
     → p.region ≡ word_at ws 1 → p.at ≡ word_at ws 2 → p.key_len ≡ word_at ws 3 → p.number ≡ word_at ws 5
-    → (key : List ℕ) → says_cursor key (IsCursor p) ≡ cursor_in ws key
+    → (key : List ℕ) → says_cursor key (Some p) ≡ cursor_in ws key
 cursor-loaded ws p h o m r a k n key = rw (r, a, k, n) (sym (cursor-read ws h o m key))
 
 -- what is a cursor has its six words

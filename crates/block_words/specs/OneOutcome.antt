@@ -1,25 +1,20 @@
 -- Each promise admits one outcome: two results, with the words and bytes that they leave, that both keep it are equal; but for the key bytes past the length of
 -- the key that a cursor carries after a step.
-use Rattle.std.specs.Prelude.{ℕ, Bool, ◌≡◌, List, [], length, take}
+use Rattle.std.specs.Prelude.{ℕ, Bool, ◌≡◌, List, [], length, take, Option}
 use Rattle.std.proofs.Common.{sym, ◌∙◌}
 use Rattle.layout.specs.Res.{Res, ok, refuse, bind}
 use Rattle.layout.specs.Cursor.{Cursor, next}
 use Rattle.layout.specs.Limits.{max_key}
 use Rattle.place_v2.specs.declared.Place.{Place}
-use Rattle.block_words.specs.declared.OrderRead.{OrderRead}
-use Rattle.block_words.specs.declared.CursorRead.{CursorRead}
 use Rattle.row_words.specs.Words.{counted, cursor_in, row_count}
-use Rattle.block_words.specs.Says.{says_ordered-one, says_cursor-one}
-use Rattle.block_words.specs.Promise.{LoadsOrder, LoadsCursor, PutsCursor, LoadsStep}
+use Rattle.block_words.specs.Says.{says_cursor-one}
+use Rattle.block_words.specs.Promise.{LoadsCursor, PutsCursor, LoadsStep}
 use Rattle.block_words.specs.Exports.{KeyLeft, StepsFlat}
 use Rattle.row_words.specs.OneOutcome.{stores_settled}
 
-pub order_in_settled : (w : ℕ) (r q : OrderRead) → LoadsOrder w r → LoadsOrder w q → r ≡ q
-order_in_settled w r q m n = says_ordered-one r q (m ∙ sym n)
-
 -- ---- a cursor
 
-pub cursor_in_settled : (ws : List ℕ) (r q : CursorRead) → LoadsCursor ws r → LoadsCursor ws q → r ≡ q
+pub cursor_in_settled : (ws : List ℕ) (r q : Option Place) → LoadsCursor ws r → LoadsCursor ws q → r ≡ q
 cursor_in_settled ws r q m n = says_cursor-one [] r q (m [] ∙ sym (n []))
 
 pub put-cursor-settled : (p : Place) (ws : List ℕ) (r q : Bool) (ys zs : List ℕ) → PutsCursor p ws r ys → PutsCursor p ws q zs → (r ≡ q) × (ys ≡ zs)
@@ -27,7 +22,7 @@ put-cursor-settled p ws r q ys zs m n = stores_settled m n
 
 -- ---- what a call starts from
 
-pub step_in_settled : (ws key row : List ℕ) (r q : CursorRead) → LoadsStep ws key row r → LoadsStep ws key row q → r ≡ q
+pub step_in_settled : (ws key row : List ℕ) (r q : Option Place) → LoadsStep ws key row r → LoadsStep ws key row q → r ≡ q
 step_in_settled ws key row r q m n = says_cursor-one key r q (m ∙ sym n)
 
 -- ---- the exports of the crates above

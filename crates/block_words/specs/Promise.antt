@@ -1,21 +1,16 @@
 -- What each public function promises: equations to the definitions, that settle each case and number answered and each word and byte lent.
-use Rattle.std.specs.Prelude.{ℕ, Bool, ◌≡◌, List, []}
+use Rattle.std.specs.Prelude.{ℕ, Bool, ◌≡◌, List, [], Option}
 use Rattle.layout.specs.Limits.{max_key}
 use Rattle.place_v2.specs.Says.{view_in}
 use Rattle.place_v2.specs.declared.Place.{Place}
-use Rattle.block_words.specs.declared.OrderRead.{OrderRead}
-use Rattle.block_words.specs.declared.CursorRead.{CursorRead}
-use Rattle.row_words.specs.Words.{counted, order_in, cursor_in, cursor_words, cursor_count, row_count}
-use Rattle.block_words.specs.Says.{says_ordered, says_cursor}
+use Rattle.row_words.specs.Words.{counted, cursor_in, cursor_words, cursor_count, row_count}
+use Rattle.block_words.specs.Says.{says_cursor}
 use Rattle.row_words.specs.Promise.{Stores}
-
-abbrev pub LoadsOrder : ℕ → OrderRead → Type 0
-LoadsOrder w r = says_ordered r ≡ order_in w
 
 -- ---- a cursor
 
 -- whatever bytes stand beside the words
-abbrev pub LoadsCursor : List ℕ → CursorRead → Type 0
+abbrev pub LoadsCursor : List ℕ → Option Place → Type 0
 LoadsCursor ws r = (key : List ℕ) → says_cursor key r ≡ cursor_in ws key
 
 abbrev pub PutsCursor : Place → List ℕ → Bool → List ℕ → Type 0
@@ -23,5 +18,5 @@ PutsCursor p ws r ws' = Stores cursor_count (cursor_words (view_in p [])) ws r w
 
 -- ---- what a call starts from
 
-abbrev pub LoadsStep : List ℕ → List ℕ → List ℕ → CursorRead → Type 0
+abbrev pub LoadsStep : List ℕ → List ℕ → List ℕ → Option Place → Type 0
 LoadsStep ws key row r = says_cursor key r ≡ counted row row_count (counted key max_key (cursor_in ws key))

@@ -3,13 +3,9 @@
 #![tactic(auto)]
 
 ghost use Rattle.std.specs.Prelude.{◌≡◌};
-ghost use Rattle.basics.specs.Says.{says_order};
-ghost use Rattle.row_words.specs.Words.{order_word};
-ghost use Rattle.block_words.specs.Promise.{LoadsOrder, LoadsCursor, PutsCursor, LoadsStep};
+ghost use Rattle.block_words.specs.Promise.{LoadsCursor, PutsCursor, LoadsStep};
 
-use basics::IterationOrder;
 use place_v2::Place;
-use row_words::TruthRead;
 
 // ---- codes: beside these, the number of a refusal
 
@@ -23,70 +19,23 @@ pub const DONE: u8 = 255;
 
 pub const CURSOR_WORDS: usize = 6;
 
-#[derive(Clone, Copy)]
-pub enum OrderRead {
-    Is(IterationOrder),
-    Bad,
-}
-
-#[derive(Clone, Copy)]
-pub enum CursorRead {
-    Is(Place),
-    Bad,
-}
-
-// ---- single words
-
-fn size(word: u64) -> usize
-    ensures { result ≡ word }
-{
-    word as usize
-}
-
-pub fn order_in(word: u64) -> OrderRead
-    ensures { LoadsOrder word result }
-{
-    if word == 0 {
-        return OrderRead::Is(IterationOrder::Ascending);
-    }
-    if word == 1 {
-        return OrderRead::Is(IterationOrder::Descending);
-    }
-    OrderRead::Bad
-}
-
-fn order_word(order: IterationOrder) -> u64
-    ensures { result ≡ order_word (says_order order) }
-{
-    match order {
-        IterationOrder::Ascending => 0,
-        IterationOrder::Descending => 1,
-    }
-}
-
 // ---- a cursor
 
-pub fn cursor_in(words: &[u64]) -> CursorRead
+pub fn cursor_in(words: &[u64]) -> Option<Place>
     ensures { LoadsCursor words.now result }
 {
     if words.len() != CURSOR_WORDS {
-        return CursorRead::Bad;
+        return None;
     }
-    let ordered = order_in(words[0]);
-    let OrderRead::Is(order) = ordered else {
-        return CursorRead::Bad;
-    };
-    let marked = row_words::truth_in(words[4]);
-    let TruthRead::Is(done) = marked else {
-        return CursorRead::Bad;
-    };
-    CursorRead::Is(Place {
+    let order = row_words::order_in(words[0])?;
+    let done = row_words::truth_in(words[4])?;
+    Some(Place {
         order,
-        region: size(words[1]),
-        at: size(words[2]),
-        key_len: size(words[3]),
+        region: words[1] as usize,
+        at: words[2] as usize,
+        key_len: words[3] as usize,
         done,
-        number: size(words[5]),
+        number: words[5] as usize,
     })
 }
 
@@ -97,8 +46,7 @@ pub fn put_cursor(words: &mut [u64], p: Place) -> bool
     if words.len() != CURSOR_WORDS {
         return false;
     }
-    let order = p.order;
-    words[0] = order_word(order);
+    words[0] = row_words::order_word(p.order);
     words[1] = p.region as u64;
     words[2] = p.at as u64;
     words[3] = p.key_len as u64;
@@ -110,14 +58,14 @@ pub fn put_cursor(words: &mut [u64], p: Place) -> bool
 // ---- what a call starts from: 254 is for all of it
 
 // The cursor that a step is made with, by its words and as many bytes as the longest key has, where a row's words are lent.
-pub fn step_in(cursor: &[u64], key: &[u8], row: &[u64]) -> CursorRead
+pub fn step_in(cursor: &[u64], key: &[u8], row: &[u64]) -> Option<Place>
     ensures { LoadsStep cursor.now key.now row.now result }
 {
     if row.len() != row_words::ROW_WORDS {
-        return CursorRead::Bad;
+        return None;
     }
     if key.len() != basics::MAX_KEY {
-        return CursorRead::Bad;
+        return None;
     }
     cursor_in(cursor)
 }

@@ -3,18 +3,10 @@
 use mathlib.Core.List.{[], ◌∷◌}
 use Rattle.row_words.proofs.Stores.{all-stored}
 use Rattle.row_words.proofs.Laws.{stores_none, stores_all}
-use native.Mathlib.Omega.{arith}
-use lib.ListN.{length-set}
 use Rattle.block_words.proofs.put_cursor.Goals as goal
 
 pub returns-then-words-ne-CURSOR_WORDS : goal.returns-then-words-ne-CURSOR_WORDS
 returns-then-words-ne-CURSOR_WORDS c = stores_none _ c.if-words-ne-CURSOR_WORDS.true
-
-pub bounds-words-4 : goal.bounds-words-4
-bounds-words-4 c = simp length-set (omega (arith, c.if-words-ne-CURSOR_WORDS.false))
-
-pub bounds-words-5 : goal.bounds-words-5
-bounds-words-5 c = simp length-set (omega (arith, c.if-words-ne-CURSOR_WORDS.false))
 
 pub returns : goal.returns
 returns c =
