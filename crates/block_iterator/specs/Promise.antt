@@ -1,15 +1,15 @@
 -- What each public function promises: equations to the definitions of `layout_v1`, that settle each number answered and each byte lent. A cursor is known by its view, which
 -- tells all of it.
-use Rattle.std.specs.Prelude.{ℕ, ◌≡◌, List, length}
+use Rattle.std.specs.Prelude.{ℕ, Bool, ◌≡◌, List, length, Result}
 use Rattle.layout.specs.Res.{Res, bind, whether}
 use Rattle.layout_v1.specs.Cursor.{cursor_or, open_block, Step, next, cursor_after, key_after, is_empty}
 use Rattle.layout_v1.specs.Seek.{Sought as SoughtL, seek, sought_after}
 use Rattle.basics.specs.Answers.{says_verdict}
 use Rattle.basics.specs.Says.{says_order}
 use Rattle.basics.specs.declared.IterationOrder.{IterationOrder}
+use Rattle.basics.specs.declared.Refusal.{Refusal}
 use Rattle.block_iterator.specs.declared.BlockIterator.{BlockIterator}
 use Rattle.block_iterator.specs.declared.Opened.{Opened}
-use Rattle.block_iterator.specs.declared.EmptyRead.{EmptyRead}
 use Rattle.block_iterator.specs.declared.Next.{Next}
 use Rattle.block_iterator.specs.declared.Sought.{Sought}
 use Rattle.block_iterator.specs.Says.{view_of, says_empty, told, says_next, reported, says_seek}
@@ -19,7 +19,7 @@ pub record Opens (b : List ℕ) (order : IterationOrder) (r : Opened) : Type 0 w
   pub answer : says_verdict r.answer ≡ whether (open_block b (says_order order))
   pub view : view_of r.iterator ≡ cursor_or (says_order order) (open_block b (says_order order))
 
-abbrev pub TellsEmpty : BlockIterator → List ℕ → EmptyRead → Type 0
+abbrev pub TellsEmpty : BlockIterator → List ℕ → Result Bool Refusal → Type 0
 TellsEmpty self b r = says_empty r ≡ is_empty (view_of self) b
 
 -- a step that is wanted of a cursor: its answer r, and the lent key buffer that it leaves

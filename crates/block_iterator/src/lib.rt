@@ -9,17 +9,16 @@ ghost use Rattle.layout.specs.Res.{ok};
 ghost use Rattle.layout.specs.Place.{splice};
 ghost use Rattle.layout.specs.Trailer.{trailer_of};
 ghost use Rattle.layout_v1.specs.Cursor.{number_of};
-ghost use Rattle.layout_v1.specs.Seek.{passed_by};
+ghost use Rattle.layout_v1.specs.Seek.{passed_by, seek};
 ghost use Rattle.basics.specs.Says.{says_order};
 ghost use Rattle.row_decode_v2.specs.Says.{row_from};
 ghost use Rattle.trailer.specs.Says.{trailer_from};
-ghost use Rattle.block_iterator.specs.Parts.{key_at, Fits, Loads, Gives, refused_with};
+ghost use Rattle.block_iterator.specs.Parts.{key_at, Fits, Loads, Gives, Tests, says_landed, refused_with};
 ghost use Rattle.block_iterator.specs.Promise.{Opens, StepsNext, SeeksTarget, TellsEmpty};
 
-use basics::{IterationOrder, Refusal, Verdict};
-use block_keys_v1::Search;
-use row_decode_v2::{KeyRead, Row, RowRead};
-use trailer::{Trailer, TrailerRead};
+use basics::{IterationOrder, Refusal};
+use row_decode_v2::Row;
+use trailer::Trailer;
 
 // A cursor: its order, and how many rows it has passed; all passed is "done".
 #[derive(Clone, Copy)]
@@ -31,48 +30,42 @@ pub struct BlockIterator {
 #[derive(Clone, Copy)]
 pub struct Opened {
     pub iterator: BlockIterator,
-    pub answer: Verdict,
+    pub answer: Result<(), Refusal>,
 }
 
+// A row that a step gives, and its number in the block.
 #[derive(Clone, Copy)]
-pub enum EmptyRead {
-    Is(bool),
-    Refused(Refusal),
+pub struct Found {
+    pub number: usize,
+    pub row: Row,
 }
 
-#[derive(Clone, Copy)]
-pub enum NextAnswer {
-    // The row, and its number in the block.
-    Found { number: usize, row: Row },
-    Done,
-    Refused(Refusal),
-}
-
-// What a step answers, with the cursor moved past the row.
+// What a step answers, with the cursor moved past the row; no row where all are passed.
 #[derive(Clone, Copy)]
 pub struct Next {
     pub iterator: BlockIterator,
-    pub answer: NextAnswer,
+    pub answer: Result<Option<Found>, Refusal>,
 }
 
-#[derive(Clone, Copy)]
-pub enum SeekAnswer {
-    // How many keys the search read; the cursor stands where the target belongs, with all rows passed where none is left.
-    Landed(usize),
-    Refused(Refusal),
-}
-
+// What a seek answers: how many keys the search read. The cursor stands where the target belongs, with all rows passed where none is left.
 #[derive(Clone, Copy)]
 pub struct Sought {
     pub iterator: BlockIterator,
-    pub answer: SeekAnswer,
+    pub answer: Result<usize, Refusal>,
 }
 
 // A row that was read, and where the first key starts, of which it shares a part.
 #[derive(Clone, Copy)]
-enum Loaded {
-    Row { first_at: usize, row: Row },
-    Refused(Refusal),
+struct Loaded {
+    first_at: usize,
+    row: Row,
+}
+
+// Where a seek's cursor stands, and how many keys the search read.
+#[derive(Clone, Copy)]
+struct Landed {
+    passed: usize,
+    reads: usize,
 }
 
 // ---- one step
@@ -90,29 +83,22 @@ fn number_of(order: IterationOrder, count: usize, passed: usize) -> usize
 
 // All that a step tests once it is known that a row is left, with nothing written: row 0's key, 15 for the row's offset and the next, the row, 19.
 // (`load_at_current_off` in the Rust.)
-fn load_at(block: &[u8], t: Trailer, index: usize, room: usize) -> Loaded
+fn load_at(block: &[u8], t: Trailer, index: usize, room: usize) -> Result<Loaded, Refusal>
     requires { (trailer_of block.now ≡ ok (trailer_from t)) × (index < t.count) }
     ensures { Loads block.now (trailer_from t) index room result }
 {
-    let k = block_keys_v1::first_key(block, t);
-    let KeyRead::Read(first) = k else {
-        return Loaded::Refused(row_decode_v2::key_refusal(k));
-    };
-    let region = trailer::plain_region(block, t, index);
-    if region.end == 0 {
-        return Loaded::Refused(Refusal::BadOffset);
-    }
+    let first = block_keys_v1::first_key(block, t)?;
+    let region = trailer::region_of(block, t, index)?;
     let most = block_keys_v1::may_share(index, first.suffix_len);
-    let size = t.size;
-    let a = row_decode_v0::decode_at(&block[..size], region.start, region.end, most);
-    let RowRead::Read(row) = a else {
-        return Loaded::Refused(row_decode_v2::row_refusal(a));
-    };
+    let rows = &block[..t.size];
+    let row = row_decode_v0::decode_at(rows, region.start, region.end, most)?;
     if room < row.shared + row.suffix_len {
-        return Loaded::Refused(Refusal::KeyBufferTooShort);
+        return Err(Refusal::KeyBufferTooShort);
     }
-    let first_at = first.suffix_at;
-    Loaded::Row { first_at, row }
+    Ok(Loaded {
+        first_at: first.suffix_at,
+        row,
+    })
 }
 
 // Gives the row's key: what it shares of the first key, then its suffix. (`restore_full_key` in the Rust.)
@@ -121,10 +107,10 @@ fn give_key(out: &mut [u8], data: &[u8], first_at: usize, row: Row)
     ensures { out.new ≡ splice out.old 0 (key_at «data».now first_at (row_from row)) }
 {
     let first_end = first_at + row.shared;
-    buf_mut::copy_in(out, 0, &data[first_at..first_end]);
+    let _ = buf_mut::copy_in(out, 0, &data[first_at..first_end]);
     let from = row.suffix_at;
     let end = from + row.suffix_len;
-    buf_mut::copy_in(out, row.shared, &data[from..end]);
+    let _ = buf_mut::copy_in(out, row.shared, &data[from..end]);
 }
 
 // A refused step gives the cursor back as it came.
@@ -133,7 +119,7 @@ fn refused(c: BlockIterator, refusal: Refusal) -> Next
 {
     Next {
         iterator: c,
-        answer: NextAnswer::Refused(refusal),
+        answer: Err(refusal),
     }
 }
 
@@ -145,22 +131,20 @@ fn give_row(c: BlockIterator, block: &[u8], t: Trailer, out: &mut [u8]) -> Next
     let order = c.order;
     let passed = c.passed;
     let number = number_of(order, t.count, passed);
-    let loaded = load_at(block, t, number, out.len());
-    match loaded {
-        Loaded::Row { first_at, row } => {
-            let size = t.size;
-            give_key(out, &block[..size], first_at, row);
+    match load_at(block, t, number, out.len()) {
+        Ok(loaded) => {
+            let row = loaded.row;
+            give_key(out, &block[..t.size], loaded.first_at, row);
             let moved = passed + 1;
-            let iterator = BlockIterator {
-                order,
-                passed: moved,
-            };
             Next {
-                iterator,
-                answer: NextAnswer::Found { number, row },
+                iterator: BlockIterator {
+                    order,
+                    passed: moved,
+                },
+                answer: Ok(Some(Found { number, row })),
             }
         }
-        Loaded::Refused(refusal) => refused(c, refusal),
+        Err(refusal) => refused(c, refusal),
     }
 }
 
@@ -177,48 +161,46 @@ fn passed_by(order: IterationOrder, count: usize, place: usize) -> usize
     }
 }
 
+// What a seek finds: how many rows its cursor has passed, and how many keys the search read. 14, row 0's key, then what the search over all rows' keys answers.
+fn search(block: &[u8], order: IterationOrder, target: &[u8]) -> Result<Landed, Refusal>
+    ensures { says_landed (says_order order) result ≡ seek (says_order order) block.now target.now }
+{
+    let t = trailer::trailer_of(block)?;
+    let found = block_keys_v1::find_row(block, t, order, target)?;
+    Ok(Landed {
+        passed: passed_by(order, t.count, found.place),
+        reads: found.reads,
+    })
+}
+
+// What opening a block tests, in either order: 14, 15, what row 0's key refuses.
+fn open(block: &[u8]) -> Result<(), Refusal>
+    ensures { Tests block.now result }
+{
+    let t = trailer::trailer_of(block)?;
+    let _ = trailer::all_offsets(block, t)?;
+    let _ = block_keys_v1::first_key(block, t)?;
+    Ok(())
+}
+
 impl BlockIterator {
     // Opens a block with all its offsets tested and row 0's key read: 14, 15, what that key refuses. A cursor that has passed no row stands beside a refusal too.
     pub fn new(block: &[u8], order: IterationOrder) -> Opened
         ensures { Opens block.now order result }
     {
         let iterator = BlockIterator { order, passed: 0 };
-        let read = trailer::trailer_of(block);
-        let TrailerRead::Good(t) = read else {
-            return Opened {
-                iterator,
-                answer: Verdict::Refused(trailer::trailer_refusal(read)),
-            };
-        };
-        let offsets = trailer::all_offsets(block, t);
-        if let Verdict::Refused(refusal) = offsets {
-            return Opened {
-                iterator,
-                answer: Verdict::Refused(refusal),
-            };
-        }
-        let k = block_keys_v1::first_key(block, t);
-        match k {
-            KeyRead::Read(_) => Opened {
-                iterator,
-                answer: Verdict::Good,
-            },
-            KeyRead::Refused(refusal) => Opened {
-                iterator,
-                answer: Verdict::Refused(refusal),
-            },
+        Opened {
+            iterator,
+            answer: open(block),
         }
     }
 
     // Whether all rows are passed. Only the trailer is tested: 14.
-    pub fn is_empty(self, block: &[u8]) -> EmptyRead
+    pub fn is_empty(self, block: &[u8]) -> Result<bool, Refusal>
         ensures { TellsEmpty self block.now result }
     {
-        let t = trailer::plain_trailer(block);
-        if t.count == 0 {
-            return EmptyRead::Refused(Refusal::BadTrailer);
-        }
-        EmptyRead::Is(t.count <= self.passed)
+        let t = trailer::trailer_of(block)?;
+        Ok(t.count <= self.passed)
     }
 
     // One step. Tested in this order: the trailer (14), that no more rows are passed than there are (18), whether all are, then what the row's read asks for.
@@ -226,17 +208,17 @@ impl BlockIterator {
     pub fn next(self, block: &[u8], out: &mut [u8]) -> Next
         ensures { StepsNext self block.now out.old result out.new }
     {
-        let t = trailer::plain_trailer(block);
-        if t.count == 0 {
-            return refused(self, Refusal::BadTrailer);
-        }
+        let t = match trailer::trailer_of(block) {
+            Ok(t) => t,
+            Err(refusal) => return refused(self, refusal),
+        };
         if t.count < self.passed {
             return refused(self, Refusal::BadState);
         }
         if self.passed == t.count {
             return Next {
                 iterator: self,
-                answer: NextAnswer::Done,
+                answer: Ok(None),
             };
         }
         give_row(self, block, t, out)
@@ -246,29 +228,17 @@ impl BlockIterator {
     pub fn seek(self, block: &[u8], target: &[u8]) -> Sought
         ensures { SeeksTarget self block.now target.now result }
     {
-        let t = trailer::plain_trailer(block);
-        if t.count == 0 {
-            return Sought {
+        match search(block, self.order, target) {
+            Ok(landed) => Sought {
+                iterator: BlockIterator {
+                    order: self.order,
+                    passed: landed.passed,
+                },
+                answer: Ok(landed.reads),
+            },
+            Err(refusal) => Sought {
                 iterator: self,
-                answer: SeekAnswer::Refused(Refusal::BadTrailer),
-            };
-        }
-        let order = self.order;
-        let found = block_keys_v1::find_row(block, t, order, target);
-        match found {
-            Search::Found { place, reads } => {
-                let iterator = BlockIterator {
-                    order,
-                    passed: passed_by(order, t.count, place),
-                };
-                Sought {
-                    iterator,
-                    answer: SeekAnswer::Landed(reads),
-                }
-            }
-            Search::Refused(refusal) => Sought {
-                iterator: self,
-                answer: SeekAnswer::Refused(refusal),
+                answer: Err(refusal),
             },
         }
     }

@@ -10,8 +10,8 @@ use Rattle.block_iterator.specs.Says.{view_of}
 use Rattle.block_iterator.proofs.Laws.{steps-not, steps-found, loaded-row, loaded-fits, loaded-not, number-inside}
 use Rattle.block_iterator.proofs.give_row.Goals as goal
 
-pub load_at-loaded-requires : goal.load_at-loaded-requires
-load_at-loaded-requires c =
+pub load_at-requires : goal.load_at-requires
+load_at-requires c =
     (c.requires.0, number-inside (says_order c.args.c.order) _ _ c.requires.1 c.number_of-number.ensures)
 
 pub slice_bounds-give_key-end : goal.slice_bounds-give_key-end
@@ -19,19 +19,19 @@ slice_bounds-give_key-end c = sym (length-take-le _ _ (omega (arith, (trailer_of
 
 pub give_key-requires : goal.give_key-requires
 give_key-requires c =
-    loaded-fits _ _ _ _ c.load_at-loaded.ensures c.in-Row.is
+    loaded-fits _ _ _ _ c.load_at.ensures c.in-Ok.is
 
 pub overflow_add-moved : goal.overflow_add-moved
 overflow_add-moved c = omega (arith, c.requires.1, (trailer_of-tells _ _ c.requires.0).0)
 
-pub returns-in-Row : goal.returns-in-Row
-returns-in-Row c =
+pub returns-in-Ok : goal.returns-in-Ok
+returns-in-Ok c =
     steps-found _ c.args.c _
-    (ap (step_to (view_of c.args.c) _ _ _) (sym c.number_of-number.ensures) ∙ loaded-row _ _ _ _ c.load_at-loaded.ensures (view_of c.args.c) c.in-Row.is)
+    (ap (step_to (view_of c.args.c) _ _ _) (sym c.number_of-number.ensures) ∙ loaded-row _ _ _ _ c.load_at.ensures (view_of c.args.c) c.in-Ok.is)
     c.give_key.ensures
 
-pub returns-in-Refused : goal.returns-in-Refused
-returns-in-Refused c =
+pub returns-in-Err : goal.returns-in-Err
+returns-in-Err c =
     steps-not _ c.args.c _
-    (ap (step_to (view_of c.args.c) _ _ _) (sym c.number_of-number.ensures) ∙ loaded-not _ _ _ _ c.load_at-loaded.ensures (view_of c.args.c) c.in-Refused.is)
+    (ap (step_to (view_of c.args.c) _ _ _) (sym c.number_of-number.ensures) ∙ loaded-not _ _ _ _ c.load_at.ensures (view_of c.args.c) c.in-Err.is)
     c.refused.ensures
