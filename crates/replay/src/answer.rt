@@ -1,17 +1,22 @@
-// A command's number is its place among the names.
+// A command's name, and what answers it.
 use crate::{single, writing};
-use replay_text::{show, words};
+use replay_text::lines::Commands;
+use replay_text::words;
 use std::io;
 
-pub fn answer(rt: &impl Print, line: &[u8]) -> io::Result<()> {
-    let names = b"build2 fit2 row2 varint unrow2 key2 unvarint";
-    let command = words::which(words::word(line, b' ', 0), names);
-    match command {
-        0 => writing::build(rt, line),
-        1 => writing::fit(rt, line),
-        2 => single::row(rt, line),
-        3 => single::varint(rt, line),
-        single::UNROW..=single::UNVARINT => single::read(rt, line, command),
-        _ => show::mark(rt, b'?'),
+pub struct RowsAndBuilders;
+
+impl Commands for RowsAndBuilders {
+    fn answer(&self, rt: &impl Print, line: &[u8]) -> io::Result<()> {
+        match words::word(line, b' ', 0) {
+            b"build2" => writing::build(rt, line),
+            b"fit2" => writing::fit(rt, line),
+            b"row2" => single::row(rt, line),
+            b"varint" => single::varint(rt, line),
+            b"unrow2" => single::unrow(rt, line),
+            b"key2" => single::key(rt, line),
+            b"unvarint" => single::unvarint(rt, line),
+            _ => print!(rt; "?"),
+        }
     }
 }

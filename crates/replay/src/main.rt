@@ -5,12 +5,12 @@
 #![tactic(auto)]
 
 mod answer;
-mod lines;
 mod single;
 mod writing;
 
+use replay_text::lines;
 use std::io;
 
 fn main(rt: HostRuntime) -> io::Result<()> {
-    lines::answer_input(&rt)
+    lines::answer_input(&rt, &answer::RowsAndBuilders)
 }

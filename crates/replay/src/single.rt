@@ -1,19 +1,7 @@
 // The commands on one row or one number.
-use buf_mut::Put;
 use replay_text::{offered, parse, show, words};
-use row_decode_v2::{KeyRead, RowRead};
-use row_encode_v2::Encoded;
 use row_flags::RowFields;
-use row_size_v2::Sized;
 use std::io;
-use utils_decode::VarintRead;
-
-// The numbers of the commands that read.
-pub const UNROW: usize = 4;
-
-pub const KEY: usize = 5;
-
-pub const UNVARINT: usize = 6;
 
 // The row's size, from its lengths alone.
 fn size(
@@ -23,12 +11,11 @@ fn size(
     value_len: usize,
     row: RowFields,
 ) -> io::Result<()> {
-    let kind = row.kind;
-    let expire = row.expire;
-    let create = row.create;
-    match row_size_v2::encoded_size(shared, suffix_len, kind, value_len, expire, create) {
-        Sized::Bytes(n) => show::number(rt, n as u64),
-        Sized::Refused(r) => show::refusal(rt, r),
+    match row_size_v2::encoded_size(
+        shared, suffix_len, row.kind, value_len, row.expire, row.create,
+    ) {
+        Ok(n) => print!(rt; "{n}"),
+        Err(r) => show::refusal(rt, r),
     }
 }
 
@@ -42,8 +29,8 @@ fn encoded(
 ) -> io::Result<()> {
     let mut out = [0u8; 32768];
     match row_encode_v2::encode(&mut out, shared, shared, suffix, value, row) {
-        Encoded::Bytes(n) => show::bytes(rt, &out, 0, n),
-        Encoded::Refused(r) => show::refusal(rt, r),
+        Ok(n) => show::bytes(rt, &out, 0, n),
+        Err(r) => show::refusal(rt, r),
     }
 }
 
@@ -57,7 +44,7 @@ pub fn row(rt: &impl Print, line: &[u8]) -> io::Result<()> {
     let v = offered::value(row, &mut value);
     let fields = offered::fields(row);
     encoded(rt, shared, &suffix[..k], &value[..v], fields)?;
-    show::mark(rt, b' ')?;
+    print!(rt; " ")?;
     size(rt, shared, k, v, fields)
 }
 
@@ -66,70 +53,71 @@ pub fn varint(rt: &impl Print, line: &[u8]) -> io::Result<()> {
     let n = parse::number(words::word(line, b' ', 1));
     let mut out = [0u8; 5];
     match utils::encode_varint(&mut out, 0, (n % 4294967296) as u32) {
-        Put::At(next) => show::bytes(rt, &out, 0, next),
-        Put::Refused(r) => show::refusal(rt, r),
+        Ok(next) => show::bytes(rt, &out, 0, next),
+        Err(r) => show::refusal(rt, r),
     }
 }
 
 // The share, the row with its suffix as its key, and how many bytes were read.
 fn decoded_row(rt: &impl Print, s: &[u8]) -> io::Result<()> {
     match row_decode_v2::decode(s, basics::MAX_KEY) {
-        RowRead::Read(row) => {
-            show::number(rt, row.shared as u64)?;
-            show::mark(rt, b' ')?;
+        Ok(row) => {
+            print!(rt; "{} ", row.shared)?;
             show::bytes(rt, s, row.suffix_at, row.suffix_len)?;
             show::row(rt, s, row)?;
-            show::mark(rt, b' ')?;
-            show::number(rt, row.next as u64)
+            print!(rt; " {}", row.next)
         }
-        RowRead::Refused(r) => show::refusal(rt, r),
+        Err(r) => show::refusal(rt, r),
     }
 }
 
 // The suffix, and how many bytes were read.
 fn suffix(rt: &impl Print, s: &[u8], at: usize, len: usize) -> io::Result<()> {
     if len == 0 {
-        show::mark(rt, b'-')?;
+        print!(rt; "-")?;
     }
     show::bytes(rt, s, at, len)?;
-    show::mark(rt, b' ')?;
-    show::number(rt, at.wrapping_add(len) as u64)
+    print!(rt; " {}", at.wrapping_add(len))
 }
 
 fn decoded_key(rt: &impl Print, s: &[u8]) -> io::Result<()> {
     match row_decode_v2::decode_key_only(s, 0, s.len(), basics::MAX_KEY, false) {
-        KeyRead::Read(place) => {
-            show::number(rt, place.shared as u64)?;
-            show::mark(rt, b' ')?;
+        Ok(place) => {
+            print!(rt; "{} ", place.shared)?;
             suffix(rt, s, place.suffix_at, place.suffix_len)
         }
-        KeyRead::Refused(r) => show::refusal(rt, r),
+        Err(r) => show::refusal(rt, r),
     }
 }
 
 // The number, and how many bytes were read.
 fn decoded_varint(rt: &impl Print, s: &[u8]) -> io::Result<()> {
     match utils_decode::decode_varint(s, 0) {
-        VarintRead::Number { value, next } => {
-            show::number(rt, value as u64)?;
-            show::mark(rt, b' ')?;
-            show::number(rt, next as u64)
-        }
-        VarintRead::Refused(r) => show::refusal(rt, r),
+        Ok(read) => print!(rt; "{} {}", read.value, read.next),
+        Err(r) => show::refusal(rt, r),
     }
 }
 
-fn decoded(rt: &impl Print, s: &[u8], command: usize) -> io::Result<()> {
-    match command {
-        UNROW => decoded_row(rt, s),
-        KEY => decoded_key(rt, s),
-        _ => decoded_varint(rt, s),
-    }
-}
-
-// unrow2 HEX, key2 HEX, unvarint HEX.
-pub fn read(rt: &impl Print, line: &[u8], command: usize) -> io::Result<()> {
+// The bytes that the line's word spells, given to what reads them.
+fn read<F: FnOnce(&[u8]) -> io::Result<()>>(line: &[u8], decoded: F) -> io::Result<()>
+    requires { F.IsAlwaysCallable decoded }
+{
     let mut s = [0u8; 8192];
     let n = parse::bytes(words::word(line, b' ', 1), &mut s);
-    decoded(rt, &s[..n], command)
+    decoded(&s[..n])
+}
+
+// unrow2 HEX
+pub fn unrow(rt: &impl Print, line: &[u8]) -> io::Result<()> {
+    read(line, |s| decoded_row(rt, s))
+}
+
+// key2 HEX
+pub fn key(rt: &impl Print, line: &[u8]) -> io::Result<()> {
+    read(line, |s| decoded_key(rt, s))
+}
+
+// unvarint HEX
+pub fn unvarint(rt: &impl Print, line: &[u8]) -> io::Result<()> {
+    read(line, |s| decoded_varint(rt, s))
 }

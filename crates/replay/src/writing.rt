@@ -1,7 +1,6 @@
 // The commands on a builder.
-use basics::Verdict;
+use basics::Refusal;
 use block_v2::BlockBuilderV2;
-use finish_in_place_v2::BuildAnswer;
 use replay_text::{offered, parse, show, words};
 use std::io;
 
@@ -15,20 +14,19 @@ fn fresh(rt: &impl Print, line: &[u8]) -> io::Result<BlockBuilderV2> {
     let block_size = parse::number(words::word(line, b' ', 1)) as usize;
     let interval = parse::number(words::word(line, b' ', 2)) as usize;
     let made = BlockBuilderV2::new_with_restart_interval(block_size, interval);
-    let answer = made.answer;
-    if let Verdict::Refused(r) = answer {
+    if let Err(r) = made.answer {
         show::refusal(rt, r)?;
-        show::mark(rt, b' ')?;
+        print!(rt; " ")?;
     }
     Ok(made.builder)
 }
 
-fn added(rt: &impl Print, answer: Verdict) -> io::Result<()> {
+// Whether a row is taken.
+fn taken(rt: &impl Print, answer: Result<(), Refusal>) -> io::Result<()> {
     match answer {
-        Verdict::Good => show::mark(rt, b'1')?,
-        Verdict::Refused(r) => show::refusal(rt, r)?,
+        Ok(()) => print!(rt; "1"),
+        Err(r) => show::refusal(rt, r),
     }
-    show::mark(rt, b' ')
 }
 
 // Offers a row to the builder, and says what came of it.
@@ -43,10 +41,10 @@ fn add(
     let mut value = [0u8; 8192];
     let k = offered::key(row, &mut key);
     let v = offered::value(row, &mut value);
-    let r = builder.add(data, restarts, &key[..k], &value[..v], offered::fields(row));
-    let answer = r.answer;
-    added(rt, answer)?;
-    Ok(r.builder)
+    let added = builder.add(data, restarts, &key[..k], &value[..v], offered::fields(row));
+    taken(rt, added.answer)?;
+    print!(rt; " ")?;
+    Ok(added.builder)
 }
 
 // Adds the rows before the word with the number `to`.
@@ -58,8 +56,8 @@ fn add_rows(
     restarts: &mut [u16],
 ) -> io::Result<BlockBuilderV2> {
     let mut builder = fresh(rt, line)?;
-    for number in 3..to {
-        builder = add(rt, words::word(line, b' ', number), builder, data, restarts)?;
+    for row in line.split(|b| *b == b' ').take(to).skip(3) {
+        builder = add(rt, row, builder, data, restarts)?;
     }
     Ok(builder)
 }
@@ -70,10 +68,9 @@ pub fn build(rt: &impl Print, line: &[u8]) -> io::Result<()> {
     let mut restarts = [0u16; PLACES];
     let to = words::count(line, b' ');
     let all = add_rows(rt, line, to, &mut data, &mut restarts)?;
-    let answer = all.build(&mut data, &restarts).answer;
-    match answer {
-        BuildAnswer::Block(n) => show::bytes(rt, &data, 0, n),
-        BuildAnswer::Refused(r) => show::refusal(rt, r),
+    match all.build(&mut data, &restarts).answer {
+        Ok(n) => show::bytes(rt, &data, 0, n),
+        Err(r) => show::refusal(rt, r),
     }
 }
 
@@ -89,16 +86,11 @@ fn fits(
     let mut value = [0u8; 8192];
     let k = offered::key(row, &mut key);
     let v = offered::value(row, &mut value);
-    match builder.would_fit(
-        data_len,
-        places_len,
-        &key[..k],
-        &value[..v],
-        offered::fields(row),
-    ) {
-        Verdict::Good => show::mark(rt, b'1'),
-        Verdict::Refused(r) => show::refusal(rt, r),
-    }
+    let fields = offered::fields(row);
+    taken(
+        rt,
+        builder.would_fit(data_len, places_len, &key[..k], &value[..v], fields),
+    )
 }
 
 // fit2 BLOCK_SIZE INTERVAL ROW..: a word for each row but the last, then whether that one fits.
