@@ -51,7 +51,7 @@ use Rattle.block_regions_v2.specs.Count.{counting-ended}
 use Rattle.block_regions_v2.specs.Promise.{Gives, EndsAt, WalksInto}
 use Rattle.block_regions_v2.specs.Regions.{Counted, counted, row_numbered, halt_numbered, ending_at, out_after, given, walk_to, held, walk_into, key_left}
 use Rattle.block_regions_v2.specs.Rows.{Filling}
-use Rattle.block_regions_v2.specs.Says.{says_place}
+use Rattle.block_regions_v2.specs.Says.{stop_from, says_place}
 
 -- ---- answers
 
@@ -433,10 +433,10 @@ module _ (b : List ℕ) (t : Trailer) (i : ℕ) (g : RegionC) (target : Key) (re
           (ltb-cases s.at g.end)
 
   module _ (r : Result StopC Refusal) (key' : List ℕ) (w : WalksInto (data_of b t) g target key r key') where
-    pub into-stopped : {at n m : ℕ} → r ≡ Ok (stands_at at n m)
-        → (s : Stop) × (walked ≡ ok s) × (s.at ≡ at) × (length s.before ≡ n) × (key' ≡ cond (ltb s.at g.end) (splice key 0 s.before) key) × (ended_by (data_of b t) (region_from g) s.at ≡ m)
-    into-stopped {at} {n} {m} e =
-        bind-then walked _ (counted (halt_is at n) m) (sym (sym (ap says_place e) ∙ w.answer ∙ ap (λ (x : Res Stop). bind x numbered) into-used)) λ s q f.
+    pub into-stopped : {h : StopC} → r ≡ Ok h
+        → (s : Stop) × (walked ≡ ok s) × (s.at ≡ h.at) × (length s.before ≡ h.key_len) × (key' ≡ cond (ltb s.at g.end) (splice key 0 s.before) key) × (ended_by (data_of b t) (region_from g) s.at ≡ h.number)
+    into-stopped {h} e =
+        bind-then walked _ (stop_from h) (sym (sym (ap says_place e) ∙ w.answer ∙ ap (λ (x : Res Stop). bind x numbered) into-used)) λ s q f.
         let is = ok-inj f in
         (s, q, ap (λ (x : Counted Halt). x.what.at) is, ap (λ (x : Counted Halt). x.what.key_len) is, w.bytes ∙ ap (λ (x : Res Stop). key_left (region_from g) x key) (into-used ∙ q), ap (λ (x : Counted Halt). x.number) is)
 

@@ -27,46 +27,48 @@ use Rattle.basics.specs.Says.{says_order}
 use Rattle.basics.specs.declared.IterationOrder.{IterationOrder}
 use Rattle.basics.specs.declared.IterationOrder.TheVariants.{Ascending}
 use Rattle.basics.specs.declared.Refusal.{Refusal}
+use Rattle.std.specs.Prelude.{Result, Ok, Err, IsErrAnd}
 use Rattle.trailer.specs.Says.{region_from}
 use Rattle.trailer.specs.declared.Region.{Region as RegionC}
-use Rattle.block_regions_v2.specs.declared.PlaceRead.{PlaceRead}
-use Rattle.block_regions_v2.specs.declared.PlaceRead.TheVariants.{At}
-use Rattle.block_regions_v2.specs.Laws.{into-stopped}
+use Rattle.block_regions_v2.specs.declared.Stop.{Stop as StopC}
+use Rattle.block_regions_v2.specs.Laws.{handed-promise, into-stopped}
 use Rattle.block_regions_v2.specs.Promise.{WalksInto}
 use Rattle.step_in_place_v2.proofs.Laws.{carries-key}
 use Rattle.place_v2.specs.declared.Place.{Place}
 use Rattle.seek_in_place_v2.specs.declared.Found.{Found}
-use Rattle.seek_in_place_v2.specs.declared.Found.TheVariants.{Refused}
 use Rattle.seek_in_place_v2.specs.Parts.{landed_at, over_at, sought}
 use Rattle.seek_in_place_v2.specs.Promise.{Finds}
 
 -- ---- any seek
 
 module _ (want : Res Sought) (p : Place) (key : List ℕ) where
-  pub finds-not : {x : Refusal} {key' : List ℕ} → want ≡ refuse (number x) → key' ≡ key → Finds want p key (Refused x) key'
+  pub finds-not : {x : Refusal} {key' : List ℕ} → want ≡ refuse (number x) → key' ≡ key → Finds want p key (Err x) key'
   finds-not e q = rw (e, q) (record { answer = refl; view = refl; whole = refl })
 
-  pub finds_as : {w : Res Sought} {r : Found} {key' : List ℕ} → want ≡ w → Finds w p key r key' → Finds want p key r key'
+  pub finds-handed : (r : Result Found Refusal) (x : Refusal) → IsErrAnd r (λ q. q ≡ x) → {key' : List ℕ} → want ≡ refuse (number x) → key' ≡ key → Finds want p key r key'
+  finds-handed r x h {key'} e q = handed-promise (λ (r : Result Found Refusal). Finds want p key r key') r x h (finds-not e q)
+
+  pub finds_as : {w : Res Sought} {r : Result Found Refusal} {key' : List ℕ} → want ≡ w → Finds w p key r key' → Finds want p key r key'
   finds_as e s = rw e s
 
 -- ---- what a walk leaves, beside the count of the search before it
 
 module _ (x : Res Cursor) (reads : ℕ) (p : Place) (key : List ℕ) where
-  pub walked-not : {r : Refusal} {key' : List ℕ} → refuse (number r) ≡ x → key' ≡ key → Finds (bind x (sought reads)) p key (Refused r) key'
-  walked-not e q = finds-not (bind x (sought reads)) p key (ap (λ (y : Res Cursor). bind y (sought reads)) (sym e)) q
+  pub walked-handed : (r : Result Found Refusal) (y : Refusal) → IsErrAnd r (λ q. q ≡ y) → {key' : List ℕ} → refuse (number y) ≡ x → key' ≡ key → Finds (bind x (sought reads)) p key r key'
+  walked-handed r y h e q = finds-handed (bind x (sought reads)) p key r y h (ap (λ (z : Res Cursor). bind z (sought reads)) (sym e)) q
 
   -- with no key
   pub walked_to : (order : IterationOrder) (region at : ℕ) {m n : ℕ} {r : Found} → ok (cursor_is (says_order order) region at m [] false) ≡ x → n ≡ m → r ≡ landed_at order region at n 0 reads
-      → {key' : List ℕ} → Finds (bind x (sought reads)) p key r key'
+      → {key' : List ℕ} → Finds (bind x (sought reads)) p key (Ok r) key'
   walked_to order region at e same is = rw (is, sym e, same) (record { answer = refl; view = refl; whole = tt })
 
   pub walked-off : (order : IterationOrder) (region at : ℕ) {m n : ℕ} {r : Found} → ok (cursor_is (says_order order) region at m [] true) ≡ x → n ≡ m → r ≡ over_at order region at n reads
-      → {key' : List ℕ} → Finds (bind x (sought reads)) p key r key'
+      → {key' : List ℕ} → Finds (bind x (sought reads)) p key (Ok r) key'
   walked-off order region at e same is = rw (is, sym e, same) (record { answer = refl; view = refl; whole = tt })
 
   -- with the key that the walk leaves
   pub walked-up : (region at len : ℕ) (before : Key) {m n : ℕ} {r : Found} {key' : List ℕ} → ok (cursor_is ascending region at m before false) ≡ x → n ≡ m → length before ≡ len
-      → key' ≡ splice key 0 before → r ≡ landed_at Ascending region at n len reads → Finds (bind x (sought reads)) p key r key'
+      → key' ≡ splice key 0 before → r ≡ landed_at Ascending region at n len reads → Finds (bind x (sought reads)) p key (Ok r) key'
   unfolding splice
   walked-up region at len before {m = m} e same long q is =
       let front : take len (splice key 0 before) ≡ before = rw (← long) (take_at before (drop (0 + length before) key) (length before) refl) in
@@ -82,18 +84,18 @@ pub record Stops (b : List ℕ) (t : Trailer) (i : ℕ) (g : RegionC) (target : 
   pub outer : g.end ≤ at → key' ≡ key
   pub counts : m ≡ number_at b t i at
 
-module _ (b : List ℕ) (t : Trailer) (i : ℕ) (g : RegionC) (target : Key) (read : trailer_of b ≡ ok t) (is : region_of b t i ≡ ok (region_from g)) (key : List ℕ) (whole : length key ≡ max_key) (r : PlaceRead) (key' : List ℕ) (w : WalksInto (data_of b t) g target key r key') {at n m : ℕ} (e : r ≡ At at n m) where
-  pub stopped : Stops b t i g target key at n m key'
+module _ (b : List ℕ) (t : Trailer) (i : ℕ) (g : RegionC) (target : Key) (read : trailer_of b ≡ ok t) (is : region_of b t i ≡ ok (region_from g)) (key : List ℕ) (whole : length key ≡ max_key) (r : Result StopC Refusal) (key' : List ℕ) (w : WalksInto (data_of b t) g target key r key') {h : StopC} (e : r ≡ Ok h) where
+  pub stopped : Stops b t i g target key h.at h.key_len h.number key'
   stopped =
       let s = into-stopped b t i g target read is key whole r key' w e in
-      let place : s.0.at ≡ at = s.2 in
+      let place : s.0.at ≡ h.at = s.2 in
       record {
         before = s.0.before;
         walked = s.1 ∙ ap (λ (a : ℕ). ok (stop_is a s.0.before)) place;
         long = s.3;
-        inner = λ h. s.4 ∙ rw (place, lt-ltb at g.end h);
-        outer = λ h. s.4 ∙ rw (place, le-ltb at g.end h);
-        counts = sym (number_in b t i at (region_from g) is ∙ ap (ended_by (data_of b t) (region_from g)) (sym place) ∙ s.5);
+        inner = λ u. s.4 ∙ rw (place, lt-ltb h.at g.end u);
+        outer = λ u. s.4 ∙ rw (place, le-ltb h.at g.end u);
+        counts = sym (number_in b t i h.at (region_from g) is ∙ ap (ended_by (data_of b t) (region_from g)) (sym place) ∙ s.5);
       }
 
 -- no walk goes past its region's end

@@ -1,7 +1,8 @@
 -- The promise admits one outcome: two results, with the key bytes that they leave, that both keep it are equal; but for the key bytes past the length of the
 -- key that a sought cursor carries.
-use Rattle.std.specs.Prelude.{ℕ, ◌≡◌, List}
+use Rattle.std.specs.Prelude.{ℕ, ◌≡◌, List, Result}
 use Rattle.std.proofs.Common.{sym, ◌∙◌}
+use Rattle.basics.specs.declared.Refusal.{Refusal}
 use Rattle.place_v2.specs.declared.Place.{Place}
 use Rattle.step_in_place_v2.specs.OneOutcome.{kept-both}
 use Rattle.step_in_place_v2.specs.Promise.{Kept}
@@ -12,7 +13,7 @@ use Rattle.seek_in_place_v2.specs.Promise.{SeeksInPlace}
 use Rattle.seek_in_place_v2.specs.Says.{place_found, says_found-one}
 
 -- answers with their places; the key bytes by the view, and after a refusal whole
-pub seek_in_place-settled : (p : Place) (key b target : List ℕ) (r q : Found) (k l : List ℕ) → SeeksInPlace p key b target r k → SeeksInPlace p key b target q l
+pub seek_in_place-settled : (p : Place) (key b target : List ℕ) (r q : Result Found Refusal) (k l : List ℕ) → SeeksInPlace p key b target r k → SeeksInPlace p key b target q l
     → (r ≡ q) × (view_in (place_found r p) k ≡ view_in (place_found q p) l) × Kept (seek_in p key b target) k l
 seek_in_place-settled p key b target r q k l m n = (
   says_found-one r q p k l (m.answer ∙ sym n.answer) (m.view ∙ sym n.view),

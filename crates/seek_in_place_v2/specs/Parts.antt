@@ -5,30 +5,8 @@ use Rattle.layout.specs.Trailer.{Trailer, trailer_of}
 use Rattle.layout.specs.Cursor.{Cursor}
 use Rattle.layout.specs.Seek.{Sought, sought_is}
 use Rattle.basics.specs.declared.IterationOrder.{IterationOrder}
-use Rattle.basics.specs.declared.Refusal.{Refusal}
-use Rattle.basics.specs.declared.Refusal.TheVariants.{BadState}
-use Rattle.block_regions_v2.specs.declared.PlaceRead.{PlaceRead}
-use Rattle.block_regions_v2.specs.declared.PlaceRead.TheVariants.{At as PlaceAt, Refused as PlaceRefused}
-use Rattle.whole_regions_v2.specs.declared.LastRead.{LastRead}
-use Rattle.whole_regions_v2.specs.declared.LastRead.TheVariants.{Ends, Refused as LastRefused}
-use Rattle.block_restarts_v2.specs.declared.StartRead.{StartRead}
-use Rattle.block_restarts_v2.specs.declared.StartRead.TheVariants.{At as StartAt, Refused as StartRefused}
 use Rattle.seek_in_place_v2.specs.declared.Found.{Found}
 use Rattle.seek_in_place_v2.specs.declared.Found.TheVariants.{Landed, Done}
-
--- ---- the refusal that an answer hands on: where an answer is none, it does not matter which
-
-abbrev pub refusal_of_place : PlaceRead → Refusal
-refusal_of_place (PlaceAt at len n) = BadState
-refusal_of_place (PlaceRefused r) = r
-
-abbrev pub refusal_of_last : LastRead → Refusal
-refusal_of_last (Ends at n) = BadState
-refusal_of_last (LastRefused r) = r
-
-abbrev pub refusal_of_start : StartRead → Refusal
-refusal_of_start (StartAt s) = BadState
-refusal_of_start (StartRefused r) = r
 
 -- ---- where a seek ends
 

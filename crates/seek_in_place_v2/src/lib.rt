@@ -12,55 +12,19 @@ ghost use Rattle.layout.specs.Seek.{walk_up, walk_down, seek};
 ghost use Rattle.layout.specs.Trailer.{trailer_of};
 ghost use Rattle.trailer.specs.Says.{trailer_from};
 ghost use Rattle.place_v2.specs.declared.Place.{Place};
-ghost use Rattle.seek_in_place_v2.specs.Parts.{refusal_of_place, refusal_of_last, refusal_of_start, landed_at, over_at, SetsOut, sought};
+ghost use Rattle.seek_in_place_v2.specs.Parts.{landed_at, over_at, SetsOut, sought};
 ghost use Rattle.seek_in_place_v2.specs.Promise.{Finds, SeeksInPlace};
 
 use basics::{IterationOrder, Refusal};
-use block_regions_v2::PlaceRead;
-use block_restarts_v2::{Start, StartRead};
+use block_restarts_v2::Start;
 use place_v2::Place;
 use trailer::Trailer;
-use whole_regions_v2::LastRead;
 
-// What a seek answers, with the place where it left the cursor, and how many restart keys the search read. A refusal moves nothing.
+// Where a seek left the cursor, and how many restart keys the search read: it stands where the target belongs, or none is left. A refusal moves nothing.
 #[derive(Clone, Copy)]
 pub enum Found {
     Landed { place: Place, reads: usize },
     Done { place: Place, reads: usize },
-    Refused(Refusal),
-}
-
-// ---- the refusal of an answer that is one
-
-fn place_refusal(a: PlaceRead) -> Refusal
-    ensures { result ≡ refusal_of_place a }
-{
-    match a {
-        PlaceRead::Refused(refusal) => refusal,
-        PlaceRead::At {
-            at: _,
-            key_len: _,
-            number: _,
-        } => Refusal::BadState,
-    }
-}
-
-fn last_refusal(a: LastRead) -> Refusal
-    ensures { result ≡ refusal_of_last a }
-{
-    match a {
-        LastRead::Refused(refusal) => refusal,
-        LastRead::Ends { at: _, number: _ } => Refusal::BadState,
-    }
-}
-
-fn start_refusal(a: StartRead) -> Refusal
-    ensures { result ≡ refusal_of_start a }
-{
-    match a {
-        StartRead::Refused(refusal) => refusal,
-        StartRead::At(_) => Refusal::BadState,
-    }
 }
 
 // ---- where a seek ends
@@ -105,119 +69,102 @@ fn over(order: IterationOrder, region: usize, at: usize, number: usize, reads: u
     }
 }
 
-// ---- the walks. The trailer has each region that they read, so that one that is all 0 is refused with 15
+// ---- the walks
 
 // From region to region, up to the first row at or above the target; past the last one stand as many rows as it has.
-fn walk_up(key: &mut [u8], block: &[u8], t: Trailer, target: &[u8], start: Start) -> Found
+fn walk_up(
+    key: &mut [u8],
+    block: &[u8],
+    t: Trailer,
+    target: &[u8],
+    start: Start,
+) -> Result<Found, Refusal>
     requires { (length key.old ≡ max_key) × SetsOut block.now (trailer_from t) start.region }
     ensures { (p : Place) → Finds (bind (walk_up (t.count - start.region) block.now (trailer_from t) target.now start.region) (sought start.reads)) p key.old result key.new }
 {
     let size = t.size;
-    let mut index = start.region;
     let mut passed: usize = 0;
-    while index < t.count {
-        let region = trailer::plain_region(block, t, index);
-        if region.end == 0 {
-            return Found::Refused(Refusal::BadOffset);
-        }
-        let stop = block_regions_v2::walk_into(&block[..size], region, target, key);
-        let PlaceRead::At {
-            at,
-            key_len,
-            number,
-        } = stop
-        else {
-            return Found::Refused(place_refusal(stop));
-        };
-        if at < region.end {
-            return landed(
+    for index in start.region..t.count {
+        let region = trailer::region_of(block, t, index)?;
+        let stop = block_regions_v2::walk_into(&block[..size], region, target, key)?;
+        if stop.at < region.end {
+            return Ok(landed(
                 IterationOrder::Ascending,
                 index,
-                at,
-                number,
-                key_len,
+                stop.at,
+                stop.number,
+                stop.key_len,
                 start.reads,
-            );
+            ));
         }
-        passed = number;
-        index += 1;
+        passed = stop.number;
     }
-    over(
+    Ok(over(
         IterationOrder::Ascending,
         t.count - 1,
         size,
         passed,
         start.reads,
-    )
+    ))
 }
 
 // From region to region, down to the last row at or below the target. The key is neither used nor changed.
-fn walk_down(block: &[u8], t: Trailer, target: &[u8], start: Start) -> Found
+fn walk_down(block: &[u8], t: Trailer, target: &[u8], start: Start) -> Result<Found, Refusal>
     requires { SetsOut block.now (trailer_from t) start.region }
     ensures { (p : Place) (k : List ℕ) → Finds (bind (walk_down (suc start.region) block.now (trailer_from t) target.now start.region) (sought start.reads)) p k result k }
 {
     let size = t.size;
     let mut index = start.region;
     loop {
-        let region = trailer::plain_region(block, t, index);
-        if region.end == 0 {
-            return Found::Refused(Refusal::BadOffset);
-        }
-        let last = whole_regions_v2::last_at_or_below(&block[..size], region, target);
-        let LastRead::Ends { at, number } = last else {
-            return Found::Refused(last_refusal(last));
-        };
-        if region.start < at {
-            return landed(
+        let region = trailer::region_of(block, t, index)?;
+        let last = whole_regions_v2::last_at_or_below(&block[..size], region, target)?;
+        if region.start < last.at {
+            return Ok(landed(
                 IterationOrder::Descending,
                 index,
-                at,
-                number,
+                last.at,
+                last.number,
                 0,
                 start.reads,
-            );
+            ));
         }
         if index == 0 {
-            return over(IterationOrder::Descending, 0, 0, 0, start.reads);
+            return Ok(over(IterationOrder::Descending, 0, 0, 0, start.reads));
         }
         index -= 1;
     }
 }
 
-fn seek_ascending(key: &mut [u8], block: &[u8], t: Trailer, target: &[u8]) -> Found
+fn seek_ascending(key: &mut [u8], block: &[u8], t: Trailer, target: &[u8]) -> Result<Found, Refusal>
     requires { (length key.old ≡ max_key) × (trailer_of block.now ≡ ok (trailer_from t)) }
     ensures { (p : Place) → Finds (seek ascending block.now target.now) p key.old result key.new }
 {
-    let found = block_restarts_v2::find_restart_for_key_ascending(block, t, target);
-    let StartRead::At(start) = found else {
-        return Found::Refused(start_refusal(found));
-    };
+    let start = block_restarts_v2::find_restart_for_key_ascending(block, t, target)?;
     walk_up(key, block, t, target, start)
 }
 
-fn seek_descending(block: &[u8], t: Trailer, target: &[u8]) -> Found
+fn seek_descending(block: &[u8], t: Trailer, target: &[u8]) -> Result<Found, Refusal>
     requires { trailer_of block.now ≡ ok (trailer_from t) }
     ensures { (p : Place) (k : List ℕ) → Finds (seek descending block.now target.now) p k result k }
 {
-    let found = block_restarts_v2::find_restart_for_key_descending(block, t, target);
-    let StartRead::At(start) = found else {
-        return Found::Refused(start_refusal(found));
-    };
+    let start = block_restarts_v2::find_restart_for_key_descending(block, t, target)?;
     walk_down(block, t, target, start)
 }
 
 // A seek, over a cursor whose key bytes are lent. It starts afresh: only the order is taken from the cursor. Tested in this order: that they are MAX_KEY (18),
 // the trailer (14), then what the search and the walk meet. All tests come before the first write.
-pub fn seek_in_place(key: &mut [u8], p: Place, block: &[u8], target: &[u8]) -> Found
+pub fn seek_in_place(
+    key: &mut [u8],
+    p: Place,
+    block: &[u8],
+    target: &[u8],
+) -> Result<Found, Refusal>
     ensures { SeeksInPlace p key.old block.now target.now result key.new }
 {
     if key.len() != basics::MAX_KEY {
-        return Found::Refused(Refusal::BadState);
+        return Err(Refusal::BadState);
     }
-    let t = trailer::plain_trailer(block);
-    if t.count == 0 {
-        return Found::Refused(Refusal::BadTrailer);
-    }
+    let t = trailer::trailer_of(block)?;
     let order = p.order;
     match order {
         IterationOrder::Ascending => seek_ascending(key, block, t, target),

@@ -1,6 +1,6 @@
 -- The tests of what is handed in, by what was met: one law for each exit of the code; and a promise from it. For callers: what a promise tells, and that a
 -- region that was read from the block passes the tests, so the definitions of `layout` are left (`last-used`, `rows-used`).
-use Rattle.std.specs.Prelude.{ℕ, ◌+◌, ◌-◌, ◌≤◌, ◌<◌, ◌≡◌, Bool, cond, List, [], length, Result, Ok}
+use Rattle.std.specs.Prelude.{ℕ, ◌+◌, ◌-◌, ◌≤◌, ◌<◌, ◌≡◌, Bool, cond, List, [], length, Result, Ok, Err}
 use Rattle.std.proofs.Common.{ap, sym, ◌∙◌, arith, length-take-le, lt-ltb, le-ltb}
 use Rattle.std.proofs.lemmas.Bool.{lt-leb}
 use Rattle.layout.specs.Res.{Res, ok, refuse, bind}
@@ -16,6 +16,7 @@ use Rattle.layout.proofs.Laws.MatchWalk.{MatchingDown, down-more}
 use Rattle.layout.proofs.Laws.Number.{number_in}
 use Rattle.layout.proofs.Laws.Trailer.{trailer_of-tells, region_of-tells}
 use Rattle.basics.specs.Answers.{apart}
+use Rattle.basics.specs.Number.{number}
 use Rattle.basics.specs.declared.Refusal.{Refusal}
 use Rattle.trailer.specs.Says.{region_from}
 use Rattle.trailer.specs.declared.Region.{Region as RegionC}
@@ -82,10 +83,10 @@ module _ (b : List ℕ) (t : Trailer) (i : ℕ) (g : RegionC) (target : Key) (re
         let same : best ≡ l.at = ap (λ (x : Counted ℕ). x.what) (ok-inj f) in
         (q ∙ ap ok same, ap (ended_by (data_of b t) (region_from g)) (sym same) ∙ ap (λ (x : Counted ℕ). x.number) (ok-inj f))
 
-    pub last-refused : {n : ℕ} → says_last r ≡ refuse n → lowered ≡ refuse n
-    last-refused {n} e = go lowered (sym e ∙ said-last)
+    pub last-refused : {x : Refusal} → r ≡ Err x → lowered ≡ refuse (number x)
+    last-refused {x} e = go lowered (sym (ap says_last e) ∙ said-last)
       where
-        go : (y : Res ℕ) → refuse n ≡ bind y (end_numbered (data_of b t) (region_from g)) → y ≡ refuse n
+        go : (y : Res ℕ) → refuse (number x) ≡ bind y (end_numbered (data_of b t) (region_from g)) → y ≡ refuse (number x)
         go (ok at) f = absurd (apart (sym f))
         go (refuse m) f = cc
 

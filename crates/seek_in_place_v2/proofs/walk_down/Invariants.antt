@@ -5,8 +5,8 @@ use Rattle.layout.proofs.Laws.Seek.{Falling}
 use Rattle.trailer.specs.Says.{trailer_from}
 use Rattle.seek_in_place_v2.proofs.walk_down.Given as goal
 
-abbrev pub invariant-loop-t : goal.invariant-loop-t
-invariant-loop-t l = Falling l.block (trailer_from l.t) l.target l.start.region l.index × (l.index < l.t.count)
+abbrev pub invariant-loop-region : goal.invariant-loop-region
+invariant-loop-region l = Falling l.block (trailer_from l.t) l.target l.start.region l.index × (l.index < l.t.count)
 
-abbrev pub decreases-loop-t : goal.decreases-loop-t
-decreases-loop-t l = l.index
+abbrev pub decreases-loop-region : goal.decreases-loop-region
+decreases-loop-region l = l.index

@@ -1,8 +1,0 @@
--- `last_refusal` takes the refusal out of an answer.
--- In the arm that binds it the answer is known to be that refusal, and the definition computes at it.
-use mathlib.Core.Path.{sym, ap}
-use Rattle.seek_in_place_v2.specs.Parts.{refusal_of_last}
-use Rattle.seek_in_place_v2.proofs.last_refusal.Goals as goal
-
-pub returns-in-Refused : goal.returns-in-Refused
-returns-in-Refused c = sym (ap refusal_of_last c.in-Refused.is)
