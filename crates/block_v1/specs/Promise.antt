@@ -1,14 +1,13 @@
 -- What each public function promises: equations to the definitions of `layout_v1`, that settle each number answered, each byte lent and the whole builder given back.
-use Rattle.std.specs.Prelude.{ℕ, ◌≡◌, Bool, List, length}
+use Rattle.std.specs.Prelude.{ℕ, ◌≡◌, Bool, List, length, Result, ⊤}
 use Rattle.layout.specs.Res.{Res, whether}
 use Rattle.layout.specs.Key.{Key}
 use Rattle.layout.specs.Row.{Fields}
 use Rattle.layout_v1.specs.Builder.{Builder, new_builder, built, has_no_rows, would_fit, add, state_after_of, data_after_of, places_after_of, build, block_after_of}
 use Rattle.row_flags.specs.Says.{fields_from}
 use Rattle.row_flags.specs.declared.RowFields.{RowFields}
-use Rattle.basics.specs.Answers.{says_verdict}
-use Rattle.basics.specs.declared.Verdict.{Verdict}
-use Rattle.finish_in_place_v2.specs.Says.{says_build}
+use Rattle.basics.specs.Answers.{says_same, says_verdict}
+use Rattle.basics.specs.declared.Refusal.{Refusal}
 use Rattle.build_in_place_v1.specs.Promise.{kept_after}
 use Rattle.state_v1.specs.Says.{state_from}
 use Rattle.block_v1.specs.declared.BlockBuilderV1.{BlockBuilderV1}
@@ -26,7 +25,7 @@ pub record MakesAs (want : Res Builder) (r : New) : Type 0 where
 abbrev pub Makes : ℕ → New → Type 0
 Makes size r = MakesAs (new_builder size) r
 
-abbrev pub Fits : BlockBuilderV1 → ℕ → ℕ → Key → List ℕ → RowFields → Verdict → Type 0
+abbrev pub Fits : BlockBuilderV1 → ℕ → ℕ → Key → List ℕ → RowFields → Result ⊤ Refusal → Type 0
 Fits self data_len places_len key value row r = says_verdict r ≡ would_fit (view_of self) data_len places_len key (fields_from row value)
 
 -- the builder given back: a refusal gives it as it came, bytes past the first key's length included; the first row's key lies over the start of those bytes
@@ -45,7 +44,7 @@ abbrev pub Empties : BlockBuilderV1 → Bool → Type 0
 Empties self r = r ≡ has_no_rows (view_of self)
 
 pub record BuildsAs (want : Res ℕ) (self : BlockBuilderV1) (bytes places : List ℕ) (r : Built) (bytes' : List ℕ) : Type 0 where
-  pub answer : says_build r.answer ≡ want
+  pub answer : says_same r.answer ≡ want
   pub whole : r.builder ≡ self
   pub bytes_after : bytes' ≡ block_after_of want (view_of self) bytes places
 

@@ -7,9 +7,7 @@
 ghost use Rattle.build_in_place_v1.specs.Promise.{AddsInPlace};
 ghost use Rattle.block_v1.specs.Promise.{Makes, Fits, Adds, Empties, Builds};
 
-use basics::Verdict;
-use build_in_place_v1::Grown;
-use finish_in_place_v2::BuildAnswer;
+use basics::Refusal;
 use row_flags::RowFields;
 use state_v1::State;
 
@@ -24,19 +22,19 @@ pub struct BlockBuilderV1 {
 #[derive(Clone, Copy)]
 pub struct New {
     pub builder: BlockBuilderV1,
-    pub answer: Verdict,
+    pub answer: Result<(), Refusal>,
 }
 
 #[derive(Clone, Copy)]
 pub struct Added {
     pub builder: BlockBuilderV1,
-    pub answer: Verdict,
+    pub answer: Result<(), Refusal>,
 }
 
 #[derive(Clone, Copy)]
 pub struct Built {
     pub builder: BlockBuilderV1,
-    pub answer: BuildAnswer,
+    pub answer: Result<usize, Refusal>,
 }
 
 // Adds a row where the first key lies. A builder's own array can be lent only as one.
@@ -48,7 +46,7 @@ fn add_in_array(
     key: &[u8],
     value: &[u8],
     row: RowFields,
-) -> Grown
+) -> Result<State, Refusal>
     ensures { AddsInPlace s first_key.old «data».old offsets.old key.now value.now row result first_key.new «data».new offsets.new }
 {
     build_in_place_v1::add_in_place(first_key, s, data, offsets, key, value, row)
@@ -77,7 +75,7 @@ impl BlockBuilderV1 {
         key: &[u8],
         value: &[u8],
         row: RowFields,
-    ) -> Verdict
+    ) -> Result<(), Refusal>
         ensures { Fits self data_len places_len key.now value.now row result }
     {
         let s = self.state;
@@ -105,12 +103,19 @@ impl BlockBuilderV1 {
     {
         let s = self.state;
         let grown = add_in_array(&mut self.first_key, s, data, offsets, key, value, row);
-        let state = grown.state;
-        let verdict = grown.answer;
-        self.state = state;
-        Added {
-            builder: self,
-            answer: verdict,
+        match grown {
+            Ok(state) => {
+                self.state = state;
+                Added {
+                    builder: self,
+                    answer: Ok(()),
+                }
+            }
+            // Nothing is written, and the first key is as it was.
+            Err(refusal) => Added {
+                builder: self,
+                answer: Err(refusal),
+            },
         }
     }
 

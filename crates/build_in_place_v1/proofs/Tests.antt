@@ -8,6 +8,8 @@ use native.Mathlib.Omega.{arith}
 use lib.Dec.{ltb}
 use lib.ListN.{length, drop, length-drop}
 use borrow.Author.Tests.{lt-ltb, le-ltb, le-leb, lt-leb, eq-eqb, ne_eqb}
+use Rattle.std.specs.Prelude.{Result, Ok, IsErrAnd}
+use Rattle.std.proofs.lemmas.Result.{err_from_is_err_and}
 use Rattle.layout.specs.Res.{Res, ok, refuse, whether}
 use Rattle.layout.specs.Key.{Key, common}
 use Rattle.layout.specs.Limits.{max_key, max_offset, max_value}
@@ -19,7 +21,9 @@ use Rattle.layout_v1.specs.Row.{row_bytes, row_size}
 use Rattle.layout_v1.specs.Builder.{Builder, state_tests, shared_key, next_row, fits, would_fit, add}
 use Rattle.layout_v1.proofs.Laws.Builder.{state-tells, laid_row-bytes, row_size-most, fits-rule, fits-past, fit-by, add-by}
 use Rattle.layout_v1.proofs.Laws.RowWrites.{size_of, size-refused, size-tells, size-bytes}
-use Rattle.build_in_place_v1.specs.declared.Planned.TheVariants.{Row as PlannedRow}
+use Rattle.basics.specs.Number.{number}
+use Rattle.basics.specs.declared.Refusal.{Refusal}
+use Rattle.build_in_place_v1.specs.declared.Planned.{Planned}
 use Rattle.build_in_place_v1.specs.Plan.{Planning}
 
 -- no row has more bytes: two lengths, number and flags, two times, the value's length, the key, the value
@@ -76,14 +80,14 @@ module _ (b : Builder) (data_len places_len : ℕ) (key : Key) (f : Fields) {sha
       with_row : now + n ≡ b.used + 2 * b.rows + 2 + length (next_row b key f)
       with_row = omega (arith, row_is_lem)
 
-      fitting : fits b key f ≡ true → Planning (would_fit b data_len places_len key f) b key f (PlannedRow shared (now + n + 2))
+      fitting : fits b key f ≡ true → Planning (would_fit b data_len places_len key f) b key f (Ok (record { shared = shared; size = now + n + 2 }))
       fitting t = (fit-by b data_len places_len key f m.state tested t, m.share, ap (λ (k : ℕ). k + 2) with_row)
 
       -- an empty block accepts any row
-      pub plan_first : b.rows ≡ 0 → Planning (would_fit b data_len places_len key f) b key f (PlannedRow shared (now + n + 2))
+      pub plan_first : b.rows ≡ 0 → Planning (would_fit b data_len places_len key f) b key f (Ok (record { shared = shared; size = now + n + 2 }))
       plan_first z = fitting (sym (fits-rule b key f with_row) ∙ rw (eq-eqb b.rows 0 z))
 
-      pub plan_fits : (b.rows ≡ 0 → ⊥) → now + n ≤ b.block_size → Planning (would_fit b data_len places_len key f) b key f (PlannedRow shared (now + n + 2))
+      pub plan_fits : (b.rows ≡ 0 → ⊥) → now + n ≤ b.block_size → Planning (would_fit b data_len places_len key f) b key f (Ok (record { shared = shared; size = now + n + 2 }))
       plan_fits z h = fitting (sym (fits-rule b key f with_row) ∙ rw (ne_eqb b.rows 0 z, le-leb (now + n) b.block_size h))
 
       pub plan_over : (b.rows ≡ 0 → ⊥) → b.block_size < now + n → would_fit b data_len places_len key f ≡ refuse 4
@@ -93,11 +97,18 @@ module _ (b : Builder) (data_len places_len : ℕ) (key : Key) (f : Fields) {sha
 
 -- ---- a row that is tested: adding
 
+-- a refusal that is handed on
+pub planning-handed : (b : Builder) (key : Key) (f : Fields) (x : Result Planned Refusal) (r : Refusal) {want : Res (Unit {0})} → IsErrAnd x (λ q. q ≡ r) → want ≡ refuse (number r)
+    → Planning want b key f x
+planning-handed b key f x r e w =
+    let p = err_from_is_err_and x e in
+    rw (p.1, p.2) w
+
 module _ (b : Builder) (data_len places_len : ℕ) (key : Key) (f : Fields) where
   pub accept_no : {n : ℕ} → would_fit b data_len places_len key f ≡ refuse n → whether (add b data_len places_len key f) ≡ refuse n
   accept_no e = ap whether (add-by b data_len places_len key f e refl refl refl)
 
-  module _ {shared size : ℕ} (p : Planning (would_fit b data_len places_len key f) b key f (PlannedRow shared size)) where
+  module _ {found : Planned} (p : Planning (would_fit b data_len places_len key f) b key f (Ok found)) where
     pub accept_far : max_offset < b.used → whether (add b data_len places_len key f) ≡ refuse 5
     accept_far h = ap whether (add-by b data_len places_len key f p.0 (lt-ltb max_offset b.used h) refl refl)
 
@@ -105,15 +116,15 @@ module _ (b : Builder) (data_len places_len : ℕ) (key : Key) (f : Fields) wher
       close : ltb max_offset b.used ≡ false
       close = le-ltb max_offset b.used near
 
-      pub accept_short : data_len < size → whether (add b data_len places_len key f) ≡ refuse 6
+      pub accept_short : data_len < found.size → whether (add b data_len places_len key f) ≡ refuse 6
       accept_short h = ap whether (add-by b data_len places_len key f p.0 close (lt-ltb data_len _ (omega (arith, p.2))) refl)
 
-      module _ (room : size ≤ data_len) where
+      module _ (room : found.size ≤ data_len) where
         roomy : ltb data_len (b.used + 2 * b.rows + 2 + length (next_row b key f) + 2) ≡ false
         roomy = le-ltb data_len _ (omega (arith, p.2))
 
         pub accept_places : places_len ≤ b.rows → whether (add b data_len places_len key f) ≡ refuse 6
         accept_places k = ap whether (add-by b data_len places_len key f p.0 close roomy (le-leb places_len b.rows k))
 
-        pub accept_good : b.rows < places_len → Planning (whether (add b data_len places_len key f)) b key f (PlannedRow shared size)
+        pub accept_good : b.rows < places_len → Planning (whether (add b data_len places_len key f)) b key f (Ok found)
         accept_good k = (ap whether (add-by b data_len places_len key f p.0 close roomy (lt-leb places_len b.rows k)), p.1, p.2)

@@ -12,6 +12,8 @@ use lib.ListN.{length, take, drop, set, length-take, length-drop}
 use lib.Seq.{take_all}
 use borrow.Author.Tests.{eq-eqb, ne_eqb}
 use borrow.Rule.Slice.PartMut.{mid_of, put_mid, mid_len}
+use Rattle.std.specs.Prelude.{Result, Ok, Err, IsErrAnd}
+use Rattle.std.proofs.lemmas.Result.{err_from_is_err_and}
 use Rattle.layout.specs.Res.{Res, ok, refuse, bind, whether}
 use Rattle.layout.specs.Key.{Key, common}
 use Rattle.layout.specs.Limits.{max_key}
@@ -28,25 +30,21 @@ use Rattle.layout_v1.proofs.Laws.RowWrites.{size_is, size-bytes, encode-sized}
 use Rattle.basics.specs.Number.{number}
 use Rattle.basics.specs.declared.Refusal.{Refusal}
 use Rattle.basics.specs.declared.Refusal.TheVariants.{BadState}
-use Rattle.basics.specs.declared.Verdict.TheVariants.{Good, Refused}
 use Rattle.row_encode_v0.specs.Promise.{Encodes}
 use Rattle.row_encode_v2.proofs.Rest.{laid-rest, laid-not}
-use Rattle.row_encode_v2.specs.declared.Encoded.{Encoded}
-use Rattle.row_encode_v2.specs.declared.Encoded.TheVariants.{Bytes as EncodedBytes, Refused as EncodedRefused}
 use Rattle.row_flags.specs.Says.{fields_from}
 use Rattle.row_flags.specs.declared.RowFields.{RowFields}
 use Rattle.state_v1.specs.declared.State.{State}
 use Rattle.state_v1.specs.Says.{view_from}
-use Rattle.build_in_place_v1.specs.declared.Grown.{Grown}
-use Rattle.build_in_place_v1.specs.declared.Planned.TheVariants.{Row as PlannedRow}
+use Rattle.build_in_place_v1.specs.declared.Planned.{Planned}
 use Rattle.build_in_place_v1.specs.Plan.{Planning, Tested, Fitting, Grew}
 use Rattle.build_in_place_v1.specs.Promise.{entered, AddsInPlaceAs}
 use Rattle.build_in_place_v1.proofs.Tests.{share-whole}
 
 -- ---- a row that passed the tests
 
-pub tested-is : (b : Builder) (bytes places : List ℕ) (key : Key) (f : Fields) {shared size : ℕ}
-    → Planning (whether (add b (length bytes) (length places) key f)) b key f (PlannedRow shared size) → Tested b bytes places key f shared
+pub tested-is : (b : Builder) (bytes places : List ℕ) (key : Key) (f : Fields) {found : Planned}
+    → Planning (whether (add b (length bytes) (length places) key f)) b key f (Ok found) → Tested b bytes places key f found.shared
 tested-is b bytes places key f p =
     record {
       share-is = p.1;
@@ -105,11 +103,11 @@ module _ (bytes : List ℕ) (used first_len shared : ℕ) (key value : List ℕ)
       let sized = sym (size_is shared (length (drop shared key)) f.kind (length value) (present f.expire) (present f.create) kept) in
       rw all (encode-sized shared (drop shared key) f first_len (length rest) w.shares sized (omega (arith, w.room, size-bytes shared (drop shared key) f sized)))
 
-  module _ {e : Encoded} {part : List ℕ} (q : Encodes first_len shared suffix value row rest e part) where
-    pub row_wrote : {n : ℕ} → e ≡ EncodedBytes n → Wrote bytes used (row_bytes shared (drop shared key) (fields_from row value)) (put_mid used (length bytes - used) bytes part) (used + n)
+  module _ {e : Result ℕ Refusal} {part : List ℕ} (q : Encodes first_len shared suffix value row rest e part) where
+    pub row_wrote : {n : ℕ} → e ≡ Ok n → Wrote bytes used (row_bytes shared (drop shared key) (fields_from row value)) (put_mid used (length bytes - used) bytes part) (used + n)
     row_wrote t = laid-rest bytes used encodes w.room q t
 
-    pub row-refused : {x : Refusal} → e ≡ EncodedRefused x → ⊥
+    pub row-refused : {x : Refusal} → e ≡ Err x → ⊥
     row-refused t = laid-not bytes used encodes w.room q t
 
 -- ---- the lent bytes of the first key
@@ -139,26 +137,29 @@ module _ (s : State) (first bytes places : List ℕ) (key : Key) (f : Fields) wh
   abbrev wanted : Res Builder
   wanted = bind (entered s first) λ v. add v (length bytes) (length places) key f
 
-  abbrev Grows : Grown → List ℕ → List ℕ → List ℕ → Type 0
+  abbrev Grows : Result State Refusal → List ℕ → List ℕ → List ℕ → Type 0
   Grows r first' bytes' places' = AddsInPlaceAs wanted s first bytes places key f r first' bytes' places'
 
-  grows-not : {x : Refusal} → wanted ≡ refuse (number x) → Grows (record { state = s; answer = Refused x }) first bytes places
-  grows-not q = rw q (record { answer = refl; state = refl; first-after = refl; bytes_after = refl; places-after = refl })
+  grows-not : {x : Refusal} → wanted ≡ refuse (number x) → Grows (Err x) first bytes places
+  grows-not q = rw q (record { answer = refl; first-after = refl; bytes_after = refl; places-after = refl })
 
   -- bytes that are not as many as the longest key has
-  pub grows_strange : (length first ≡ max_key → ⊥) → Grows (record { state = s; answer = Refused BadState }) first bytes places
+  pub grows_strange : (length first ≡ max_key → ⊥) → Grows (Err BadState) first bytes places
   grows_strange h = grows-not (rw (entered-not s first h))
 
   module _ (long : length first ≡ max_key) where
     taken : wanted ≡ add (view_from s first) (length bytes) (length places) key f
     taken = rw (entered-is s first long)
 
-    pub grows-refused : {x : Refusal} → whether (add (view_from s first) (length bytes) (length places) key f) ≡ refuse (number x)
-        → Grows (record { state = s; answer = Refused x }) first bytes places
-    grows-refused {x} q = grows-not (taken ∙ whether-refused (add (view_from s first) (length bytes) (length places) key f) (number x) q)
+    -- a refusal that is handed on
+    pub grows-refused : (r : Result State Refusal) (x : Refusal) → IsErrAnd r (λ q. q ≡ x)
+        → whether (add (view_from s first) (length bytes) (length places) key f) ≡ refuse (number x) → Grows r first bytes places
+    grows-refused r x e q =
+        let p = err_from_is_err_and r e in
+        rw (p.1, p.2) (grows-not (taken ∙ whether-refused (add (view_from s first) (length bytes) (length places) key f) (number x) q))
 
     pub grows : {shared : ℕ} {r : State} {first' bytes' places' : List ℕ} → Tested (view_from s first) bytes places key f shared
-        → Grew s first bytes places key f r first' bytes' places' → Grows (record { state = r; answer = Good }) first' bytes' places'
+        → Grew s first bytes places key f r first' bytes' places' → Grows (Ok r) first' bytes' places'
     grows t g =
         rw (taken ∙ t.passed)
-        (record { answer = refl; state = g.state; first-after = g.first-after; bytes_after = g.bytes_after; places-after = g.places-after })
+        (record { answer = ap ok g.state; first-after = g.first-after; bytes_after = g.bytes_after; places-after = g.places-after })

@@ -18,26 +18,17 @@ ghost use Rattle.state_v1.specs.Says.{view_from};
 ghost use Rattle.build_in_place_v1.specs.Plan.{SizesRow, Plans, Tested, Fitting, Grew};
 ghost use Rattle.build_in_place_v1.specs.Promise.{FitsInPlace, AddsInPlace};
 
-use basics::{Refusal, Verdict};
-use row_encode_v2::Encoded;
+use basics::Refusal;
 use row_flags::RowFields;
-use row_size_v2::Sized;
 use state_v1::State;
 
 const SIZEOF_U16: usize = 2;
 
-// A refused row gives the numbers as they came.
-#[derive(Clone, Copy)]
-pub struct Grown {
-    pub state: State,
-    pub answer: Verdict,
-}
-
 // What the tests of a row found: how much of the first key it shares, and how large the block is with it, its offset too.
 #[derive(Clone, Copy)]
-enum Planned {
-    Row { shared: usize, size: usize },
-    Refused(Refusal),
+struct Planned {
+    shared: usize,
+    size: usize,
 }
 
 fn size(used: usize, rows: usize) -> usize
@@ -61,7 +52,12 @@ fn compute_prefix(rows: usize, first_key: &[u8], first_len: usize, key: &[u8]) -
 }
 
 // The encoded size of a row with a key of this length, of which the first key gives `shared` bytes, from lengths alone: 1, 2, 3.
-fn encoded_size(shared: usize, key_len: usize, value_len: usize, row: RowFields) -> Sized
+fn encoded_size(
+    shared: usize,
+    key_len: usize,
+    value_len: usize,
+    row: RowFields,
+) -> Result<usize, Refusal>
     requires { shared ≤ key_len }
     ensures { SizesRow shared key_len value_len row result }
 {
@@ -80,28 +76,25 @@ fn plan_row(
     key: &[u8],
     value_len: usize,
     row: RowFields,
-) -> Planned
+) -> Result<Planned, Refusal>
     requires { length first_key.now ≡ max_key }
     ensures { Plans (λ f. would_fit (view_from s first_key.now) data_len places_len key.now f) (view_from s first_key.now) key.now row value_len result }
 {
     if finish_in_place_v1::is_bad_state(s, data_len, places_len) {
-        return Planned::Refused(Refusal::BadState);
+        return Err(Refusal::BadState);
     }
     let shared = compute_prefix(s.rows, first_key, s.first_key_len, key);
-    let entry_size = encoded_size(shared, key.len(), value_len, row);
-    let Sized::Bytes(n) = entry_size else {
-        return Planned::Refused(row_size_v2::size_refusal(entry_size));
-    };
+    let n = encoded_size(shared, key.len(), value_len, row)?;
     // Rows past the block size leave no room for another. Below it no sum wraps.
     if s.block_size < s.used {
-        return Planned::Refused(Refusal::RowDoesNotFit);
+        return Err(Refusal::RowDoesNotFit);
     }
     let with_row = size(s.used, s.rows) + n;
     let with_offset = with_row + SIZEOF_U16;
-    let planned = Planned::Row {
+    let planned = Ok(Planned {
         shared,
         size: with_offset,
-    };
+    });
     // An empty block accepts a row that exceeds its size. In any other the row's own offset is not counted.
     if s.rows == 0 {
         return planned;
@@ -109,7 +102,7 @@ fn plan_row(
     if with_row <= s.block_size {
         return planned;
     }
-    Planned::Refused(Refusal::RowDoesNotFit)
+    Err(Refusal::RowDoesNotFit)
 }
 
 // Whether the row would fit a builder whose first key's bytes are lent, over buffers of these lengths: 18 unless those bytes are MAX_KEY; then 18, 1, 2, 3, and 4 for "no".
@@ -121,17 +114,14 @@ pub fn would_fit_in_place(
     key: &[u8],
     value: &[u8],
     row: RowFields,
-) -> Verdict
+) -> Result<(), Refusal>
     ensures { FitsInPlace s first_key.now data_len places_len key.now value.now row result }
 {
     if first_key.len() != basics::MAX_KEY {
-        return Verdict::Refused(Refusal::BadState);
+        return Err(Refusal::BadState);
     }
-    let planned = plan_row(s, first_key, data_len, places_len, key, value.len(), row);
-    match planned {
-        Planned::Row { .. } => Verdict::Good,
-        Planned::Refused(refusal) => Verdict::Refused(refusal),
-    }
+    plan_row(s, first_key, data_len, places_len, key, value.len(), row)?;
+    Ok(())
 }
 
 // All tests of adding: the fit question's, then 5, 6.
@@ -143,26 +133,23 @@ fn accept_row(
     key: &[u8],
     value_len: usize,
     row: RowFields,
-) -> Planned
+) -> Result<Planned, Refusal>
     requires { length first_key.now ≡ max_key }
     ensures { Plans (λ f. whether (add (view_from s first_key.now) data_len places_len key.now f)) (view_from s first_key.now) key.now row value_len result }
 {
-    let planned = plan_row(s, first_key, data_len, places_len, key, value_len, row);
-    let Planned::Row { shared: _, size } = planned else {
-        return planned;
-    };
+    let planned = plan_row(s, first_key, data_len, places_len, key, value_len, row)?;
     // Two bytes hold the row's offset.
     if basics::MAX_OFFSET < s.used {
-        return Planned::Refused(Refusal::RestartTooFar);
+        return Err(Refusal::RestartTooFar);
     }
     // The trailer of the grown block must have room too.
-    if data_len < size {
-        return Planned::Refused(Refusal::BufferTooSmall);
+    if data_len < planned.size {
+        return Err(Refusal::BufferTooSmall);
     }
     if places_len <= s.rows {
-        return Planned::Refused(Refusal::BufferTooSmall);
+        return Err(Refusal::BufferTooSmall);
     }
-    planned
+    Ok(planned)
 }
 
 // ---- a row, written
@@ -189,7 +176,7 @@ fn write_row(
         row,
     );
     // Never taken: the row is tested and has room.
-    let Encoded::Bytes(n) = e else {
+    let Ok(n) = e else {
         return used;
     };
     used + n
@@ -201,7 +188,7 @@ fn keep_first(first_key: &mut [u8], rows: usize, first_len: usize, key: &[u8]) -
     ensures { (result ≡ cond (eqb rows 0) (length key.now) first_len) × (first_key.new ≡ cond (eqb rows 0) (splice first_key.old 0 key.now) first_key.old) }
 {
     if rows == 0 {
-        buf_mut::copy_in(first_key, 0, key);
+        let _ = buf_mut::copy_in(first_key, 0, key);
         return key.len();
     }
     first_len
@@ -243,26 +230,14 @@ pub fn add_in_place(
     key: &[u8],
     value: &[u8],
     row: RowFields,
-) -> Grown
+) -> Result<State, Refusal>
     ensures { AddsInPlace s first_key.old «data».old offsets.old key.now value.now row result first_key.new «data».new offsets.new }
 {
     if first_key.len() != basics::MAX_KEY {
-        return Grown {
-            state: s,
-            answer: Verdict::Refused(Refusal::BadState),
-        };
+        return Err(Refusal::BadState);
     }
     let data_len = data.len();
     let places_len = offsets.len();
-    let planned = accept_row(s, first_key, data_len, places_len, key, value.len(), row);
-    match planned {
-        Planned::Row { shared, .. } => Grown {
-            state: grow(first_key, s, shared, data, offsets, key, value, row),
-            answer: Verdict::Good,
-        },
-        Planned::Refused(refusal) => Grown {
-            state: s,
-            answer: Verdict::Refused(refusal),
-        },
-    }
+    let planned = accept_row(s, first_key, data_len, places_len, key, value.len(), row)?;
+    Ok(grow(first_key, s, planned.shared, data, offsets, key, value, row))
 }

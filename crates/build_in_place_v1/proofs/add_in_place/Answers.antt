@@ -8,11 +8,11 @@ use Rattle.build_in_place_v1.proofs.add_in_place.Goals as goal
 pub returns-then-first_key-ne-MAX_KEY : goal.returns-then-first_key-ne-MAX_KEY
 returns-then-first_key-ne-MAX_KEY c = grows_strange _ _ _ _ _ _ c.if-first_key-ne-MAX_KEY.true
 
+pub returns-in_err-planned : goal.returns-in_err-planned
+returns-in_err-planned c = grows-refused _ _ _ _ _ _ c.if-first_key-ne-MAX_KEY.false _ _ c.from_residual.ensures.1 (c.in_err-planned.ensures _ refl)
+
 pub grow-requires : goal.grow-requires
-grow-requires c = record { first_key_len = c.if-first_key-ne-MAX_KEY.false; tested = tested-is _ _ _ _ _ (rw c.in-Row.is at (c.accept_row-planned.ensures c.args.value.now refl)) }
+grow-requires c = record { first_key_len = c.if-first_key-ne-MAX_KEY.false; tested = tested-is _ _ _ _ _ (c.in_ok-planned.ensures _ refl) }
 
-pub returns-in-Row : goal.returns-in-Row
-returns-in-Row c = grows _ _ _ _ _ _ c.if-first_key-ne-MAX_KEY.false (tested-is _ _ _ _ _ (rw c.in-Row.is at (c.accept_row-planned.ensures c.args.value.now refl))) c.grow.ensures
-
-pub returns-in-Refused : goal.returns-in-Refused
-returns-in-Refused c = grows-refused _ _ _ _ _ _ c.if-first_key-ne-MAX_KEY.false (rw c.in-Refused.is at (c.accept_row-planned.ensures c.args.value.now refl))
+pub returns : goal.returns
+returns c = grows _ _ _ _ _ _ c.if-first_key-ne-MAX_KEY.false (tested-is _ _ _ _ _ (c.in_ok-planned.ensures _ refl)) c.grow.ensures

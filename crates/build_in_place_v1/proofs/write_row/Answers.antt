@@ -7,7 +7,7 @@ pub returns-in_default : goal.returns-in_default
 returns-in_default c = absurd (row-refused _ _ _ _ _ _ c.args.row c.requires c.encode-e.ensures c.in_default.is)
 
 pub overflow_add-result : goal.overflow_add-result
-overflow_add-result c = omega (arith, (row_wrote _ _ _ _ _ _ c.args.row c.requires c.encode-e.ensures c.in-Bytes.is).room)
+overflow_add-result c = omega (arith, (row_wrote _ _ _ _ _ _ c.args.row c.requires c.encode-e.ensures c.in-Ok.is).room)
 
 pub returns : goal.returns
-returns c = row_wrote _ _ _ _ _ _ c.args.row c.requires c.encode-e.ensures c.in-Bytes.is
+returns c = row_wrote _ _ _ _ _ _ c.args.row c.requires c.encode-e.ensures c.in-Ok.is
