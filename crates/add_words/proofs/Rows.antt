@@ -4,19 +4,17 @@ use mathlib.Core.Path.{◌≡◌, refl, ap, sym, ◌∙◌}
 use mathlib.Core.List.{List, []}
 use lib.ListN.{length}
 use borrow.Author.Tests.{eq-eqb}
+use Rattle.std.specs.Prelude.{Result, Ok, Err}
 use Rattle.layout.specs.Res.{Res, ok, refuse, bind}
 use Rattle.layout.specs.Builder.{Builder}
 use Rattle.layout.specs.Limits.{max_key}
 use Rattle.layout.proofs.Laws.Res.{ok-inj}
-use Rattle.basics.specs.Answers.{apart, yes}
+use Rattle.basics.specs.Answers.{apart, yes, says_same}
 use Rattle.basics.specs.Number.{number}
 use Rattle.basics.specs.declared.Refusal.{Refusal}
 use Rattle.row_flags.specs.Says.{fields_from}
 use Rattle.row_flags.specs.declared.RowFields.{RowFields}
 use Rattle.build_in_place_v2.specs.Promise.{AddsInPlace, last_after}
-use Rattle.build_in_place_v2.specs.Says.{says_grown}
-use Rattle.build_in_place_v2.specs.declared.Grown.{Grown}
-use Rattle.build_in_place_v2.specs.declared.Grown.TheVariants.{Row as GrownRow, Refused as GrownRefused}
 use Rattle.state_v2.specs.Says.{state_from, view_from}
 use Rattle.state_v2.specs.declared.State.{State}
 use Rattle.row_words.specs.Words.{code_of, builder_from, builder_words, fields_in, builder_count}
@@ -37,26 +35,26 @@ module _ (ws last bytes places key value fs : List ℕ) (f : RowFields) (h : len
   abbrev wanted : Res Builder
   wanted = add_wanted ws last bytes places key value f
 
-  module _ (r : Grown) (last' bytes' places' : List ℕ) (p : AddsInPlace (state_in ws) last bytes places key value f r last' bytes' places') where
-    adds-grown : {t : State} {ws' : List ℕ} → r ≡ GrownRow t → ws' ≡ builder_words (view_from t []) → AddsFlat ws last bytes places key value fs 0 ws' last' bytes' places'
+  module _ (r : Result State Refusal) (last' bytes' places' : List ℕ) (p : AddsInPlace (state_in ws) last bytes places key value f r last' bytes' places') where
+    adds-grown : {t : State} {ws' : List ℕ} → r ≡ Ok t → ws' ≡ builder_words (view_from t []) → AddsFlat ws last bytes places key value fs 0 ws' last' bytes' places'
     adds-grown {t} e s =
         let q = rw (eq-eqb (length last) max_key k) at p in
-        grown wanted t (yes says_grown q.answer e) λ w z same.
+        grown wanted t (yes says_same q.answer e) λ w z same.
         adds-asked ws last bytes places key value fs f h k is
         (added wanted (builder_from ws last) key (fields_from f value) ws last bytes places bytes' places' q.bytes_after q.places-after w z
         (s ∙ ap (λ (x : State). builder_words (view_from x [])) (sym same))
         (q.last-after ∙ ap (λ (x : Res Builder). last_after x key last) z))
 
-    adds-refused : {x : Refusal} {code : ℕ} → r ≡ GrownRefused x → code ≡ number x → AddsFlat ws last bytes places key value fs code ws last' bytes' places'
+    adds-refused : {x : Refusal} {code : ℕ} → r ≡ Err x → code ≡ number x → AddsFlat ws last bytes places key value fs code ws last' bytes' places'
     adds-refused {x} e c =
         let q = rw (eq-eqb (length last) max_key k) at p in
-        let z = ungrown wanted (number x) (yes says_grown q.answer e) in
+        let z = ungrown wanted (number x) (yes says_same q.answer e) in
         adds-asked ws last bytes places key value fs f h k is
         (unadded wanted (builder_from ws last) key (fields_from f value) ws last bytes places bytes' places' q.bytes_after q.places-after (number x) z c
         (q.last-after ∙ ap (λ (x : Res Builder). last_after x key last) z))
 
   -- whatever was answered, and what `put_grown` left of it
-  pub adds-put : (r : Grown) (last' bytes' places' : List ℕ) → AddsInPlace (state_in ws) last bytes places key value f r last' bytes' places' → {code : ℕ} {ws' : List ℕ}
+  pub adds-put : (r : Result State Refusal) (last' bytes' places' : List ℕ) → AddsInPlace (state_in ws) last bytes places key value f r last' bytes' places' → {code : ℕ} {ws' : List ℕ}
       → PutsGrown r ws code ws' → AddsFlat ws last bytes places key value fs code ws' last' bytes' places'
-  adds-put (GrownRow t) last' bytes' places' p g = rw g.answer (adds-grown (GrownRow t) last' bytes' places' p refl g.state)
-  adds-put (GrownRefused x) last' bytes' places' p g = rw g.state (adds-refused (GrownRefused x) last' bytes' places' p refl g.answer)
+  adds-put (Ok t) last' bytes' places' p g = rw g.answer (adds-grown (Ok t) last' bytes' places' p refl g.state)
+  adds-put (Err x) last' bytes' places' p g = rw g.state (adds-refused (Err x) last' bytes' places' p refl g.answer)

@@ -6,20 +6,20 @@ ghost use Rattle.row_words.specs.Words.{builder_count};
 ghost use Rattle.builder_words.specs.Exports.{AddsFlat};
 ghost use Rattle.add_words.specs.Says.{PutsGrown};
 
-use build_in_place_v2::Grown;
-use builder_words::OfferRead;
+use basics::Refusal;
+use state_v2::State;
 
 // Puts the builder with the row back.
-fn put_grown(builder: &mut [u64], grown: Grown) -> u8
+fn put_grown(builder: &mut [u64], grown: Result<State, Refusal>) -> u8
     requires { length builder.old ≡ builder_count }
     ensures { PutsGrown grown builder.old result builder.new }
 {
     match grown {
-        Grown::Row(t) => {
+        Ok(t) => {
             builder_words::put_state(builder, t);
             block_words::GOOD
         }
-        Grown::Refused(refusal) => basics::number(refusal),
+        Err(refusal) => u8::from(refusal),
     }
 }
 
@@ -35,10 +35,17 @@ pub fn add(
 ) -> u8
     ensures { AddsFlat builder.old last_key.old «data».old restarts.old key.now value.now fields.now result builder.new last_key.new «data».new restarts.new }
 {
-    let loaded = builder_words::offer_in(builder, last_key, fields);
-    let OfferRead::Is { state: s, row } = loaded else {
+    let Some(offer) = builder_words::offer_in(builder, last_key, fields) else {
         return block_words::BAD_WORDS;
     };
-    let grown = build_in_place_v2::add_in_place(last_key, s, data, restarts, key, value, row);
+    let grown = build_in_place_v2::add_in_place(
+        last_key,
+        offer.state,
+        data,
+        restarts,
+        key,
+        value,
+        offer.row,
+    );
     put_grown(builder, grown)
 }

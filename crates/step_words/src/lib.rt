@@ -6,7 +6,6 @@ ghost use Rattle.row_words.specs.Words.{cursor_count, row_count};
 ghost use Rattle.block_words.specs.Exports.{StepsFlat};
 ghost use Rattle.step_words.specs.Says.{PutsMoved};
 
-use block_words::CursorRead;
 use step_in_place_v2::Moved;
 
 // Puts the cursor that moved back, and the row that was found.
@@ -29,7 +28,6 @@ fn put_moved(cursor: &mut [u64], row: &mut [u64], moved: Moved) -> u8
             block_words::put_cursor(cursor, place);
             block_words::DONE
         }
-        Moved::Refused(refusal) => basics::number(refusal),
     }
 }
 
@@ -43,12 +41,13 @@ fn next_words(
 ) -> u8
     ensures { StepsFlat block.now cursor.old key.old out.old row.old result cursor.new key.new out.new row.new }
 {
-    let loaded = block_words::step_in(cursor, key, row);
-    let CursorRead::Is(p) = loaded else {
+    let Some(p) = block_words::step_in(cursor, key, row) else {
         return block_words::BAD_WORDS;
     };
-    let moved = step_in_place_v2::next_in_place(key, p, block, out);
-    put_moved(cursor, row, moved)
+    match step_in_place_v2::next_in_place(key, p, block, out) {
+        Ok(moved) => put_moved(cursor, row, moved),
+        Err(refusal) => u8::from(refusal),
+    }
 }
 
 // One step, in place: 254, 14, 18, then done, 15, 18, the row's, 18 for a descending cursor's number, 19. Good gives the row with its region and its number there,

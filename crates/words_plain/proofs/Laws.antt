@@ -17,7 +17,7 @@ use Rattle.layout.specs.Cursor.{ascending, Cursor, found, Step, next}
 use Rattle.layout.proofs.Laws.Res.{cond-ok}
 use Rattle.layout.proofs.Laws.Plain.{or-false}
 use Rattle.basics.specs.declared.IterationOrder.TheVariants.{Ascending}
-use Rattle.basics.specs.declared.Time.TheVariants.{Absent}
+use Rattle.std.specs.Prelude.{None}
 use Rattle.basics.specs.declared.ValueDeletable.TheVariants.{Value}
 use Rattle.row_decode_v2.specs.declared.Row.{Row}
 use Rattle.row_decode_v2.specs.Says.{row_from}
@@ -61,8 +61,8 @@ row_to at x =
       suffix_len = x.unshared;
       held = Value (at + 3 + x.unshared) x.value_len;
       seq = x.seq;
-      expire = Absent;
-      create = Absent;
+      expire = None;
+      create = None;
     }
 
 -- the words of that place are those of the cursor

@@ -2,18 +2,11 @@
 // is written, and the step of any row follows.
 #![tactic(auto)]
 
-ghost use Rattle.std.specs.Prelude.{◌≡◌};
 ghost use Rattle.words_plain.specs.Promise.{StepsFlatPlain};
 
-use basics::{IterationOrder, Time, ValueDeletable};
+use basics::{IterationOrder, ValueDeletable};
 use place_v2::Place;
 use row_decode_v2::Row;
-
-fn size(word: u64) -> usize
-    ensures { result ≡ word }
-{
-    word as usize
-}
 
 // Answers whether it was made.
 pub fn plain_next(
@@ -31,10 +24,10 @@ pub fn plain_next(
     if (cursor[0] != 0) | (cursor[4] != 0) {
         return false;
     }
-    let region = size(cursor[1]);
-    let at = size(cursor[2]);
-    let key_len = size(cursor[3]);
-    let number = size(cursor[5]);
+    let region = cursor[1] as usize;
+    let at = cursor[2] as usize;
+    let key_len = cursor[3] as usize;
+    let number = cursor[5] as usize;
     let r = step_plain_v2::plain_step(key, region, at, number, key_len, block, out);
     if r.next == 0 {
         return false;
@@ -59,8 +52,8 @@ pub fn plain_next(
             len: r.value_len,
         },
         seq: r.seq,
-        expire: Time::Absent,
-        create: Time::Absent,
+        expire: None,
+        create: None,
     };
     block_words::put_cursor(cursor, place);
     row_words::put_row(row, region, number, found);

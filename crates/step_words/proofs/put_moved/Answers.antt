@@ -1,4 +1,4 @@
--- `put_moved` answers and leaves by the three cases of a step's answer: the cursor's words where it moved, the row's where one was found.
+-- `put_moved` answers and leaves by the two cases of a step that is good: the cursor's words where it moved, the row's where one was found.
 -- In each arm the case is known, and the definitions compute at it. There are as many words as required, so the stores were made; what an arm doesn't store is as it was.
 use mathlib.Core.Path.{ap, sym, ◌∙◌}
 use Rattle.step_in_place_v2.specs.declared.Moved.{Moved}
@@ -20,12 +20,4 @@ returns-in-Done c =
       answer = sym (ap moved_code c.in-Done.is);
       state = stored c.requires.0 c.put_cursor-in-Done.ensures ∙ sym (ap (λ (m : Moved). moved_words m c.args.cursor.now) c.in-Done.is);
       row_words = sym (ap (λ (m : Moved). moved_row m c.args.row.now) c.in-Done.is);
-    }
-
-pub returns-in-Refused : goal.returns-in-Refused
-returns-in-Refused c =
-    record {
-      answer = c.number.ensures ∙ sym (ap moved_code c.in-Refused.is);
-      state = sym (ap (λ (m : Moved). moved_words m c.args.cursor.now) c.in-Refused.is);
-      row_words = sym (ap (λ (m : Moved). moved_row m c.args.row.now) c.in-Refused.is);
     }
