@@ -6,12 +6,14 @@ use mathlib.Core.Path.{◌≡◌, refl, ap, sym, ◌∙◌}
 use mathlib.Core.List.{List}
 use lib.ListN.{length, take}
 use borrow.Author.Tests.{eq-eqb, ne_eqb}
+use Rattle.std.specs.Prelude.{Result, Ok, Err}
+use Rattle.basics.specs.declared.Refusal.{Refusal}
 use Rattle.layout.specs.Res.{Res, ok, refuse, bind}
 use Rattle.layout.specs.Cursor.{Cursor}
 use Rattle.layout.specs.Seek.{Sought, seek, sought_after}
 use Rattle.layout.specs.Limits.{max_key}
 use Rattle.layout.proofs.Laws.Res.{ok-inj}
-use Rattle.basics.specs.Answers.{apart}
+use Rattle.basics.specs.Answers.{apart, yes}
 use Rattle.basics.specs.Number.{number}
 use Rattle.basics.specs.Says.{says_order}
 use Rattle.step_in_place_v2.specs.Promise.{Kept}
@@ -19,9 +21,9 @@ use Rattle.place_v2.specs.Says.{view_in}
 use Rattle.place_v2.specs.declared.Place.{Place}
 use Rattle.seek_in_place_v2.specs.Lent.{lent-whole}
 use Rattle.seek_in_place_v2.specs.Promise.{Finds, SeeksInPlace}
-use Rattle.seek_in_place_v2.specs.Says.{Report, report_is, reported}
+use Rattle.seek_in_place_v2.specs.Says.{Report, report_is, reported, says_found, place_found}
 use Rattle.seek_in_place_v2.specs.declared.Found.{Found}
-use Rattle.seek_in_place_v2.specs.declared.Found.TheVariants.{Landed, Done, Refused}
+use Rattle.seek_in_place_v2.specs.declared.Found.TheVariants.{Landed, Done}
 use Rattle.row_words.specs.Words.{bad_words, done_code, code_of, cursor_in, cursor_words}
 use Rattle.seek_words.specs.Says.{PutsFound}
 use Rattle.seek_words.specs.Promise.{SeeksAs, SeeksFlat}
@@ -54,11 +56,18 @@ module _ (b target ws key : List ℕ) (n : ℕ) (p : Place) (h : length key ≡ 
   asked : {ws' key' : List ℕ} {code k : ℕ} → SeeksAs (seek (says_order p.order) b target) ws key n code ws' key' k → SeeksFlat b target ws key n code ws' key' k
   asked w = rw (eq-eqb (length key) max_key h, is) w
 
-  -- whatever was answered, and what `put_found` left of it
-  pub found-put : (r : Found) (key' : List ℕ) → SeeksInPlace p key b target r key' → {code n' : ℕ} {ws' : List ℕ} → PutsFound r ws n code ws' n' → SeeksFlat b target ws key n code ws' key' n'
-  found-put r key' m g = go r (rw (lent-whole p key b target h refl) at m) g
-    where
-      go : (r : Found) → Finds (seek (says_order p.order) b target) p key r key' → {code n' : ℕ} {ws' : List ℕ} → PutsFound r ws n code ws' n' → SeeksFlat b target ws key n code ws' key' n'
-      go (Landed q k) f {code} {n'} {ws'} g = rw (g.answer, g.number) (asked (left (seek (says_order p.order) b target) (view_in p key) (view_in q key') false ws key ws' key' n k (sym f.answer) f.view g.state refl))
-      go (Done q k) f {code} {n'} {ws'} g = rw (g.answer, g.number) (asked (left (seek (says_order p.order) b target) (view_in p key) (view_in q key') true ws key ws' key' n k (sym f.answer) f.view g.state refl))
-      go (Refused x) f {code} {n'} {ws'} g = rw (g.state, g.number) (asked (not_left (seek (says_order p.order) b target) ws key key' n (number x) code (sym f.answer) g.answer f.whole))
+  module _ (r : Result Found Refusal) (key' : List ℕ) (m : SeeksInPlace p key b target r key') where
+    whole : Finds (seek (says_order p.order) b target) p key r key'
+    whole = rw (lent-whole p key b target h refl) at m
+
+    -- whatever was found, and what `put_found` left of it
+    pub found-put : (f : Found) → r ≡ Ok f → {code n' : ℕ} {ws' : List ℕ} → PutsFound f ws n code ws' n' → SeeksFlat b target ws key n code ws' key' n'
+    found-put (Landed q k) e {ws' = ws'} g =
+        rw (g.answer, g.number) (asked (left (seek (says_order p.order) b target) (view_in p key) (view_in q key') false ws key ws' key' n k (yes says_found whole.answer e)
+        (sym (ap (λ (y : Result Found Refusal). view_in (place_found y p) key') e) ∙ whole.view) g.state refl))
+    found-put (Done q k) e {ws' = ws'} g =
+        rw (g.answer, g.number) (asked (left (seek (says_order p.order) b target) (view_in p key) (view_in q key') true ws key ws' key' n k (yes says_found whole.answer e)
+        (sym (ap (λ (y : Result Found Refusal). view_in (place_found y p) key') e) ∙ whole.view) g.state refl))
+
+    pub found-refused : {x : Refusal} {code : ℕ} → r ≡ Err x → code ≡ number x → SeeksFlat b target ws key n code ws key' n
+    found-refused {x} {code} e q = asked (not_left (seek (says_order p.order) b target) ws key key' n (number x) code (yes says_found whole.answer e) q whole.whole)

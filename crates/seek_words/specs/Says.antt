@@ -1,25 +1,21 @@
 -- What the private function leaves, by the case of the answer that it is given: a code, and lent words.
 use Rattle.std.specs.Prelude.{ℕ, ◌≡◌, List, []}
-use Rattle.basics.specs.Number.{number}
 use Rattle.place_v2.specs.Says.{view_in}
 use Rattle.seek_in_place_v2.specs.declared.Found.{Found}
-use Rattle.seek_in_place_v2.specs.declared.Found.TheVariants.{Landed, Done, Refused}
+use Rattle.seek_in_place_v2.specs.declared.Found.TheVariants.{Landed, Done}
 use Rattle.row_words.specs.Words.{done_code, cursor_words}
 
 abbrev pub found_code : Found → ℕ
 found_code (Landed p n) = 0
 found_code (Done p n) = done_code
-found_code (Refused x) = number x
 
 abbrev pub found_words : Found → List ℕ → List ℕ
 found_words (Landed p n) ws = cursor_words (view_in p [])
 found_words (Done p n) ws = cursor_words (view_in p [])
-found_words (Refused x) ws = ws
 
 abbrev pub found_reads : Found → ℕ → ℕ
 found_reads (Landed p n) old = n
 found_reads (Done p n) old = n
-found_reads (Refused x) old = old
 
 pub record PutsFound (f : Found) (ws : List ℕ) (n code : ℕ) (ws' : List ℕ) (n' : ℕ) : Type 0 where
   pub answer : code ≡ found_code f

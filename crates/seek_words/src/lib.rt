@@ -6,7 +6,6 @@ ghost use Rattle.row_words.specs.Words.{cursor_count};
 ghost use Rattle.seek_words.specs.Says.{PutsFound};
 ghost use Rattle.seek_words.specs.Promise.{SeeksFlat};
 
-use block_words::CursorRead;
 use seek_in_place_v2::Found;
 
 // Puts the cursor that was sought back, and how many restart keys the search read.
@@ -25,7 +24,6 @@ fn put_found(cursor: &mut [u64], reads: &mut u64, found: Found) -> u8
             *reads = n as u64;
             block_words::DONE
         }
-        Found::Refused(refusal) => basics::number(refusal),
     }
 }
 
@@ -36,10 +34,11 @@ pub fn seek(block: &[u8], target: &[u8], cursor: &mut [u64], key: &mut [u8], rea
     if key.len() != basics::MAX_KEY {
         return block_words::BAD_WORDS;
     }
-    let loaded = block_words::cursor_in(cursor);
-    let CursorRead::Is(p) = loaded else {
+    let Some(p) = block_words::cursor_in(cursor) else {
         return block_words::BAD_WORDS;
     };
-    let found = seek_in_place_v2::seek_in_place(key, p, block, target);
-    put_found(cursor, reads, found)
+    match seek_in_place_v2::seek_in_place(key, p, block, target) {
+        Ok(found) => put_found(cursor, reads, found),
+        Err(refusal) => u8::from(refusal),
+    }
 }

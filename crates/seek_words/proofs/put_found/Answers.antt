@@ -1,4 +1,4 @@
--- `put_found` answers and leaves by the three cases of a seek's answer: the cursor's words and the count where it landed or was done; a refusal leaves both.
+-- `put_found` answers and leaves by the two cases of a seek that is good: the cursor's words and the count where it landed or was done.
 -- In each arm the case is known, and the definitions compute at it. There are as many words as required, so the stores were made.
 use mathlib.Core.Path.{ap, sym, ◌∙◌}
 use Rattle.seek_in_place_v2.specs.declared.Found.{Found}
@@ -20,12 +20,4 @@ returns-in-Done c =
       answer = sym (ap found_code c.in-Done.is);
       state = stored c.requires c.put_cursor-in-Done.ensures ∙ sym (ap (λ (f : Found). found_words f c.args.cursor.now) c.in-Done.is);
       number = sym (ap (λ (f : Found). found_reads f c.args.reads.now) c.in-Done.is);
-    }
-
-pub returns-in-Refused : goal.returns-in-Refused
-returns-in-Refused c =
-    record {
-      answer = c.number.ensures ∙ sym (ap found_code c.in-Refused.is);
-      state = sym (ap (λ (f : Found). found_words f c.args.cursor.now) c.in-Refused.is);
-      number = sym (ap (λ (f : Found). found_reads f c.args.reads.now) c.in-Refused.is);
     }
