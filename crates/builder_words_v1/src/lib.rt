@@ -5,42 +5,22 @@
 ghost use Rattle.std.specs.Prelude.{◌≡◌};
 ghost use Rattle.builder_words_v1.specs.Promise.{LoadsState, PutsState, LoadsOffer};
 
-use row_flags::RowFields;
-use row_words::FieldsRead;
+use row_words::Offer;
 use state_v1::State;
 
 pub const BUILDER_WORDS: usize = 4;
 
-#[derive(Clone, Copy)]
-pub enum StateRead {
-    Is(State),
-    Bad,
-}
-
-// A builder, and the row that is offered to it.
-#[derive(Clone, Copy)]
-pub enum OfferRead {
-    Is { state: State, row: RowFields },
-    Bad,
-}
-
-fn size(word: u64) -> usize
-    ensures { result ≡ word }
-{
-    word as usize
-}
-
-pub fn state_in(words: &[u64]) -> StateRead
+pub fn state_in(words: &[u64]) -> Option<State>
     ensures { LoadsState words.now result }
 {
     if words.len() != BUILDER_WORDS {
-        return StateRead::Bad;
+        return None;
     }
-    StateRead::Is(State {
-        block_size: size(words[0]),
-        used: size(words[1]),
-        rows: size(words[2]),
-        first_key_len: size(words[3]),
+    Some(State {
+        block_size: words[0] as usize,
+        used: words[1] as usize,
+        rows: words[2] as usize,
+        first_key_len: words[3] as usize,
     })
 }
 
@@ -58,19 +38,13 @@ pub fn put_state(words: &mut [u64], s: State) -> bool
 }
 
 // The builder that a row is offered to, by its words and as many bytes as the longest key has, and the row's fields.
-pub fn offer_in(builder: &[u64], first_key: &[u8], fields: &[u64]) -> OfferRead
+pub fn offer_in(builder: &[u64], first_key: &[u8], fields: &[u64]) -> Option<Offer<State>>
     ensures { LoadsOffer builder.now first_key.now fields.now result }
 {
-    let words = state_in(builder);
-    let StateRead::Is(state) = words else {
-        return OfferRead::Bad;
-    };
+    let state = state_in(builder)?;
     if first_key.len() != basics::MAX_KEY {
-        return OfferRead::Bad;
+        return None;
     }
-    let loaded = row_words::fields_in(fields);
-    let FieldsRead::Is(row) = loaded else {
-        return OfferRead::Bad;
-    };
-    OfferRead::Is { state, row }
+    let row = row_words::fields_in(fields)?;
+    Some(Offer { state, row })
 }

@@ -5,6 +5,7 @@ use mathlib.Core.Path.{◌≡◌, refl, sym, subst, ◌∙◌}
 use mathlib.Core.List.{List, [], ◌∷◌, ◌++◌}
 use native.Mathlib.Omega.{arith}
 use lib.ListN.{length, set, drop, length-append, length-drop}
+use Rattle.std.specs.Prelude.{Some}
 use Rattle.layout.specs.Res.{ok, refuse}
 use Rattle.layout.specs.RowRead.{RowRead}
 use Rattle.layout_v1.specs.Cursor.{Cursor}
@@ -17,7 +18,6 @@ use Rattle.row_words.proofs.Fields.{row_count_lem}
 use Rattle.row_words.proofs.Stores.{stored, stored-behind}
 use Rattle.cursor_words_v1.specs.Words.{cursor_count, row_count, cursor_in, row_words_of}
 use Rattle.cursor_words_v1.specs.Says.{says_cursor}
-use Rattle.cursor_words_v1.specs.declared.CursorRead.TheVariants.{Is as IsCursor}
 
 -- ---- a cursor
 
@@ -30,7 +30,7 @@ unfolding cursor_in
 cursor-no-order ws h o = sym (counted-so ws cursor_count _ h ∙ rw o refl)
 
 pub cursor-loaded : (ws : List ℕ) (c : BlockIterator) → length ws ≡ cursor_count → order_in (word_at ws 0) ≡ ok (says_order c.order) → c.passed ≡ word_at ws 1
-    → says_cursor (IsCursor c) ≡ cursor_in ws
+    → says_cursor (Some c) ≡ cursor_in ws
 unfolding cursor_in
 cursor-loaded ws c h o p = rw p (sym (counted-so ws cursor_count _ h ∙ rw o refl))
 

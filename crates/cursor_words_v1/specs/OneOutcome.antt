@@ -1,18 +1,13 @@
 -- Each promise admits one outcome: two results, with the words that they leave, that both keep it are equal.
-use Rattle.std.specs.Prelude.{ℕ, Bool, ◌≡◌, List}
+use Rattle.std.specs.Prelude.{ℕ, Bool, ◌≡◌, List, Option}
 use Rattle.std.proofs.Common.{sym, ◌∙◌}
 use Rattle.row_decode_v2.specs.declared.Row.{Row}
 use Rattle.block_iterator.specs.declared.BlockIterator.{BlockIterator}
 use Rattle.row_words.specs.OneOutcome.{stores_settled}
-use Rattle.cursor_words_v1.specs.declared.OrderRead.{OrderRead}
-use Rattle.cursor_words_v1.specs.declared.CursorRead.{CursorRead}
-use Rattle.cursor_words_v1.specs.Says.{says_ordered-one, says_cursor-one}
-use Rattle.cursor_words_v1.specs.Promise.{LoadsOrder, LoadsCursor, PutsCursor, PutsRow}
+use Rattle.cursor_words_v1.specs.Says.{says_cursor-one}
+use Rattle.cursor_words_v1.specs.Promise.{LoadsCursor, PutsCursor, PutsRow}
 
-pub order_in_settled : (w : ℕ) (r q : OrderRead) → LoadsOrder w r → LoadsOrder w q → r ≡ q
-order_in_settled w r q m n = says_ordered-one r q (m ∙ sym n)
-
-pub cursor_in_settled : (ws : List ℕ) (r q : CursorRead) → LoadsCursor ws r → LoadsCursor ws q → r ≡ q
+pub cursor_in_settled : (ws : List ℕ) (r q : Option BlockIterator) → LoadsCursor ws r → LoadsCursor ws q → r ≡ q
 cursor_in_settled ws r q m n = says_cursor-one r q (m ∙ sym n)
 
 pub put-cursor-settled : (c : BlockIterator) (ws : List ℕ) (r q : Bool) (ys zs : List ℕ) → PutsCursor c ws r ys → PutsCursor c ws q zs → (r ≡ q) × (ys ≡ zs)

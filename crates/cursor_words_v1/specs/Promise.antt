@@ -1,20 +1,14 @@
 -- What each public function promises: equations to the definitions, that settle each case and number answered and each word lent.
-use Rattle.std.specs.Prelude.{ℕ, Bool, ◌≡◌, List}
+use Rattle.std.specs.Prelude.{ℕ, Bool, ◌≡◌, List, Option}
 use Rattle.row_decode_v2.specs.Says.{row_from}
 use Rattle.row_decode_v2.specs.declared.Row.{Row}
 use Rattle.block_iterator.specs.Says.{view_of}
 use Rattle.block_iterator.specs.declared.BlockIterator.{BlockIterator}
-use Rattle.row_words.specs.Words.{order_in}
 use Rattle.row_words.specs.Promise.{Stores}
-use Rattle.cursor_words_v1.specs.declared.OrderRead.{OrderRead}
-use Rattle.cursor_words_v1.specs.declared.CursorRead.{CursorRead}
 use Rattle.cursor_words_v1.specs.Words.{cursor_count, row_count, cursor_in, cursor_words, row_words_of}
-use Rattle.cursor_words_v1.specs.Says.{says_ordered, says_cursor}
+use Rattle.cursor_words_v1.specs.Says.{says_cursor}
 
-abbrev pub LoadsOrder : ℕ → OrderRead → Type 0
-LoadsOrder w r = says_ordered r ≡ order_in w
-
-abbrev pub LoadsCursor : List ℕ → CursorRead → Type 0
+abbrev pub LoadsCursor : List ℕ → Option BlockIterator → Type 0
 LoadsCursor ws r = says_cursor r ≡ cursor_in ws
 
 abbrev pub PutsCursor : BlockIterator → List ℕ → Bool → List ℕ → Type 0

@@ -3,11 +3,8 @@
 #![tactic(auto)]
 
 ghost use Rattle.std.specs.Prelude.{◌≡◌};
-ghost use Rattle.basics.specs.Says.{says_order};
-ghost use Rattle.row_words.specs.Words.{order_word};
-ghost use Rattle.cursor_words_v1.specs.Promise.{LoadsOrder, LoadsCursor, PutsCursor, PutsRow};
+ghost use Rattle.cursor_words_v1.specs.Promise.{LoadsCursor, PutsCursor, PutsRow};
 
-use basics::IterationOrder;
 use block_iterator::BlockIterator;
 use row_decode_v2::Row;
 
@@ -16,62 +13,18 @@ pub const CURSOR_WORDS: usize = 2;
 // a single row's words, and the row's number in the block
 pub const ROW_WORDS: usize = 14;
 
-#[derive(Clone, Copy)]
-pub enum OrderRead {
-    Is(IterationOrder),
-    Bad,
-}
-
-#[derive(Clone, Copy)]
-pub enum CursorRead {
-    Is(BlockIterator),
-    Bad,
-}
-
-// ---- single words
-
-fn size(word: u64) -> usize
-    ensures { result ≡ word }
-{
-    word as usize
-}
-
-pub fn order_in(word: u64) -> OrderRead
-    ensures { LoadsOrder word result }
-{
-    if word == 0 {
-        return OrderRead::Is(IterationOrder::Ascending);
-    }
-    if word == 1 {
-        return OrderRead::Is(IterationOrder::Descending);
-    }
-    OrderRead::Bad
-}
-
-fn order_word(order: IterationOrder) -> u64
-    ensures { result ≡ order_word (says_order order) }
-{
-    match order {
-        IterationOrder::Ascending => 0,
-        IterationOrder::Descending => 1,
-    }
-}
-
 // ---- a cursor
 
-pub fn cursor_in(words: &[u64]) -> CursorRead
+pub fn cursor_in(words: &[u64]) -> Option<BlockIterator>
     ensures { LoadsCursor words.now result }
 {
     if words.len() != CURSOR_WORDS {
-        return CursorRead::Bad;
+        return None;
     }
-    let ordered = order_in(words[0]);
-    let OrderRead::Is(order) = ordered else {
-        return CursorRead::Bad;
-    };
-    CursorRead::Is(BlockIterator {
+    let order = row_words::order_in(words[0])?;
+    Some(BlockIterator {
         order,
-        passed: size(words[1]),
+        passed: words[1] as usize,
     })
 }
 
@@ -82,8 +35,7 @@ pub fn put_cursor(words: &mut [u64], c: BlockIterator) -> bool
     if words.len() != CURSOR_WORDS {
         return false;
     }
-    let order = c.order;
-    words[0] = order_word(order);
+    words[0] = row_words::order_word(c.order);
     words[1] = c.passed as u64;
     true
 }
