@@ -3,7 +3,6 @@
 #![tactic(auto)]
 
 mod reading;
-mod say;
 mod writing;
 
 use std::io;

@@ -1,13 +1,11 @@
 // What is written: the bytes of rows, each read back; sizes; and what is refused.
-use crate::{reading, say};
-use basics::{Kind, Time};
-use replay_text::show;
-use row_encode_v2::Encoded;
+use crate::reading;
+use basics::Kind;
+use replay_text::{say, show};
 use row_flags::RowFields;
-use row_size_v2::Sized;
 use std::io;
 
-fn fields(kind: Kind, seq: u64, expire: Time, create: Time) -> RowFields {
+fn fields(kind: Kind, seq: u64, expire: Option<i64>, create: Option<i64>) -> RowFields {
     RowFields {
         kind,
         seq,
@@ -17,7 +15,7 @@ fn fields(kind: Kind, seq: u64, expire: Time, create: Time) -> RowFields {
 }
 
 fn plain(kind: Kind, seq: u64) -> RowFields {
-    fields(kind, seq, Time::Absent, Time::Absent)
+    fields(kind, seq, None, None)
 }
 
 fn row(
@@ -30,49 +28,41 @@ fn row(
 ) -> io::Result<()> {
     let mut out = [255u8; 64];
     match row_encode_v0::encode(&mut out, first_len, shared, suffix, value, held) {
-        Encoded::Bytes(n) => {
-            say::count(rt, b"", n)?;
-            show::text(rt, b" bytes: ")?;
+        Ok(n) => {
+            print!(rt; "{n} bytes: ")?;
             show::bytes(rt, &out, 0, n)?;
-            show::text(rt, b"\n")?;
+            println!(rt;)?;
             reading::alone(rt, &out, first_len)
         }
-        Encoded::Refused(r) => say::refusal(rt, r),
+        Err(r) => say::refusal(rt, r),
     }
 }
 
 pub fn rows(rt: &impl Print) -> io::Result<()> {
-    say::line(rt, b"the row of a")?;
+    println!(rt; "the row of a")?;
     row(rt, 0, 0, b"a", b"", plain(Kind::Value, 1))?;
     row(rt, 0, 0, b"a", b"", plain(Kind::Tombstone, 1))?;
     row(rt, 1, 1, b"", b"", plain(Kind::Tombstone, 2))?;
-    say::line(rt, b"rows after it")?;
+    println!(rt; "rows after it")?;
     row(rt, 1, 1, b"b", b"x", plain(Kind::Value, 2))?;
     row(rt, 1, 0, b"b", b"", plain(Kind::Value, 3))?;
-    say::line(rt, b"times")?;
+    println!(rt; "times")?;
     row(
         rt,
         0,
         0,
         b"a",
         b"x",
-        fields(Kind::Value, 258, Time::At(259), Time::At(-1)),
+        fields(Kind::Value, 258, Some(259), Some(-1)),
     )?;
-    row(
-        rt,
-        0,
-        0,
-        b"a",
-        b"x",
-        fields(Kind::Merge, 1, Time::Absent, Time::At(5)),
-    )?;
+    row(rt, 0, 0, b"a", b"x", fields(Kind::Merge, 1, None, Some(5)))?;
     row(
         rt,
         0,
         0,
         b"a",
         b"xy",
-        fields(Kind::Tombstone, 1, Time::At(7), Time::At(5)),
+        fields(Kind::Tombstone, 1, Some(7), Some(5)),
     )
 }
 
@@ -83,24 +73,14 @@ fn size(
     kind: Kind,
     value_len: usize,
 ) -> io::Result<()> {
-    match row_size_v0::encoded_size(
-        shared,
-        suffix_len,
-        kind,
-        value_len,
-        Time::Absent,
-        Time::Absent,
-    ) {
-        Sized::Bytes(n) => {
-            say::count(rt, b"", n)?;
-            show::text(rt, b"\n")
-        }
-        Sized::Refused(r) => say::refusal(rt, r),
+    match row_size_v0::encoded_size(shared, suffix_len, kind, value_len, None, None) {
+        Ok(n) => println!(rt; "{n}"),
+        Err(r) => say::refusal(rt, r),
     }
 }
 
 pub fn sizes(rt: &impl Print) -> io::Result<()> {
-    say::line(rt, b"sizes: values and keys at their limits, and over them")?;
+    println!(rt; "sizes: values and keys at their limits, and over them")?;
     size(rt, 0, 1, Kind::Value, 65535)?;
     size(rt, 0, 1, Kind::Value, 65536)?;
     size(rt, 0, 1, Kind::Merge, 65536)?;
@@ -109,7 +89,7 @@ pub fn sizes(rt: &impl Print) -> io::Result<()> {
     size(rt, 4096, 0, Kind::Value, 0)?;
     size(rt, 1, 4096, Kind::Value, 65536)?;
     size(rt, 0, 0, Kind::Value, 65536)?;
-    say::line(rt, b"lengths whose sum would wrap")?;
+    println!(rt; "lengths whose sum would wrap")?;
     size(rt, 18446744073709551615, 1, Kind::Value, 0)?;
     size(
         rt,
@@ -129,13 +109,10 @@ fn taken(
     out: &mut [u8],
 ) -> io::Result<()> {
     match row_encode_v0::encode(out, first_len, shared, suffix, b"", plain(Kind::Value, 1)) {
-        Encoded::Bytes(n) => {
-            say::count(rt, b"taken: ", n)?;
-            show::text(rt, b"\n")
-        }
-        Encoded::Refused(r) => {
+        Ok(n) => println!(rt; "taken: {n}"),
+        Err(r) => {
             show::bytes(rt, out, 0, 2)?;
-            show::text(rt, b" ")?;
+            print!(rt; " ")?;
             say::refusal(rt, r)
         }
     }
@@ -152,7 +129,7 @@ fn in_17_bytes(rt: &impl Print, first_len: usize, shared: usize, suffix: &[u8]) 
 }
 
 pub fn refusals(rt: &impl Print) -> io::Result<()> {
-    say::line(rt, b"encoding: 13, 1, 2, 6")?;
+    println!(rt; "encoding: 13, 1, 2, 6")?;
     in_18_bytes(rt, 0, 1, b"")?;
     in_18_bytes(rt, 1, 2, b"")?;
     in_18_bytes(rt, 1, 0, b"")?;
@@ -171,25 +148,21 @@ fn encoded(
     kind: Kind,
 ) -> io::Result<()> {
     match row_encode_v0::encode(out, 0, 0, key, value, plain(kind, 1)) {
-        Encoded::Bytes(n) => {
-            say::count(rt, b"taken: ", n)?;
-            show::text(rt, b"\n")?;
+        Ok(n) => {
+            println!(rt; "taken: {n}")?;
             reading::ends(rt, out, 0)
         }
-        Encoded::Refused(r) => say::refusal(rt, r),
+        Err(r) => say::refusal(rt, r),
     }
 }
 
 pub fn longest(rt: &impl Print) -> io::Result<()> {
-    say::line(rt, b"the longest key, and one byte more")?;
+    println!(rt; "the longest key, and one byte more")?;
     let key = [b'k'; 4097];
     let mut out = [0u8; 4114];
     encoded(rt, &mut out, &key[..4096], b"", Kind::Value)?;
     encoded(rt, &mut out, &key, b"", Kind::Value)?;
-    say::line(
-        rt,
-        b"the longest value, and one byte more; of a tombstone it is not written",
-    )?;
+    println!(rt; "the longest value, and one byte more; of a tombstone it is not written")?;
     let value = [b'v'; 65536];
     let mut room = [0u8; 65553];
     encoded(rt, &mut room, b"a", &value[..65535], Kind::Value)?;
