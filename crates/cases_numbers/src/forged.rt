@@ -1,5 +1,5 @@
 // Cursors with numbers of someone's making: those that can't be are refused with 18, and a wrong one that can be is counted on from.
-use crate::{blocks, say, travel};
+use crate::{blocks, travel};
 use basics::IterationOrder;
 use place_v2::Place;
 use std::io;
@@ -26,21 +26,22 @@ fn step(rt: &impl Print, block: &[u8], p: Place) -> io::Result<()> {
 // Steps to the end.
 fn steps(rt: &impl Print, block: &[u8], p: Place) -> io::Result<()> {
     let mut key = [b'b'; basics::MAX_KEY];
-    let on = travel::step(rt, &mut key, p, block)?;
-    let end = travel::step(rt, &mut key, on, block)?;
-    travel::step(rt, &mut key, end, block)?;
+    let mut place = p;
+    for _ in 0..3 {
+        place = travel::step(rt, &mut key, place, block)?;
+    }
     Ok(())
 }
 
 fn up(rt: &impl Print, block: &[u8]) -> io::Result<()> {
     let order = IterationOrder::Ascending;
-    say::text(rt, b"up from 38, as rows passed 0, 4 and 3\n")?;
+    println!(rt; "up from 38, as rows passed 0, 4 and 3")?;
     step(rt, block, inside(order, 0, 38, 0))?;
     step(rt, block, inside(order, 0, 38, 4))?;
     step(rt, block, inside(order, 0, 38, 3))?;
-    say::text(rt, b"as one row passed, which can be\n")?;
+    println!(rt; "as one row passed, which can be")?;
     steps(rt, block, inside(order, 0, 38, 1))?;
-    say::text(rt, b"from 0 as one row passed, and from the end as none\n")?;
+    println!(rt; "from 0 as one row passed, and from the end as none")?;
     step(rt, block, inside(order, 0, 0, 1))?;
     step(rt, block, inside(order, 0, 63, 0))
 }
@@ -52,23 +53,20 @@ pub fn ascending(rt: &impl Print) -> io::Result<()> {
 
 fn down(rt: &impl Print, block: &[u8]) -> io::Result<()> {
     let order = IterationOrder::Descending;
-    say::text(rt, b"down from 38, as rows passed 2, 4 and 3\n")?;
+    println!(rt; "down from 38, as rows passed 2, 4 and 3")?;
     step(rt, block, inside(order, 0, 38, 2))?;
     step(rt, block, inside(order, 0, 38, 4))?;
     step(rt, block, inside(order, 0, 38, 3))
 }
 
 fn down_damaged(rt: &impl Print, block: &[u8]) -> io::Result<()> {
-    say::text(rt, b"a damaged row before a wrong number\n")?;
+    println!(rt; "a damaged row before a wrong number")?;
     step(rt, block, inside(IterationOrder::Descending, 0, 27, 9))
 }
 
 fn down_at_start(rt: &impl Print, block: &[u8]) -> io::Result<()> {
     let order = IterationOrder::Descending;
-    say::text(
-        rt,
-        b"at a region's start, as rows passed 1 and 0; and at the first one's as 1\n",
-    )?;
+    println!(rt; "at a region's start, as rows passed 1 and 0; and at the first one's as 1")?;
     step(rt, block, inside(order, 1, 26, 1))?;
     step(rt, block, inside(order, 1, 26, 0))?;
     step(rt, block, inside(order, 0, 0, 1))
@@ -84,7 +82,7 @@ pub fn descending(rt: &impl Print) -> io::Result<()> {
 }
 
 pub fn marked(rt: &impl Print) -> io::Result<()> {
-    say::text(rt, b"marked, as 9 rows passed\n")?;
+    println!(rt; "marked, as 9 rows passed")?;
     let block = blocks::three_regions();
     let mut p = inside(IterationOrder::Descending, 1, 26, 9);
     p.done = true;

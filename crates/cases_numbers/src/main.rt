@@ -4,7 +4,6 @@
 
 mod blocks;
 mod forged;
-mod say;
 mod travel;
 
 use std::io;
