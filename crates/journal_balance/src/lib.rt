@@ -27,6 +27,16 @@ struct Sums {
     closed: bool,
 }
 
+impl Sums {
+    // Top-ups less debits.
+    fn balance(self) -> i64
+        requires { (self.ups < 2 ^ 49) × (self.downs < 2 ^ 49) }
+        ensures { result ≡ pos self.ups -ℤ pos self.downs }
+    {
+        (self.ups as i64) - (self.downs as i64)
+    }
+}
+
 // Whether the record at `p` has this kind, card and retry number. The retry number comes first: of three it most often tells two records apart.
 fn named_at(journal: &[u8], p: usize, kind: Kind, card: u64, retry: u64) -> bool
     requires { (p < length journal.now) × (length journal.now ≤ 65536) × (length_of (byte_of kind) ≡ 21) }
@@ -106,14 +116,6 @@ fn counted(
     }
 }
 
-// Top-ups less debits.
-fn less(ups: u64, downs: u64) -> i64
-    requires { (ups < 2 ^ 49) × (downs < 2 ^ 49) }
-    ensures { result ≡ pos ups -ℤ pos downs }
-{
-    (ups as i64) - (downs as i64)
-}
-
 // The balance of a card.
 pub fn balance(journal: &[u8], card: u64) -> Result<Balanced, Refusal>
     ensures { Balances journal.now card result }
@@ -135,7 +137,7 @@ pub fn balance(journal: &[u8], card: u64) -> Result<Balanced, Refusal>
         let n = kind.length();
         if journal.len() - at < n {
             return Ok(Balanced {
-                balance: less(s.ups, s.downs),
+                balance: s.balance(),
                 tail: Some(at),
             });
         }
@@ -143,7 +145,7 @@ pub fn balance(journal: &[u8], card: u64) -> Result<Balanced, Refusal>
         at += n;
     }
     Ok(Balanced {
-        balance: less(s.ups, s.downs),
+        balance: s.balance(),
         tail: None,
     })
 }

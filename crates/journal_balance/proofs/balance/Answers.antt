@@ -35,8 +35,8 @@ long c =
     let e = c.length-n.ensures in
     (e ∙ ap length_of (kind-is _ _ c.in-Ok.ensures), omega (arith, kind-some c.in-Ok.kind))
 
-pub less-requires : goal.less-requires
-less-requires c = omega (arith, c.loop-at.invariant.2.small)
+pub balance-requires : goal.balance-requires
+balance-requires c = omega (arith, c.loop-at.invariant.2.small)
 
 pub returns-then-journal-at : goal.returns-then-journal-at
 returns-then-journal-at c =
@@ -44,7 +44,7 @@ returns-then-journal-at c =
     let d = c.args.journal.now in
     let h : c.loop-at.at < length d = c.loop-at-test.true in
     let l = long (goal.at.returns-then-journal-at c).After-length-n in
-    sym (balancing_last d c.args.card c.loop-at.s c.loop-at.at b _ (Some c.loop-at.at) (to_z-of_z {w = w64} (record { sfits = c.less.type_inv }) ∙ c.less.ensures) (tail_from c.loop-at.at (length d) h))
+    sym (balancing_last d c.args.card c.loop-at.s c.loop-at.at b _ (Some c.loop-at.at) (to_z-of_z {w = w64} (record { sfits = c.balance.type_inv }) ∙ c.balance.ensures) (tail_from c.loop-at.at (length d) h))
     ∙ going-tail d (settled_from c.args.card (length d) b.before c.loop-at.s.ups c.loop-at.s.downs) (balance_in d c.args.card) c.loop-at.at b.going h
     (λ e. omega (arith, e)) (omega arith)
 
@@ -69,14 +69,14 @@ loop-at-preserved c =
       rw c.length-n.ensures c.counted-s.ensures.keeps_2,
     )
 
-pub less-requires-2 : goal.less-requires-2
-less-requires-2 c = omega (arith, c.loop-at.invariant.2.small)
+pub balance-requires-2 : goal.balance-requires-2
+balance-requires-2 c = omega (arith, c.loop-at.invariant.2.small)
 
 pub returns : goal.returns
 returns c =
     let b = c.loop-at.invariant.2 in
     let d = c.args.journal.now in
-    sym (balancing_last d c.args.card c.loop-at.s c.loop-at.at b _ None (to_z-of_z {w = w64} (record { sfits = c.less-2.type_inv }) ∙ c.less-2.ensures) (tail_none c.loop-at.at (length d) c.loop-at-test.false))
+    sym (balancing_last d c.args.card c.loop-at.s c.loop-at.at b _ None (to_z-of_z {w = w64} (record { sfits = c.balance-2.type_inv }) ∙ c.balance-2.ensures) (tail_none c.loop-at.at (length d) c.loop-at-test.false))
     ∙ going_end d (settled_from c.args.card (length d) b.before c.loop-at.s.ups c.loop-at.s.downs) (balance_in d c.args.card) c.loop-at.at b.going c.loop-at-test.false
 
 pub loop-at-smaller : goal.loop-at-smaller

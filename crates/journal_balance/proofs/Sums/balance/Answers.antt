@@ -1,4 +1,4 @@
--- `less` gives the difference: both numbers are small, so neither the casts nor the difference lose a bit.
+-- `Sums::balance` gives the difference: both numbers are small, so neither the casts nor the difference lose a bit.
 use Prim.Native.Nat.{ℕ, zero, suc, ◌-◌, ◌^◌, ◌<◌}
 use mathlib.Core.Path.{◌≡◌, sym, ◌∙◌, subst}
 use mathlib.Core.Bool.{Bool, true, false, cond}
@@ -9,7 +9,7 @@ use lib.Signed.{mag}
 use mir.Syntax.{w64}
 use mir.Val.{SFits, to_z}
 use mir.Facts.{to_z-of_z, to_z_pos}
-use Rattle.journal_balance.proofs.less.Goals as goal
+use Rattle.journal_balance.proofs.Sums.balance.Goals as goal
 
 small : (a b : ℕ) → a < 2 ^ 49 → b < 2 ^ 49 → SFits w64 (pos a -ℤ pos b)
 small a zero h k = record { sfits = omega arith }
