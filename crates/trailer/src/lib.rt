@@ -27,20 +27,13 @@ pub struct Region {
     pub reach: usize,
 }
 
-// A byte as a wider number, with its bound said once for all sums of bytes.
-fn wide(x: u8) -> usize
-    ensures { (result ≡ x) × (result < 256) }
-{
-    x as usize
-}
-
 // The two bytes at `at`, high byte first.
 fn short_at(block: &[u8], at: usize) -> usize
     requires { at + 2 ≤ length block.now }
     ensures { (result ≡ short_at block.now at) × (result < 65536) }
 {
-    let high = wide(block[at]);
-    let low = wide(block[at + 1]);
+    let high = usize::from(block[at]);
+    let low = usize::from(block[at + 1]);
     high * 256 + low
 }
 

@@ -7,4 +7,4 @@ use borrow.Author.Rules.{rules}
 use Rattle.trailer.proofs.short_at.Goals as goal
 
 pub returns : goal.returns
-returns c = (rw (c.wide-high.ensures.0, c.wide-low.ensures.0) (short-read _ _ _ (sym (fixed_at-two c.args.block.now c.args.at c.requires))), search rules)
+returns c = (rw (c.from-high.ensures, c.from-low.ensures) (short-read _ _ _ (sym (fixed_at-two c.args.block.now c.args.at c.requires))), search rules)
