@@ -1,16 +1,14 @@
 -- Each promise admits one outcome: two results, with the buffers that they leave, that both keep it are equal; but for the bytes past the length of the key
 -- that a moved cursor carries.
-use Rattle.std.specs.Prelude.{ℕ, ◌≡◌, List, length}
+use Rattle.std.specs.Prelude.{ℕ, ◌≡◌, Bool, List, length, Result, ⊤}
 use Rattle.std.proofs.Common.{ap, sym, ◌∙◌}
 use Rattle.layout.specs.Res.{Res, ok, refuse}
 use Rattle.layout.specs.Cursor.{next}
 use Rattle.layout.specs.Seek.{seek}
-use Rattle.basics.specs.Answers.{says_verdict-one}
+use Rattle.basics.specs.Answers.{says_same-one, says_verdict-one}
 use Rattle.basics.specs.Says.{says_order}
 use Rattle.basics.specs.declared.IterationOrder.{IterationOrder}
-use Rattle.basics.specs.declared.Verdict.{Verdict}
-use Rattle.place_v2.specs.Says.{says_empty-one}
-use Rattle.place_v2.specs.declared.EmptyRead.{EmptyRead}
+use Rattle.basics.specs.declared.Refusal.{Refusal}
 use Rattle.block_iterator_v2.specs.declared.BlockIteratorV2.{BlockIteratorV2}
 use Rattle.block_iterator_v2.specs.declared.Opened.{Opened}
 use Rattle.block_iterator_v2.specs.declared.Next.{Next}
@@ -22,7 +20,7 @@ pub new-settled : (b : List ℕ) (order : IterationOrder) (r q : Opened) → Ope
 new-settled b order r q m n =
     let i = view_of-one r.iterator q.iterator (m.view ∙ sym n.view) (m.bytes ∙ sym n.bytes) in
     let a = says_verdict-one r.answer q.answer (m.answer ∙ sym n.answer) in
-    ap (λ (x : BlockIteratorV2). record { iterator = x; answer = r.answer }) i ∙ ap (λ (x : Verdict). record { iterator = q.iterator; answer = x }) a
+    ap (λ (x : BlockIteratorV2). record { iterator = x; answer = r.answer }) i ∙ ap (λ (x : Result ⊤ Refusal). record { iterator = q.iterator; answer = x }) a
 
 wholes : {A : Type 0} (want : Res A) (a b self : BlockIteratorV2) → Whole want a self → Whole want b self → Whole want a b
 wholes (ok x) a b self m n = tt
@@ -46,5 +44,5 @@ seek-settled self b target r q m n = (
   wholes (seek (says_order self.place.order) b target) r.iterator q.iterator self m.whole n.whole,
 )
 
-pub is-empty-settled : (self : BlockIteratorV2) (b : List ℕ) (r q : EmptyRead) → TellsEmpty self b r → TellsEmpty self b q → r ≡ q
-is-empty-settled self b r q m n = says_empty-one r q (m ∙ sym n)
+pub is-empty-settled : (self : BlockIteratorV2) (b : List ℕ) (r q : Result Bool Refusal) → TellsEmpty self b r → TellsEmpty self b q → r ≡ q
+is-empty-settled self b r q m n = says_same-one r q (m ∙ sym n)

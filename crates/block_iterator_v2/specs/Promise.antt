@@ -1,16 +1,15 @@
 -- What each public function promises: equations to the definitions of `layout`, that settle each number answered and each byte lent. A cursor is known by its
 -- view; one that a refusal gives back is the one that came, array and all.
-use Rattle.std.specs.Prelude.{ℕ, ◌≡◌, List, length, replicate}
+use Rattle.std.specs.Prelude.{ℕ, ◌≡◌, Bool, List, length, replicate, Result}
 use Rattle.layout.specs.Res.{Res, ok, refuse, bind, whether}
 use Rattle.layout.specs.Limits.{max_key}
 use Rattle.layout.specs.Cursor.{cursor_or, open_block, Step, next, cursor_after, key_after, is_empty}
 use Rattle.layout.specs.Seek.{Sought as SoughtL, seek, sought_after}
-use Rattle.basics.specs.Answers.{says_verdict}
+use Rattle.basics.specs.Answers.{says_same, says_verdict}
 use Rattle.basics.specs.Says.{says_order}
 use Rattle.basics.specs.declared.IterationOrder.{IterationOrder}
+use Rattle.basics.specs.declared.Refusal.{Refusal}
 use Rattle.step_in_place_v2.specs.Says.{told}
-use Rattle.place_v2.specs.Says.{says_empty}
-use Rattle.place_v2.specs.declared.EmptyRead.{EmptyRead}
 use Rattle.seek_in_place_v2.specs.Says.{reported}
 use Rattle.block_iterator_v2.specs.declared.BlockIteratorV2.{BlockIteratorV2}
 use Rattle.block_iterator_v2.specs.declared.Opened.{Opened}
@@ -48,5 +47,5 @@ pub record Seeks (want : Res SoughtL) (self : BlockIteratorV2) (r : Sought) : Ty
 abbrev pub SeeksTarget : BlockIteratorV2 → List ℕ → List ℕ → Sought → Type 0
 SeeksTarget self b target r = Seeks (seek (says_order self.place.order) b target) self r
 
-abbrev pub TellsEmpty : BlockIteratorV2 → List ℕ → EmptyRead → Type 0
-TellsEmpty self b r = says_empty r ≡ is_empty (view_of self) b
+abbrev pub TellsEmpty : BlockIteratorV2 → List ℕ → Result Bool Refusal → Type 0
+TellsEmpty self b r = says_same r ≡ is_empty (view_of self) b

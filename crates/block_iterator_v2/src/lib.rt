@@ -17,10 +17,10 @@ ghost use Rattle.seek_in_place_v2.specs.Says.{place_found};
 ghost use Rattle.block_iterator_v2.specs.Parts.{answer_of, answer_found};
 ghost use Rattle.block_iterator_v2.specs.Promise.{Opens, StepsNext, SeeksTarget, TellsEmpty};
 
-use basics::{IterationOrder, Refusal, Verdict};
-use place_v2::{EmptyRead, Place};
+use basics::{IterationOrder, Refusal};
+use place_v2::Place;
 use row_decode_v2::Row;
-use seek_in_place_v2::Found;
+use seek_in_place_v2::Found as FoundPlace;
 use step_in_place_v2::Moved;
 
 // A cursor: its place, and beside it the bytes of the key before, of which the first `place.key_len` tell. A fresh one has `[0; basics::MAX_KEY]` and length 0.
@@ -33,26 +33,22 @@ pub struct BlockIteratorV2 {
 #[derive(Clone, Copy)]
 pub struct Opened {
     pub iterator: BlockIteratorV2,
-    pub answer: Verdict,
+    pub answer: Result<(), Refusal>,
 }
 
+// The row that a step gives, its region and its number there.
 #[derive(Clone, Copy)]
-pub enum NextAnswer {
-    // The row, its region and its number there.
-    Found {
-        region: usize,
-        number: usize,
-        row: Row,
-    },
-    Done,
-    Refused(Refusal),
+pub struct Found {
+    pub region: usize,
+    pub number: usize,
+    pub row: Row,
 }
 
-// What a step answers, with the cursor moved past the row.
+// What a step answers, with the cursor moved past the row. None: no row is left.
 #[derive(Clone, Copy)]
 pub struct Next {
     pub iterator: BlockIteratorV2,
-    pub answer: NextAnswer,
+    pub answer: Result<Option<Found>, Refusal>,
 }
 
 #[derive(Clone, Copy)]
@@ -61,19 +57,23 @@ pub enum SeekAnswer {
     Landed(usize),
     // None is left; the search read as many.
     Done(usize),
-    Refused(Refusal),
 }
 
 #[derive(Clone, Copy)]
 pub struct Sought {
     pub iterator: BlockIteratorV2,
-    pub answer: SeekAnswer,
+    pub answer: Result<SeekAnswer, Refusal>,
 }
 
 // ---- a step over the cursor's own key bytes
 
 // Lends the array as the bytes that a step works on.
-fn next_in_array(key: &mut [u8; basics::MAX_KEY], p: Place, block: &[u8], out: &mut [u8]) -> Moved
+fn next_in_array(
+    key: &mut [u8; basics::MAX_KEY],
+    p: Place,
+    block: &[u8],
+    out: &mut [u8],
+) -> Result<Moved, Refusal>
     requires { length key.old ≡ max_key }
     ensures { Moves (next (view_in p key.old) block.now (length out.old)) p key.old out.old result key.new out.new }
 {
@@ -81,44 +81,53 @@ fn next_in_array(key: &mut [u8; basics::MAX_KEY], p: Place, block: &[u8], out: &
 }
 
 // The place that a step gives back: a refused one gives it as it came.
-fn place_after(moved: Moved, came: Place) -> Place
+fn place_after(moved: Result<Moved, Refusal>, came: Place) -> Place
     ensures { result ≡ place_after moved came }
 {
     match moved {
-        Moved::Found {
-            place,
-            region: _,
-            number: _,
-            row: _,
-        } => place,
-        Moved::Done(place) => place,
-        Moved::Refused(_) => came,
+        Ok(
+            Moved::Found {
+                place,
+                region: _,
+                number: _,
+                row: _,
+            },
+        ) => place,
+        Ok(Moved::Done(place)) => place,
+        Err(_) => came,
     }
 }
 
-fn answer_of(moved: Moved) -> NextAnswer
+fn answer_of(moved: Result<Moved, Refusal>) -> Result<Option<Found>, Refusal>
     ensures { result ≡ answer_of moved }
 {
     match moved {
-        Moved::Found {
-            place: _,
+        Ok(
+            Moved::Found {
+                place: _,
+                region,
+                number,
+                row,
+            },
+        ) => Ok(Some(Found {
             region,
             number,
             row,
-        } => NextAnswer::Found {
-            region,
-            number,
-            row,
-        },
-        Moved::Done(_) => NextAnswer::Done,
-        Moved::Refused(refusal) => NextAnswer::Refused(refusal),
+        })),
+        Ok(Moved::Done(_)) => Ok(None),
+        Err(refusal) => Err(refusal),
     }
 }
 
 // ---- a seek over them
 
 // Lends the array as the bytes that a seek works on.
-fn seek_in_array(key: &mut [u8; basics::MAX_KEY], p: Place, block: &[u8], target: &[u8]) -> Found
+fn seek_in_array(
+    key: &mut [u8; basics::MAX_KEY],
+    p: Place,
+    block: &[u8],
+    target: &[u8],
+) -> Result<FoundPlace, Refusal>
     requires { length key.old ≡ max_key }
     ensures { Finds (seek (says_order p.order) block.now target.now) p key.old result key.new }
 {
@@ -126,23 +135,23 @@ fn seek_in_array(key: &mut [u8; basics::MAX_KEY], p: Place, block: &[u8], target
 }
 
 // The place that a seek gives back: a refused one gives it as it came.
-fn place_sought(found: Found, came: Place) -> Place
-    ensures { result ≡ place_found found came }
+fn place_sought(found: Result<FoundPlace, Refusal>, stood: Place) -> Place
+    ensures { result ≡ place_found found stood }
 {
     match found {
-        Found::Landed { place, reads: _ } => place,
-        Found::Done { place, reads: _ } => place,
-        Found::Refused(_) => came,
+        Ok(FoundPlace::Landed { place, reads: _ }) => place,
+        Ok(FoundPlace::Done { place, reads: _ }) => place,
+        Err(_) => stood,
     }
 }
 
-fn answer_sought(found: Found) -> SeekAnswer
+fn answer_sought(found: Result<FoundPlace, Refusal>) -> Result<SeekAnswer, Refusal>
     ensures { result ≡ answer_found found }
 {
     match found {
-        Found::Landed { place: _, reads } => SeekAnswer::Landed(reads),
-        Found::Done { place: _, reads } => SeekAnswer::Done(reads),
-        Found::Refused(refusal) => SeekAnswer::Refused(refusal),
+        Ok(FoundPlace::Landed { place: _, reads }) => Ok(SeekAnswer::Landed(reads)),
+        Ok(FoundPlace::Done { place: _, reads }) => Ok(SeekAnswer::Done(reads)),
+        Err(refusal) => Err(refusal),
     }
 }
 
@@ -162,7 +171,7 @@ impl BlockIteratorV2 {
     }
 
     // Whether the cursor is known to have no row left: ascending by its position or its mark; descending by its mark alone.
-    pub fn is_empty(self, block: &[u8]) -> EmptyRead
+    pub fn is_empty(self, block: &[u8]) -> Result<bool, Refusal>
         ensures { TellsEmpty self block.now result }
     {
         place_v2::is_empty_place(self.place, block)
