@@ -1,12 +1,12 @@
 -- A plain row of the earlier format: a value with no times, that ends exactly where it must, inside the data. Most rows are; such a row is read by a few tests
 -- of numbers. What is not plain is not refused here: it is read as `RowRead` says.
-use Rattle.std.specs.Prelude.{ℕ, ◌+◌, ◌-◌, Bool, cond, not, ◌||◌, ltb, eqb, length, take, drop, get_or}
+use Rattle.std.specs.Prelude.{ℕ, ◌+◌, ◌-◌, Bool, cond, not, ◌||◌, ltb, eqb, length, take, drop, get_or, Option, Some, None}
 use Rattle.layout.specs.Bytes.{Bytes}
 use Rattle.layout.specs.Fixed.{unbig}
 use Rattle.layout.specs.Limits.{max_key, max_value}
 use Rattle.layout.specs.Row.{Absent}
 use Rattle.layout.specs.RowRead.{RowRead, holds}
-use Rattle.layout.specs.Plain.{Plain, plain_is, not_plain}
+use Rattle.layout.specs.Plain.{Plain, plain_is}
 
 -- the number that n bytes spell
 abbrev pub spelt : ℕ → Bytes → ℕ → ℕ
@@ -25,16 +25,16 @@ abbrev pub not_plain_held : Bytes → ℕ → ℕ → ℕ → Bool
 not_plain_held d at u v = ltb 0 (get_or d (plain_value at u - 5) 0) || ltb max_value v || not (eqb (spelt 4 d (plain_value at u - 4)) v)
 
 -- by the two lengths of the key, once they are known to stand inside
-abbrev pub plain_of : Bytes → ℕ → ℕ → ℕ → ℕ → ℕ → Plain
+abbrev pub plain_of : Bytes → ℕ → ℕ → ℕ → ℕ → ℕ → Option Plain
 plain_of d at end most s u =
-    cond (not_plain_by at end most s u) not_plain
-    (cond (not_plain_held d at u (end - plain_value at u)) not_plain
-    (plain_is end s u (end - plain_value at u)))
+    cond (not_plain_by at end most s u) None
+    (cond (not_plain_held d at u (end - plain_value at u)) None
+    (Some (plain_is end s u (end - plain_value at u))))
 
--- the row at `at`, that ends at `end` and may share `most` bytes
-unfoldable pub plain_at : Bytes → ℕ → ℕ → ℕ → Plain
+-- the row at `at`, that ends at `end` and may share `most` bytes, if it is plain
+unfoldable pub plain_at : Bytes → ℕ → ℕ → ℕ → Option Plain
 plain_at d at end most =
-    cond (ltb (length d) end || ltb end (at + 17)) not_plain
+    cond (ltb (length d) end || ltb end (at + 17)) None
     (plain_of d at end most (spelt 2 d at) (spelt 2 d (at + 2)))
 
 -- what is read of it, with this seq; and with its own

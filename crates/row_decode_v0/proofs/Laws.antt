@@ -1,7 +1,8 @@
 -- What the bytes of a read number spell; where a plain row stands the data has room, and the row that is made of its numbers, with the eight bytes of seq as they were read,
 -- is the one that the rules read.
 use Prim.Native.Nat.{ℕ, ◌+◌, ◌≤◌}
-use mathlib.Core.Path.{◌≡◌, ap, ◌∙◌}
+use Rattle.std.specs.Prelude.{Some}
+use mathlib.Core.Path.{◌≡◌, ap, sym, ◌∙◌}
 use mathlib.Core.List.{List}
 use native.Mathlib.Omega.{arith}
 use lib.ListN.{length}
@@ -21,9 +22,9 @@ bytes-spelt n d at e h = e.0 ∙ ap or_zero (fixed_at-is n d at h)
 
 -- ---- plain rows
 
-module _ (d : List ℕ) (at end most : ℕ) (p : Plain) (e : p ≡ plain_at d at end most) (z : p.next ≡ 0 → ⊥) where
+module _ (d : List ℕ) (at end most : ℕ) (p : Plain) (e : Some p ≡ plain_at d at end most) where
   tells : PlainTells d at end most p
-  tells = rw (← e) at (plain_at-tells d at end most (rw (← e) (omega arith)))
+  tells = plain_at-tells d at end most (sym e)
 
   pub plain-least : plain_value at p.unshared ≤ length d
   plain-least = omega (arith, tells.ends, tells.inside)

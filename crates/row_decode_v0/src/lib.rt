@@ -5,12 +5,11 @@
 
 ghost use Rattle.std.specs.Prelude.{◌≡◌, ◌≤◌, length};
 ghost use Rattle.layout.specs.Limits.{max_key};
-ghost use Rattle.layout.specs.Plain.{not_plain};
 ghost use Rattle.layout_v1.specs.RowRead.{head_at, body_at, held_at, row_at, row_is, read_row};
 ghost use Rattle.layout_v1.specs.Plain.{plain_at};
 ghost use Rattle.basics.specs.Says.{says_kind};
 ghost use Rattle.row_flags_decode.specs.Says.{times_from};
-ghost use Rattle.row_plain_v2.specs.Promise.{plain_from};
+ghost use Rattle.row_plain_v2.specs.Promise.{says_plain};
 ghost use Rattle.row_decode_v2.specs.Says.{row_from, says_row};
 ghost use Rattle.row_decode_v0.specs.Promise.{Decodes, DecodesAt, DecodesKey};
 ghost use Rattle.row_decode_v0.specs.Reading.{head_from, says_head, body_from, says_body, held_from, says_held_at, kept_at};
@@ -31,10 +30,9 @@ pub fn decode(s: &[u8], first_len: usize) -> Result<Row, Refusal>
 pub fn decode_at(s: &[u8], at: usize, end: usize, most: usize) -> Result<Row, Refusal>
     ensures { DecodesAt s.now at end most result }
 {
-    let plain = plain_at(s, at, end, most);
-    if plain.next == 0 {
+    let Some(plain) = plain_at(s, at, end, most) else {
         return decoded_at(s, at, end, most);
-    }
+    };
     let suffix_at = at + 4;
     let seq_at = suffix_at + plain.unshared;
     let value_at = at + 17 + plain.unshared;
@@ -73,26 +71,15 @@ pub fn decode_key_only(s: &[u8], at: usize, end: usize, most: usize) -> Result<K
     })
 }
 
-fn not_plain() -> PlainRow
-    ensures { plain_from result ≡ not_plain }
-{
-    PlainRow {
-        next: 0,
-        shared: 0,
-        unshared: 0,
-        value_len: 0,
-    }
-}
-
-// A value with no times, that ends at `end`: a few tests of numbers, and no answer that goes through memory. `next` is 0 where the row is not so.
-fn plain_at(s: &[u8], at: usize, end: usize, most: usize) -> PlainRow
-    ensures { plain_from result ≡ plain_at s.now at end most }
+// A value with no times, that ends at `end`: a few tests of numbers. None where the row is not so.
+fn plain_at(s: &[u8], at: usize, end: usize, most: usize) -> Option<PlainRow>
+    ensures { says_plain result ≡ plain_at s.now at end most }
 {
     if (end < 17) | (s.len() < end) {
-        return not_plain();
+        return None;
     }
     if end - 17 < at {
-        return not_plain();
+        return None;
     }
     let shared = buf::two(s, at);
     let unshared = buf::two(s, at + 2);
@@ -102,20 +89,20 @@ fn plain_at(s: &[u8], at: usize, end: usize, most: usize) -> PlainRow
         | (basics::MAX_KEY < shared + unshared)
         | (end < value_at)
     {
-        return not_plain();
+        return None;
     }
     let value_len = end - value_at;
     let flags = s[value_at - 5];
     let written = buf::four(s, value_at - 4);
     if (0 < flags) | (basics::MAX_VALUE < value_len) | (written != value_len) {
-        return not_plain();
+        return None;
     }
-    PlainRow {
+    Some(PlainRow {
         next: end,
         shared,
         unshared,
         value_len,
-    }
+    })
 }
 
 // The row of a block that is not plain: with every test, and its end last.

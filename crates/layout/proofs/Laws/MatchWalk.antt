@@ -9,7 +9,7 @@ use Rattle.layout.specs.Limits.{max_key}
 use Rattle.layout.specs.Res.{Res, ok, refuse}
 use Rattle.layout.specs.Key.{Key, below, common}
 use Rattle.layout.specs.RowRead.{RowRead, read_row, key_length, key_of}
-use Rattle.layout.specs.Plain.{RowSpan, span_of}
+use Rattle.layout.specs.Plain.{RowSpan, spans}
 use Rattle.layout.specs.Trailer.{Region, row_in}
 use Rattle.layout.specs.Seek.{last_at_or_below}
 use Rattle.layout.proofs.Laws.Res.{spend}
@@ -31,10 +31,10 @@ pub record SpanTells (d : List ℕ) (at end prev_len : ℕ) (p : RowSpan) : Type
   pub suffix : p.suffix_at + p.suffix_len ≤ length d
   pub few : p.shared + p.suffix_len ≤ max_key
 
-pub span-tells : (d : List ℕ) (at end prev_len : ℕ) (restart : Bool) (p : RowSpan) → p ≡ span_of (read_row d at end prev_len restart) → (p.next ≡ 0 → ⊥)
+pub span-tells : (d : List ℕ) (at end prev_len : ℕ) (restart : Bool) (p : RowSpan) → ok p ≡ spans (read_row d at end prev_len restart)
     → SpanTells d at end prev_len p
-span-tells d at end prev_len restart p e z =
-    span-row d at end prev_len restart p e z λ r q is.
+span-tells d at end prev_len restart p e =
+    span-row (read_row d at end prev_len restart) p e λ r q is.
     let w = read_row-ends d at end prev_len restart r q in
     rw (← is) (record { least = w.least; within = w.within; inside = w.inside; shares = row-shares d at end prev_len restart r w; suffix = w.suffix; few = w.fits })
 
@@ -108,9 +108,9 @@ module _ (d : List ℕ) (g : Region) (target : Key) (fuel : ℕ) where
             }
 
       -- by the row's span
-      pub down-more : (p : RowSpan) → p ≡ span_of (row_in d g at len) → (p.next ≡ 0 → ⊥) → {m' best' : ℕ} {above' : Bool}
+      pub down-more : (p : RowSpan) → ok p ≡ spans (row_in d g at len) → {m' best' : ℕ} {above' : Bool}
           → m' ≡ match_after target m p.shared (span_suffix d p) → above' ≡ above_after target m above p.shared (span_suffix d p) → best' ≡ cond above' best p.next
           → MatchingDown p.next m' (p.shared + p.suffix_len) best' above'
-      down-more p e z w a b =
-          span-row d at g.end len (eqb at g.start) p e z λ r q is.
+      down-more p e w a b =
+          span-row (row_in d g at len) p e λ r q is.
           rw (b, w, a, sym is) (falls-on r q)

@@ -1,5 +1,5 @@
 -- A plain row is read as the rules say; and each way through the test of one, as code meets it.
-use Rattle.std.specs.Prelude.{ℕ, suc, ◌+◌, ◌-◌, ◌<◌, ◌≤◌, ◌≡◌, refl, Bool, true, false, cond, ◌||◌, List, ltb, eqb, length, take, drop, get_or}
+use Rattle.std.specs.Prelude.{ℕ, suc, ◌+◌, ◌-◌, ◌<◌, ◌≤◌, ◌≡◌, refl, Bool, true, false, cond, ◌||◌, List, ltb, eqb, length, take, drop, get_or, Some, None}
 use Rattle.std.proofs.Common.{ap, sym, ◌∙◌, arith, drop-cons}
 use Rattle.std.proofs.Math.Logic.{⊎_elim}
 use borrow.Author.Tests.{lt-ltb, le-ltb, ltb-false, eqb-false}
@@ -8,10 +8,9 @@ use Rattle.layout.specs.Fixed.{unbig}
 use Rattle.layout.specs.Place.{num_at, varint_at, fixed_at}
 use Rattle.layout.specs.Row.{value, Absent}
 use Rattle.layout.specs.RowRead.{Lengths, lengths_is, lengths_at, may_share, head_at, flags_is, flags_at, holds, body_is, body_at, times_is, times_at, RowRead, read_row, read_key}
-use Rattle.layout.specs.Plain.{Plain, plain_is, not_plain, plain_end, not_plain_by, plain_of, plain_at, plain_read, RowSpan, span_is, span_of, not_plain_key, plain_key_at, plain_key_is}
+use Rattle.layout.specs.Plain.{Plain, plain_is, plain_end, not_plain_by, plain_of, plain_at, plain_read, RowSpan, span_is, span_of, spans, not_plain_key, plain_key_at, plain_key_is}
 use Rattle.layout.proofs.Laws.Varint.{read_varint-byte}
-use Rattle.layout.proofs.Laws.Res.{ltb-cases, clash}
-use Rattle.layout.proofs.Laws.Tells.{read_row-ends}
+use Rattle.layout.proofs.Laws.Res.{ltb-cases, clash, ok-inj, refuse-inj}
 use Rattle.layout.proofs.Laws.RowExits.{lengths-good, head-good, body-good, time-none, times-good, row-good, key-good}
 use Rattle.layout.specs.Laws.Plain.{PlainKeyTells, PlainTells}
 
@@ -35,19 +34,27 @@ pub flags_at-plain : flags_at 0 ≡ ok (flags_is value false false)
 unfolding flags_at
 flags_at-plain = refl
 
+-- ---- what is there, and what is not
+
+pub some-one : {A : Type 0} {a b : A} → Some a ≡ Some b → a ≡ b
+some-one e = cc
+
+pub none-apart : {A : Type 0} {a : A} → None ≡ Some a → ⊥
+none-apart e = let z : ◌≡◌ {A = ℕ} 0 1 = cc in omega arith
+
 -- ---- what a plain row is
 
 -- the tests passed, by the lengths
 pub plain_of-tells : (d : List ℕ) (at end most s u v : ℕ) → end ≤ length d → s ≡ get_or d at 0 → u ≡ get_or d (at + 1) 0 → v ≡ get_or d (at + 2) 0
-    → 0 < (plain_of d at end most s u v).next → PlainTells d at end most (plain_of d at end most s u v)
-plain_of-tells d at end most s u v i es eu ev = go (not_plain_by at end most s u v) (ltb 0 (get_or d (plain_end at u v - 1) 0)) refl refl
+    → {p : Plain} → plain_of d at end most s u v ≡ Some p → PlainTells d at end most p
+plain_of-tells d at end most s u v i es eu ev {p} = go (not_plain_by at end most s u v) (ltb 0 (get_or d (plain_end at u v - 1) 0)) refl refl
   where
-    go : (a b : Bool) → not_plain_by at end most s u v ≡ a → ltb 0 (get_or d (plain_end at u v - 1) 0) ≡ b → 0 < (cond a not_plain (cond b not_plain (plain_is (plain_end at u v) s u v))).next
-        → PlainTells d at end most (cond a not_plain (cond b not_plain (plain_is (plain_end at u v) s u v)))
-    go true b p q h = absurd (omega arith)
-    go false true p q h = absurd (omega arith)
-    go false false p q h =
-        let t₁ = or-false p in
+    go : (a b : Bool) → not_plain_by at end most s u v ≡ a → ltb 0 (get_or d (plain_end at u v - 1) 0) ≡ b → cond a None (cond b None (Some (plain_is (plain_end at u v) s u v))) ≡ Some p
+        → PlainTells d at end most p
+    go true b w q h = absurd (none-apart h)
+    go false true w q h = absurd (none-apart h)
+    go false false w q h =
+        let t₁ = or-false w in
         let t₂ = or-false t₁.0 in
         let t₃ = or-false t₂.0 in
         let t₄ = or-false t₃.0 in
@@ -59,16 +66,16 @@ plain_of-tells d at end most s u v i es eu ev = go (not_plain_by at end most s u
         let w₅ = ltb-false 127 u t₅.1 in
         let w₆ = ltb-false 127 s t₅.0 in
         let f = ltb-false 0 (get_or d (plain_end at u v - 1) 0) q in
-        record { inside = i; shared-is = es; unshared-is = eu; value_len-is = ev; shared-small = w₆; unshared-small = w₅; value_len-small = w₄; shares = w₃; some = omega arith; next-is = refl; within = w₁; flags-none = omega arith }
+        rw (← some-one h) record { inside = i; shared-is = es; unshared-is = eu; value_len-is = ev; shared-small = w₆; unshared-small = w₅; value_len-small = w₄; shares = w₃; some = omega arith; next-is = refl; within = w₁; flags-none = omega arith }
 
-pub plain_at-tells : (d : List ℕ) (at end most : ℕ) → 0 < (plain_at d at end most).next → PlainTells d at end most (plain_at d at end most)
+pub plain_at-tells : (d : List ℕ) (at end most : ℕ) {p : Plain} → plain_at d at end most ≡ Some p → PlainTells d at end most p
 unfolding plain_at
-plain_at-tells d at end most = go (ltb (length d) end || ltb end (at + 12)) refl
+plain_at-tells d at end most {p} = go (ltb (length d) end || ltb end (at + 12)) refl
   where
-    go : (a : Bool) → (ltb (length d) end || ltb end (at + 12)) ≡ a → 0 < (cond a not_plain (plain_of d at end most (get_or d at 0) (get_or d (at + 1) 0) (get_or d (at + 2) 0))).next
-        → PlainTells d at end most (cond a not_plain (plain_of d at end most (get_or d at 0) (get_or d (at + 1) 0) (get_or d (at + 2) 0)))
-    go true p h = absurd (omega arith)
-    go false p h = plain_of-tells d at end most _ _ _ (ltb-false (length d) end (or-false p).0) refl refl refl h
+    go : (a : Bool) → (ltb (length d) end || ltb end (at + 12)) ≡ a → cond a None (plain_of d at end most (get_or d at 0) (get_or d (at + 1) 0) (get_or d (at + 2) 0)) ≡ Some p
+        → PlainTells d at end most p
+    go true w h = absurd (none-apart h)
+    go false w h = plain_of-tells d at end most _ _ _ (ltb-false (length d) end (or-false w).0) refl refl refl h
 
 -- ---- it is read as the rules say
 
@@ -111,15 +118,15 @@ module _ (d : List ℕ) (at end prev_len : ℕ) (restart : Bool) (p : Plain) (t 
   plain-read = row-good d at end prev_len restart head body times t.within
 
 -- by the test alone
-pub plain-is : (d : List ℕ) (at end prev_len : ℕ) (restart : Bool) → 0 < (plain_at d at end (may_share restart prev_len)).next
-    → read_row d at end prev_len restart ≡ ok (plain_read d at (plain_at d at end (may_share restart prev_len)))
+pub plain-is : (d : List ℕ) (at end prev_len : ℕ) (restart : Bool) {p : Plain} → plain_at d at end (may_share restart prev_len) ≡ Some p
+    → read_row d at end prev_len restart ≡ ok (plain_read d at p)
 plain-is d at end prev_len restart h = sym (plain-read d at end prev_len restart _ (plain_at-tells d at end (may_share restart prev_len) h))
 
 -- ---- each way through the test, as code meets it; answer on the left
 
 module _ (d : List ℕ) (at end most : ℕ) where
   -- the region ends past the data, or before 12 bytes
-  pub plain-short : (ltb end 12 || ltb (length d) end) ≡ true → not_plain ≡ plain_at d at end most
+  pub plain-short : (ltb end 12 || ltb (length d) end) ≡ true → None ≡ plain_at d at end most
   unfolding plain_at
   plain-short e =
       ⊎_elim
@@ -135,7 +142,7 @@ module _ (d : List ℕ) (at end most : ℕ) where
     plain-enough = ltb-false end 12 (or-false {a = ltb end 12} {b = ltb (length d) end} e).0
 
     -- it starts too near to the end
-    pub plain_late : end - 12 < at → not_plain ≡ plain_at d at end most
+    pub plain_late : end - 12 < at → None ≡ plain_at d at end most
     unfolding plain_at
     plain_late h = let k = plain-enough in rw (le-ltb (length d) end plain-inside, lt-ltb end (at + 12) (omega arith))
 
@@ -152,7 +159,7 @@ module _ (d : List ℕ) (at end most : ℕ) where
         unfolding plain_at
         of = rw (le-ltb (length d) end plain-inside, le-ltb end (at + 12) room, es, eu, ev)
 
-        pub plain-odd : not_plain_by at end most s u v ≡ true → not_plain ≡ plain_at d at end most
+        pub plain-odd : not_plain_by at end most s u v ≡ true → None ≡ plain_at d at end most
         plain-odd q = rw q at of
 
         module _ (q : not_plain_by at end most s u v ≡ false) where
@@ -160,71 +167,58 @@ module _ (d : List ℕ) (at end most : ℕ) where
           pub plain-flags : plain_end at u v - 1 < length d
           plain-flags = let i = plain-inside in let w = ltb-false end (plain_end at u v) (or-false {a = ltb 127 s || ltb 127 u || ltb 127 v || ltb most s || eqb (s + u) 0} {b = ltb end (plain_end at u v)} q).1 in omega arith
 
-          pub plain_flagged : 0 < get_or d (plain_end at u v - 1) 0 → not_plain ≡ plain_at d at end most
+          pub plain_flagged : 0 < get_or d (plain_end at u v - 1) 0 → None ≡ plain_at d at end most
           plain_flagged f = rw (q, lt-ltb 0 (get_or d (plain_end at u v - 1) 0) f) at of
 
-          pub plain-good : get_or d (plain_end at u v - 1) 0 ≤ 0 → plain_is (plain_end at u v) s u v ≡ plain_at d at end most
+          pub plain-good : get_or d (plain_end at u v - 1) 0 ≤ 0 → Some (plain_is (plain_end at u v) s u v) ≡ plain_at d at end most
           plain-good f = rw (q, le-ltb 0 (get_or d (plain_end at u v - 1) 0) f) at of
 
 -- ---- a row's span
 
-module _ (d : List ℕ) (at end prev_len : ℕ) (restart : Bool) where
-  -- of a plain row
-  pub span-plain : {most : ℕ} (p : Plain) → most ≡ may_share restart prev_len → p ≡ plain_at d at end most → (p.next ≡ 0 → ⊥)
-      → span_is p.next p.shared (at + 3) p.unshared ≡ span_of (read_row d at end prev_len restart)
-  span-plain p m e h =
-      let e' : p ≡ plain_at d at end (may_share restart prev_len) = rw m at e in
-      let k : 0 < (plain_at d at end (may_share restart prev_len)).next = rw (← e') (omega arith) in
-      rw (plain-is d at end prev_len restart k, ← e')
+-- of a plain row
+pub span-plain : (d : List ℕ) (at end prev_len : ℕ) (restart : Bool) {most : ℕ} (p : Plain) → most ≡ may_share restart prev_len → Some p ≡ plain_at d at end most
+    → ok (span_is p.next p.shared (at + 3) p.unshared) ≡ spans (read_row d at end prev_len restart)
+span-plain d at end prev_len restart p m e = rw (plain-is d at end prev_len restart (sym (rw m at e)))
 
-  -- of a row that was read, or refused
-  pub span-read : {r : RowRead} → read_row d at end prev_len restart ≡ ok r → span_is r.next r.shared r.suffix_at r.suffix_len ≡ span_of (read_row d at end prev_len restart)
-  span-read e = rw e
+-- what one tells: the row that was read
+pub span-row : {A : Type 0} (x : Res RowRead) (s : RowSpan) → ok s ≡ spans x → ((r : RowRead) → x ≡ ok r → span_of r ≡ s → A) → A
+span-row (ok r) s e f = f r refl (sym (ok-inj e))
+span-row (refuse n) s e f = absurd (let z : ◌≡◌ {A = ℕ} 0 1 = cc in omega arith)
 
-  pub span-refused : {n : ℕ} → read_row d at end prev_len restart ≡ refuse n → span_is 0 0 0 0 ≡ span_of (read_row d at end prev_len restart)
-  span-refused e = rw e
-
-  -- what it tells: the row that was read
-  pub span-row : {A : Type 0} (s : RowSpan) → s ≡ span_of (read_row d at end prev_len restart) → (s.next ≡ 0 → ⊥)
-      → ((r : RowRead) → read_row d at end prev_len restart ≡ ok r → span_is r.next r.shared r.suffix_at r.suffix_len ≡ s → A) → A
-  span-row {A} s e h f = go (read_row d at end prev_len restart) refl e
-    where
-      go : (x : Res RowRead) → read_row d at end prev_len restart ≡ x → s ≡ span_of x → A
-      go (ok r) p q = f r p (sym q)
-      go (refuse n) p q = absurd (h (ap (λ (t : RowSpan). t.next) q))
-
-  pub span-no : (s : RowSpan) → s ≡ span_of (read_row d at end prev_len restart) → s.next ≡ 0 → (r : RowRead) → read_row d at end prev_len restart ≡ ok r → ⊥
-  span-no s e h r p =
-      let w = read_row-ends d at end prev_len restart r p in
-      let q : s.next ≡ r.next = ap (λ (t : RowSpan). t.next) (e ∙ ap span_of p) in
-      omega (arith, w.least)
+-- and what its refusal tells
+pub span-no : (x : Res RowRead) {n : ℕ} → refuse n ≡ spans x → x ≡ refuse n
+span-no (ok r) e = absurd (let z : ◌≡◌ {A = ℕ} 0 1 = cc in omega arith)
+span-no (refuse m) {n} e = ap refuse (refuse-inj (sym e))
 
 -- ---- the key of a restart, read alone
 
-pub plain_key_at-tells : (d : List ℕ) (at end : ℕ) → (plain_key_at d at end ≡ 0 → ⊥) → PlainKeyTells d at end (plain_key_at d at end)
+pub plain_key_at-tells : (d : List ℕ) (at end : ℕ) {n : ℕ} → plain_key_at d at end ≡ Some n → PlainKeyTells d at end n
 unfolding plain_key_at
-plain_key_at-tells d at end = go (ltb (length d) end || ltb end (at + 3)) (not_plain_key at end (get_or d at 0) (get_or d (at + 1) 0) (get_or d (at + 2) 0)) refl refl
+plain_key_at-tells d at end {n} = go (ltb (length d) end || ltb end (at + 3)) (not_plain_key at end (get_or d at 0) (get_or d (at + 1) 0) (get_or d (at + 2) 0)) refl refl
   where
     go : (a b : Bool) → (ltb (length d) end || ltb end (at + 3)) ≡ a → not_plain_key at end (get_or d at 0) (get_or d (at + 1) 0) (get_or d (at + 2) 0) ≡ b
-        → (cond a 0 (cond b 0 (get_or d (at + 1) 0)) ≡ 0 → ⊥) → PlainKeyTells d at end (cond a 0 (cond b 0 (get_or d (at + 1) 0)))
-    go true b p q h = absurd (h refl)
-    go false true p q h = absurd (h refl)
+        → cond a None (cond b None (Some (get_or d (at + 1) 0))) ≡ Some n → PlainKeyTells d at end n
+    go true b p q h = absurd (none-apart h)
+    go false true p q h = absurd (none-apart h)
     go false false p q h =
         let t₁ = or-false q in
         let t₂ = or-false t₁.0 in
         let t₃ = or-false t₂.0 in
+        let t₄ = or-false t₃.0 in
+        let w = eqb-false (get_or d (at + 1) 0) 0 t₄.1 in
         let t₀ = or-false {a = ltb (length d) end} {b = ltb end (at + 3)} p in
-        record {
+        rw (← some-one h) record {
           inside = ltb-false (length d) end t₀.0;
           starts = ltb-false end (at + 3) t₀.1;
-          none-shared = ltb-false 0 (get_or d at 0) t₃.0;
+          none-shared = ltb-false 0 (get_or d at 0) t₄.0;
           unshared-is = refl;
+          some = omega arith;
           small = ltb-false 127 (get_or d (at + 1) 0) t₃.1;
           value_len-small = ltb-false 127 (get_or d (at + 2) 0) t₂.1;
           within = ltb-false end (at + 3 + get_or d (at + 1) 0) t₁.1;
         }
 
-module _ (d : List ℕ) (at end prev_len n : ℕ) (some : n ≡ 0 → ⊥) (t : PlainKeyTells d at end n) where
+module _ (d : List ℕ) (at end prev_len n : ℕ) (t : PlainKeyTells d at end n) where
   abbrev lk : Lengths
   lk = lengths_is 0 n (get_or d (at + 2) 0) (at + 3)
 
@@ -241,15 +235,14 @@ module _ (d : List ℕ) (at end prev_len n : ℕ) (some : n ≡ 0 → ⊥) (t : 
       let s = t.small in
       let w = t.within in
       let i = t.inside in
-      key-good d at end prev_len true (sym (head-good d at prev_len true key-lengths (omega arith) (λ z. absurd (some (omega arith))) (omega arith))) (omega arith) (omega arith)
+      key-good d at end prev_len true (sym (head-good d at prev_len true key-lengths (omega arith) (λ z. absurd (omega (arith, t.some))) (omega arith))) (omega arith) (omega arith)
 
-pub plain-key-is : (d : List ℕ) (at end prev_len : ℕ) {n : ℕ} → n ≡ plain_key_at d at end → (n ≡ 0 → ⊥) → read_key d at end prev_len true ≡ ok (plain_key_is at n)
-plain-key-is d at end prev_len {n} e z =
-    sym (plain-key-read d at end prev_len n z (rw e (plain_key_at-tells d at end (λ q. z (e ∙ q)))))
+pub plain-key-is : (d : List ℕ) (at end prev_len : ℕ) {n : ℕ} → Some n ≡ plain_key_at d at end → read_key d at end prev_len true ≡ ok (plain_key_is at n)
+plain-key-is d at end prev_len e = sym (plain-key-read d at end prev_len _ (plain_key_at-tells d at end (sym e)))
 
 -- each way through the test, as code meets it
 module _ (d : List ℕ) (at end : ℕ) where
-  pub key-short : (ltb end 3 || ltb (length d) end) ≡ true → 0 ≡ plain_key_at d at end
+  pub key-short : (ltb end 3 || ltb (length d) end) ≡ true → None ≡ plain_key_at d at end
   unfolding plain_key_at
   key-short e =
       ⊎_elim
@@ -264,7 +257,7 @@ module _ (d : List ℕ) (at end : ℕ) where
     key-inside : end ≤ length d
     key-inside = ltb-false (length d) end (or-false {a = ltb end 3} {b = ltb (length d) end} e).1
 
-    pub key_late : end - 3 < at → 0 ≡ plain_key_at d at end
+    pub key_late : end - 3 < at → None ≡ plain_key_at d at end
     unfolding plain_key_at
     key_late h = let k = key-enough in rw (le-ltb (length d) end key-inside, lt-ltb end (at + 3) (omega arith))
 
@@ -273,12 +266,12 @@ module _ (d : List ℕ) (at end : ℕ) where
       key-starts = let k = key-enough in let i = key-inside in omega arith
 
       module _ (s u v : ℕ) (es : s ≡ get_or d at 0) (eu : u ≡ get_or d (at + 1) 0) (ev : v ≡ get_or d (at + 2) 0) where
-        key_of : cond (not_plain_key at end s u v) 0 u ≡ plain_key_at d at end
+        key_of : cond (not_plain_key at end s u v) None (Some u) ≡ plain_key_at d at end
         unfolding plain_key_at
         key_of = let k = key-enough in rw (le-ltb (length d) end key-inside, le-ltb end (at + 3) (omega arith), es, eu, ev)
 
-        pub key-odd : not_plain_key at end s u v ≡ true → 0 ≡ plain_key_at d at end
+        pub key-odd : not_plain_key at end s u v ≡ true → None ≡ plain_key_at d at end
         key-odd q = rw q at key_of
 
-        pub key-plain : not_plain_key at end s u v ≡ false → u ≡ plain_key_at d at end
+        pub key-plain : not_plain_key at end s u v ≡ false → Some u ≡ plain_key_at d at end
         key-plain q = rw q at key_of

@@ -32,6 +32,9 @@ bind_ok (refuse n) f b e = absurd (let z : ◌≡◌ {A = ℕ} 0 1 = cc in omega
 pub ok-inj : {A : Type 0} {a b : A} → ok a ≡ ok b → a ≡ b
 ok-inj e = cc
 
+pub refuse-inj : {A : Type 0} {m n : ℕ} → ◌≡◌ {A = Res A} (refuse m) (refuse n) → m ≡ n
+refuse-inj e = cc
+
 pub guard_ok : {A : Type 0} (t : Bool) (n : ℕ) (k : Res A) (a : A) → guard t n k ≡ ok a → (t ≡ false) × (k ≡ ok a)
 guard_ok true n k a e = absurd (let z : ◌≡◌ {A = ℕ} 0 1 = cc in omega arith)
 guard_ok false n k a e = (refl, e)

@@ -1,5 +1,5 @@
 -- A plain row is read as the rules say; and each way through the test of one, as code meets it.
-use Rattle.std.specs.Prelude.{ℕ, ◌+◌, ◌-◌, ◌<◌, ◌≤◌, ◌≡◌, refl, Bool, true, false, cond, not, ◌||◌, List, ltb, eqb, length, get_or}
+use Rattle.std.specs.Prelude.{ℕ, ◌+◌, ◌-◌, ◌<◌, ◌≤◌, ◌≡◌, refl, Bool, true, false, cond, not, ◌||◌, List, ltb, eqb, length, get_or, Option, Some, None}
 use Rattle.std.proofs.Common.{ap, sym, ◌∙◌, arith}
 use Rattle.std.proofs.Math.Logic.{⊎_elim}
 use borrow.Author.Tests.{lt-ltb, le-ltb, ltb-false, eqb-true, eqb-false, not-false}
@@ -8,9 +8,9 @@ use Rattle.layout.specs.Limits.{max_key, max_value}
 use Rattle.layout.specs.Place.{num_at, fixed_at}
 use Rattle.layout.specs.Row.{value, Absent}
 use Rattle.layout.specs.RowRead.{flags_is, flags_at, holds, Times, times_is, times_at}
-use Rattle.layout.specs.Plain.{Plain, plain_is, not_plain}
+use Rattle.layout.specs.Plain.{Plain, plain_is}
 use Rattle.layout.proofs.Laws.Res.{ltb-cases, clash}
-use Rattle.layout.proofs.Laws.Plain.{or-false, fixed_at-is, flags_at-plain}
+use Rattle.layout.proofs.Laws.Plain.{or-false, some-one, none-apart, fixed_at-is, flags_at-plain}
 use Rattle.layout.proofs.Laws.RowExits.{time-none, times-good}
 use Rattle.layout_v1.specs.RowRead.{Head, head_is, head_at, Body, body_is, body_at, span_is, HeldAt, held_is, held_at, read_row}
 use Rattle.layout_v1.specs.Plain.{spelt, plain_value, not_plain_by, not_plain_held, plain_of, plain_at, plain_read}
@@ -32,17 +32,17 @@ pub record PlainTells (d : List ℕ) (at end most : ℕ) (p : Plain) : Type 0 wh
   pub value_len-is : spelt 4 d (plain_value at p.unshared - 4) ≡ p.value_len
 
 -- the tests passed, by the lengths
-plain_of-tells : (d : List ℕ) (at end most s u : ℕ) → end ≤ length d → s ≡ spelt 2 d at → u ≡ spelt 2 d (at + 2) → 0 < (plain_of d at end most s u).next
-    → PlainTells d at end most (plain_of d at end most s u)
-plain_of-tells d at end most s u i es eu = go (not_plain_by at end most s u) (not_plain_held d at u (end - plain_value at u)) refl refl
+plain_of-tells : (d : List ℕ) (at end most s u : ℕ) → end ≤ length d → s ≡ spelt 2 d at → u ≡ spelt 2 d (at + 2) → {p : Plain} → plain_of d at end most s u ≡ Some p
+    → PlainTells d at end most p
+plain_of-tells d at end most s u i es eu {p} = go (not_plain_by at end most s u) (not_plain_held d at u (end - plain_value at u)) refl refl
   where
     go : (a b : Bool) → not_plain_by at end most s u ≡ a → not_plain_held d at u (end - plain_value at u) ≡ b
-        → 0 < (cond a not_plain (cond b not_plain (plain_is end s u (end - plain_value at u)))).next
-        → PlainTells d at end most (cond a not_plain (cond b not_plain (plain_is end s u (end - plain_value at u))))
-    go true b p q h = absurd (omega arith)
-    go false true p q h = absurd (omega arith)
-    go false false p q h =
-        let t₁ = or-false {a = ltb most s || eqb (s + u) 0 || ltb max_key (s + u)} {b = ltb end (plain_value at u)} p in
+        → cond a None (cond b None (Some (plain_is end s u (end - plain_value at u)))) ≡ Some p
+        → PlainTells d at end most p
+    go true b w q h = absurd (none-apart h)
+    go false true w q h = absurd (none-apart h)
+    go false false w q h =
+        let t₁ = or-false {a = ltb most s || eqb (s + u) 0 || ltb max_key (s + u)} {b = ltb end (plain_value at u)} w in
         let t₂ = or-false {a = ltb most s || eqb (s + u) 0} {b = ltb max_key (s + u)} t₁.0 in
         let t₃ = or-false {a = ltb most s} {b = eqb (s + u) 0} t₂.0 in
         let v₁ = or-false {a = ltb 0 (get_or d (plain_value at u - 5) 0) || ltb max_value (end - plain_value at u)} {b = not (eqb (spelt 4 d (plain_value at u - 4)) (end - plain_value at u))} q in
@@ -50,7 +50,7 @@ plain_of-tells d at end most s u i es eu = go (not_plain_by at end most s u) (no
         let room = ltb-false end (plain_value at u) t₁.1 in
         let some = eqb-false (s + u) 0 t₃.1 in
         let flags = ltb-false 0 (get_or d (plain_value at u - 5) 0) v₂.0 in
-        record {
+        rw (← some-one h) record {
           inside = i;
           shared-is = es;
           unshared-is = eu;
@@ -64,14 +64,14 @@ plain_of-tells d at end most s u i es eu = go (not_plain_by at end most s u) (no
           value_len-is = eqb-true (spelt 4 d (plain_value at u - 4)) (end - plain_value at u) (not-false (eqb (spelt 4 d (plain_value at u - 4)) (end - plain_value at u)) v₁.1);
         }
 
-pub plain_at-tells : (d : List ℕ) (at end most : ℕ) → 0 < (plain_at d at end most).next → PlainTells d at end most (plain_at d at end most)
+pub plain_at-tells : (d : List ℕ) (at end most : ℕ) {p : Plain} → plain_at d at end most ≡ Some p → PlainTells d at end most p
 unfolding plain_at
-plain_at-tells d at end most = go (ltb (length d) end || ltb end (at + 17)) refl
+plain_at-tells d at end most {p} = go (ltb (length d) end || ltb end (at + 17)) refl
   where
-    go : (a : Bool) → (ltb (length d) end || ltb end (at + 17)) ≡ a → 0 < (cond a not_plain (plain_of d at end most (spelt 2 d at) (spelt 2 d (at + 2)))).next
-        → PlainTells d at end most (cond a not_plain (plain_of d at end most (spelt 2 d at) (spelt 2 d (at + 2))))
-    go true p h = absurd (omega arith)
-    go false p h = plain_of-tells d at end most _ _ (ltb-false (length d) end (or-false {a = ltb (length d) end} {b = ltb end (at + 17)} p).0) refl refl h
+    go : (a : Bool) → (ltb (length d) end || ltb end (at + 17)) ≡ a → cond a None (plain_of d at end most (spelt 2 d at) (spelt 2 d (at + 2))) ≡ Some p
+        → PlainTells d at end most p
+    go true w h = absurd (none-apart h)
+    go false w h = plain_of-tells d at end most _ _ (ltb-false (length d) end (or-false {a = ltb (length d) end} {b = ltb end (at + 17)} w).0) refl refl h
 
 -- ---- it is read as the rules say
 
@@ -137,14 +137,14 @@ module _ (d : List ℕ) (at end most : ℕ) (p : Plain) (t : PlainTells d at end
       ∙ read-good d at end most (sym (row-good d at most head body times held)) t.ends
 
 -- by the test alone
-pub plain-is : (d : List ℕ) (at end most : ℕ) → 0 < (plain_at d at end most).next → read_row d at end most ≡ ok (plain_read d at (plain_at d at end most))
+pub plain-is : (d : List ℕ) (at end most : ℕ) {p : Plain} → plain_at d at end most ≡ Some p → read_row d at end most ≡ ok (plain_read d at p)
 plain-is d at end most h = sym (plain-read d at end most _ (plain_at-tells d at end most h))
 
 -- ---- each way through the test, as code meets it; answer on the left
 
 module _ (d : List ℕ) (at end most : ℕ) where
   -- it ends past the data, or before 17 bytes
-  pub plain-short : (ltb end 17 || ltb (length d) end) ≡ true → not_plain ≡ plain_at d at end most
+  pub plain-short : (ltb end 17 || ltb (length d) end) ≡ true → None ≡ plain_at d at end most
   unfolding plain_at
   plain-short e =
       ⊎_elim
@@ -160,7 +160,7 @@ module _ (d : List ℕ) (at end most : ℕ) where
     plain-enough = ltb-false end 17 (or-false {a = ltb end 17} {b = ltb (length d) end} e).0
 
     -- it starts too near to the end
-    pub plain_late : end - 17 < at → not_plain ≡ plain_at d at end most
+    pub plain_late : end - 17 < at → None ≡ plain_at d at end most
     unfolding plain_at
     plain_late h = let k = plain-enough in rw (le-ltb (length d) end plain-inside, lt-ltb end (at + 17) (omega arith))
 
@@ -177,7 +177,7 @@ module _ (d : List ℕ) (at end most : ℕ) where
         unfolding plain_at
         of = rw (le-ltb (length d) end plain-inside, le-ltb end (at + 17) room, es, eu)
 
-        pub plain-odd : not_plain_by at end most s u ≡ true → not_plain ≡ plain_at d at end most
+        pub plain-odd : not_plain_by at end most s u ≡ true → None ≡ plain_at d at end most
         plain-odd q = rw q at of
 
         module _ (q : not_plain_by at end most s u ≡ false) where
@@ -193,8 +193,8 @@ module _ (d : List ℕ) (at end most : ℕ) where
             same : held_odd ≡ not_plain_held d at u (end - plain_value at u)
             same = rw ew
 
-            pub plain_flagged : held_odd ≡ true → not_plain ≡ plain_at d at end most
+            pub plain_flagged : held_odd ≡ true → None ≡ plain_at d at end most
             plain_flagged f = rw (q, sym same ∙ f) at of
 
-            pub plain-good : held_odd ≡ false → plain_is end s u (end - plain_value at u) ≡ plain_at d at end most
+            pub plain-good : held_odd ≡ false → Some (plain_is end s u (end - plain_value at u)) ≡ plain_at d at end most
             plain-good f = rw (q, sym same ∙ f) at of

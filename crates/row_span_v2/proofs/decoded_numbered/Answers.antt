@@ -1,14 +1,16 @@
--- `decoded_numbered` keeps its promise: the numbers of the row that was decoded, and all 0 where it was refused.
--- What `decoded_in` promised of its answer's case is the read that they are taken of.
-use mathlib.Core.Path.{sym, ap}
-use Rattle.layout.proofs.Laws.Plain.{span-read, span-refused}
-use Rattle.basics.specs.Answers.{yes}
-use Rattle.row_decode_v2.specs.Says.{says_row}
-use Rattle.row_span_v2.specs.Promise.{seq_of}
+-- `decoded_numbered` keeps its promise: the numbers of the row that was decoded, or its refusal, handed on.
+use Rattle.std.proofs.Common.{ap}
+use Rattle.layout.specs.Res.{Res, ok, bind}
+use Rattle.layout.specs.RowRead.{RowRead}
+use Rattle.basics.specs.Answers.{handed-on}
+use Rattle.row_span_v2.specs.Promise.{Numbered, numbered_of, numbered_from}
 use Rattle.row_span_v2.proofs.decoded_numbered.Goals as goal
 
-pub returns-in_default : goal.returns-in_default
-returns-in_default c = let e = yes says_row c.decoded_in.ensures c.in_default.is in (span-refused _ _ _ _ _ e, sym (ap seq_of e))
+abbrev numbers : Res RowRead → Res Numbered
+numbers x = bind x λ r. ok (numbered_of r)
+
+pub returns-in_err-row : goal.returns-in_err-row
+returns-in_err-row c = handed-on numbered_from _ _ c.from_residual.ensures.1 (ap numbers c.in_err-row.ensures)
 
 pub returns : goal.returns
-returns c = let e = yes says_row c.decoded_in.ensures c.in-Ok.is in (span-read _ _ _ _ _ e, sym (ap seq_of e))
+returns c = ap numbers c.in_ok-row.ensures

@@ -1,12 +1,12 @@
--- `decoded_span` keeps its promise: the four numbers of the row that was decoded, and all 0 where it was refused.
--- What `decoded_in` promised of its answer's case is the read that the span is taken of.
-use Rattle.layout.proofs.Laws.Plain.{span-read, span-refused}
-use Rattle.basics.specs.Answers.{yes}
-use Rattle.row_decode_v2.specs.Says.{says_row}
+-- `decoded_span` keeps its promise: the four numbers of the row that was decoded, or its refusal, handed on.
+use Rattle.std.proofs.Common.{ap}
+use Rattle.layout.specs.Plain.{spans}
+use Rattle.basics.specs.Answers.{handed-on}
+use Rattle.row_span_v2.specs.Promise.{span_from}
 use Rattle.row_span_v2.proofs.decoded_span.Goals as goal
 
-pub returns-in_default : goal.returns-in_default
-returns-in_default c = span-refused _ _ _ _ _ (yes says_row c.decoded_in.ensures c.in_default.is)
+pub returns-in_err-row : goal.returns-in_err-row
+returns-in_err-row c = handed-on span_from _ _ c.from_residual.ensures.1 (ap spans c.in_err-row.ensures)
 
 pub returns : goal.returns
-returns c = span-read _ _ _ _ _ (yes says_row c.decoded_in.ensures c.in-Ok.is)
+returns c = ap spans c.in_ok-row.ensures

@@ -1,13 +1,19 @@
 -- `span_in` keeps its promise: a plain row is the row that the rules read, so its numbers are the span's; any other is decoded.
 -- A plain row stands inside the data, so the place of its suffix does not wrap.
-use native.Mathlib.Omega.{arith}
+use Rattle.std.specs.Prelude.{Some, ◌≡◌}
+use Rattle.std.proofs.Common.{arith, sym, ap, ◌∙◌}
+use Rattle.layout.specs.Plain.{plain_at}
 use Rattle.layout.proofs.Laws.Plain.{span-plain}
-use Rattle.row_plain_v2.specs.Promise.{plain_from}
+use Rattle.row_plain_v2.specs.Promise.{plain_from, says_plain}
 use Rattle.row_span_v2.proofs.Laws.{plain-room}
+use Rattle.row_span_v2.proofs.span_in.Goals.{In-Some}
 use Rattle.row_span_v2.proofs.span_in.Goals as goal
 
+told : (k : In-Some) → let a = k.args in Some (plain_from k.in-Some.plain) ≡ plain_at a.s.now a.at a.end k.may_share-most.result
+told k = sym (ap says_plain k.in-Some.is) ∙ k.plain_at.ensures
+
 pub overflow_add-result : goal.overflow_add-result
-overflow_add-result c = let a = c.args in omega (arith, plain-room a.s.now a.at a.end _ (plain_from c.plain_at-plain.result) c.plain_at-plain.ensures c.if-plain-eq0.false)
+overflow_add-result c = let a = c.args in omega (arith, plain-room a.s.now a.at a.end _ _ (told (goal.at.overflow_add-result c).In-Some))
 
 pub returns : goal.returns
-returns c = span-plain _ _ _ _ _ (plain_from c.plain_at-plain.result) c.may_share.ensures c.plain_at-plain.ensures c.if-plain-eq0.false
+returns c = span-plain _ _ _ _ _ _ c.may_share-most.ensures (told (goal.at.returns c).In-Some)
