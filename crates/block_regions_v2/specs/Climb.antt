@@ -7,7 +7,7 @@ use Rattle.std.proofs.Common.{ap, sym, ◌∙◌, ⊎_elim, arith, get_or-take, 
 use Rattle.layout.specs.Res.{Res, ok, refuse}
 use Rattle.layout.specs.Key.{Key, below, common}
 use Rattle.layout.specs.RowRead.{RowRead, key_length, key_of}
-use Rattle.layout.specs.Plain.{RowSpan, span_of}
+use Rattle.layout.specs.Plain.{RowSpan, spans}
 use Rattle.layout.specs.Trailer.{Region, row_in}
 use Rattle.layout.specs.Seek.{Stop, stop_is, walk_region}
 use Rattle.layout.proofs.Laws.Res.{spend, ltb-cases, ok-inj}
@@ -141,18 +141,18 @@ module _ (d : List ℕ) (g : Region) (target : Key) (fuel : ℕ) where
             }
 
       -- by the row's span, and what its suffix told where it stands in the data
-      module _ (p : RowSpan) (e : p ≡ span_of (row_in d g at len)) (z : p.next ≡ 0 → ⊥) where
+      module _ (p : RowSpan) (e : ok p ≡ spans (row_in d g at len)) where
         pub climbing_stop : {b : Bool} → b ≡ below_after target m p.shared (part_of d p) → not b ≡ true → ok (stop_is at s.before) ≡ whole
         climbing_stop {b} w n =
             let k : below_after target m p.shared (span_suffix d p) ≡ false = sym (rw (part-suffix d p) at w) ∙ was-not b n in
-            span-row d at g.end len (eqb at g.start) p e z λ r q is. stops r q (rw (sym is) at k)
+            span-row (row_in d g at len) p e λ r q is. stops r q (rw (sym is) at k)
 
         pub climbing_more : {b : Bool} {m' from' len' : ℕ} → b ≡ below_after target m p.shared (part_of d p) → not b ≡ false → m' ≡ match_after target m p.shared (part_of d p)
             → from' ≡ cond (ltb m p.shared) from at → len' ≡ cond (ltb m p.shared) from-len len → Climbing p.next m' (p.shared + p.suffix_len) from' len'
         climbing_more {b} w n o f l =
             let k : below_after target m p.shared (span_suffix d p) ≡ true = sym (rw (part-suffix d p) at w) ∙ was b n in
             let o' = rw (part-suffix d p) at o in
-            span-row d at g.end len (eqb at g.start) p e z λ r q is.
+            span-row (row_in d g at len) p e λ r q is.
             rw (f, l, o', sym is) (goes_on_lem r q (rw (sym is) at k))
 
 -- ---- what is put together from there on: of the key before that row, the target has what the row shares

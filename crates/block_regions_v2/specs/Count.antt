@@ -3,7 +3,7 @@ use Rattle.std.specs.Prelude.{ℕ, ◌+◌, ◌≡◌, List, eqb}
 use Rattle.std.proofs.Common.{ap, sym, ◌∙◌}
 use Rattle.layout.specs.Res.{ok}
 use Rattle.layout.specs.RowRead.{RowRead, key_length}
-use Rattle.layout.specs.Plain.{RowSpan, span_of}
+use Rattle.layout.specs.Plain.{RowSpan, spans}
 use Rattle.layout.specs.Trailer.{Region, row_in}
 use Rattle.layout.specs.Number.{ended_by}
 use Rattle.layout.specs.Laws.Number.{Counting}
@@ -15,6 +15,6 @@ module _ (d : List ℕ) (g : Region) (at len n : ℕ) (c : Counting d g at len n
   pub counting-ended : (r : RowRead) → row_in d g at len ≡ ok r → {stop : ℕ} → r.next ≡ stop → ended_by d g stop ≡ n + 1
   counting-ended r e is = ap (ended_by d g) (sym is) ∙ counting-here d g r.next (key_length r) (n + 1) (counting-on d g at len n c r e)
 
-  module _ (p : RowSpan) (e : p ≡ span_of (row_in d g at len)) (z : p.next ≡ 0 → ⊥) where
+  module _ (p : RowSpan) (e : ok p ≡ spans (row_in d g at len)) where
     pub counting-span : Counting d g p.next (p.shared + p.suffix_len) (n + 1)
-    counting-span = span-row d at g.end len (eqb at g.start) p e z λ r q is. rw (sym is) (counting-on d g at len n c r q)
+    counting-span = span-row (row_in d g at len) p e λ r q is. rw (sym is) (counting-on d g at len n c r q)

@@ -15,7 +15,7 @@ use Rattle.layout.specs.Res.{Res, ok, refuse, bind, guard}
 use Rattle.layout.specs.Limits.{max_key}
 use Rattle.layout.specs.Key.{Key, below}
 use Rattle.layout.specs.Place.{splice}
-use Rattle.layout.specs.Plain.{RowSpan, span_of}
+use Rattle.layout.specs.Plain.{spans}
 use Rattle.layout.specs.RowRead.{RowRead, key_length, key_of}
 use Rattle.layout.specs.Trailer.{Trailer, trailer_of, data_of, Region, region_of, row_in}
 use Rattle.layout.specs.Number.{ended_by, number_at}
@@ -37,16 +37,15 @@ use Rattle.basics.specs.declared.Refusal.{Refusal}
 use Rattle.basics.specs.declared.Refusal.TheVariants.{BadState, KeyBufferTooShort}
 use Rattle.row_decode_v2.specs.Says.{row_from}
 use Rattle.row_decode_v2.specs.declared.Row.{Row}
-use Rattle.row_span_v2.specs.Promise.{refused_with, RefusesIn}
 use Rattle.trailer.specs.Says.{region_from}
 use Rattle.trailer.specs.declared.Region.{Region as RegionC}
 use Rattle.block_regions_v2.specs.declared.Ended.{Ended}
 use Rattle.block_regions_v2.specs.declared.Halted.{Halted}
 use Rattle.block_regions_v2.specs.declared.Stop.{Stop as StopC}
 use Rattle.block_regions_v2.specs.declared.Reached.{Reached}
-use Rattle.block_regions_v2.specs.Climb.{Climbing, climbing_no, was, was-not}
+use Rattle.block_regions_v2.specs.Climb.{Climbing, climbing_no}
 use Rattle.block_regions_v2.specs.Known.{part_length, known-parts}
-use Rattle.block_regions_v2.specs.Parts.{halted_is, Halts, Stands, Reaches, reaching_refused, reaching_straddles, reaching_found, reaching_long, reaching_shares}
+use Rattle.block_regions_v2.specs.Parts.{halted_is, HaltsAt, Halts, Stands, Reaches, reaching_refused, reaching_straddles, reaching_found, reaching_long, reaching_shares}
 use Rattle.block_regions_v2.specs.Count.{counting-ended}
 use Rattle.block_regions_v2.specs.Promise.{Gives, EndsAt, WalksInto}
 use Rattle.block_regions_v2.specs.Regions.{Counted, counted, row_numbered, halt_numbered, ending_at, out_after, given, walk_to, held, walk_into, key_left}
@@ -137,12 +136,11 @@ module _ (d : List ℕ) (g : Region) (target : Key) where
 -- ---- what the walk met
 
 module _ (d : List ℕ) (g : Region) (target : Key) (at m len from from-len n : ℕ) (s : Climbing d g target (length d) at m len from from-len) (c : Counting d g at len n) where
-  pub halts_no : at < g.end → (p : RowSpan) → p ≡ span_of (row_in d g at len) → p.next ≡ 0 → {h : Halted} → h ≡ halted_is at len n from from-len false → Halts d g target h
-  halts_no u p e z is =
-      rw is (record { match = m; climbs = s; counts = c; stopped = λ q. absurd (clash q refl); refused = λ _. (u, span-no d at g.end len (eqb at g.start) p e z) })
+  pub halts_no : at < g.end → (r : Refusal) → refuse (number r) ≡ spans (row_in d g at len) → Halts d g target (Err r)
+  halts_no u r e = climbing_no d g target (length d) at m len from from-len s u (span-no (row_in d g at len) e)
 
-  pub halts_there : ok (stop_is at s.before) ≡ walk_region (length d) d g target g.start [] → {h : Halted} → h ≡ halted_is at len n from from-len true → Halts d g target h
-  halts_there e is = rw is (record { match = m; climbs = s; counts = c; stopped = λ _. e; refused = λ q. absurd (clash refl q) })
+  pub halts_there : ok (stop_is at s.before) ≡ walk_region (length d) d g target g.start [] → {h : Halted} → h ≡ halted_is at len n from from-len → Halts d g target (Ok h)
+  halts_there e is = rw is (record { match = m; climbs = s; counts = c; stopped = e })
 
 -- ---- the promise of a walk
 
@@ -184,22 +182,13 @@ module _ (d : List ℕ) (g : RegionC) (target key : List ℕ) where
             bytes = rw (said, inner, fits, inner, is) (ap (λ (i : ℕ). before ++ drop i key) from);
           }
 
-  module _ (inside : g.end ≤ length d) (h : Halted) (w : Halts d (region_from g) target h) where
-    pub into-no : not h.good ≡ true → {x : Refusal} → RefusesIn d h.at g.start g.end h.len x
-        → WalksInto d g target key (Err x) key
-    into-no bad {x} f = go (row_in d (region_from g) h.at h.len) refl
-      where
-        go : (y : Res RowRead) → row_in d (region_from g) h.at h.len ≡ y → WalksInto d g target key (Err x) key
-        go (ok r) q = absurd ((w.refused (was-not h.good bad)).1 r q)
-        go (refuse n) q =
-            into-not
-            (ap refuse (f ∙ ap refused_with q)
-            ∙ climbing_no d (region_from g) target (length d) h.at w.match h.len h.from h.from_len w.climbs (w.refused (was-not h.good bad)).0 q
-            ∙ walk-there d (region_from g) target inside)
+  module _ (inside : g.end ≤ length d) where
+    pub into-no : {x : Refusal} → Halts d (region_from g) target (Err x) → WalksInto d g target key (Err x) key
+    into-no w = into-not (w ∙ walk-there d (region_from g) target inside)
 
-    module _ (good : not h.good ≡ false) where
+    module _ (h : Halted) (w : HaltsAt d (region_from g) target h) where
       said : walk_to d (region_from g) target ≡ ok (stop_is h.at w.climbs.before)
-      said = sym (w.stopped (was h.good good) ∙ walk-there d (region_from g) target inside)
+      said = sym (w.stopped ∙ walk-there d (region_from g) target inside)
 
       ended_is : ended_by d (region_from g) h.at ≡ h.number
       ended_is = counting-here d (region_from g) h.at h.len h.number w.counts

@@ -1,16 +1,19 @@
 -- What the private functions answer.
-use Rattle.std.specs.Prelude.{ℕ, suc, ◌+◌, ◌<◌, ◌≤◌, ◌≡◌, refl, Bool, true, false, eqb, length}
+use Rattle.std.specs.Prelude.{ℕ, suc, ◌+◌, ◌<◌, ◌≤◌, ◌≡◌, refl, Bool, true, false, eqb, length, Result, Ok, Err}
 use Rattle.std.proofs.Common.{ap, sym, ◌∙◌, arith}
 use mathlib.Core.List.{List, [], ◌∷◌, ◌++◌}
 use borrow.Author.Tests.{lt-ltb, le-ltb}
 use Rattle.layout.specs.Res.{Res, ok, refuse}
 use Rattle.layout.specs.Key.{Key}
 use Rattle.layout.specs.RowRead.{RowRead, key_length, key_of}
-use Rattle.layout.specs.Plain.{RowSpan, span_of}
+use Rattle.layout.specs.Plain.{RowSpan, span_of, spans}
 use Rattle.layout.specs.Trailer.{Region, row_in}
 use Rattle.layout.specs.Cursor.{Keyed, keyed, row_ending_at}
 use Rattle.layout.specs.Seek.{stop_is, walk_region}
-use Rattle.layout.proofs.Laws.Res.{spend}
+use Rattle.layout.proofs.Laws.Res.{spend, ok-inj}
+use Rattle.basics.specs.Answers.{apart}
+use Rattle.basics.specs.Number.{number}
+use Rattle.basics.specs.declared.Refusal.{Refusal}
 use Rattle.layout.proofs.Laws.Carry.{key_of-length}
 use Rattle.layout.specs.Laws.Number.{Counting}
 use Rattle.layout.proofs.Laws.Plain.{span-row}
@@ -24,16 +27,20 @@ use Rattle.block_regions_v2.specs.Rows.{Rows, rows_on}
 
 -- ---- the walk up
 
-abbrev pub halted_is : ℕ → ℕ → ℕ → ℕ → ℕ → Bool → Halted
-halted_is at len n from from-len good = record { at = at; len = len; number = n; from = from; from_len = from-len; good = good }
+abbrev pub halted_is : ℕ → ℕ → ℕ → ℕ → ℕ → Halted
+halted_is at len n from from-len = record { at = at; len = len; number = n; from = from; from_len = from-len }
 
--- where the walk stopped, or a row of the region that is refused
-pub record Halts (d : List ℕ) (g : Region) (target : Key) (h : Halted) : Type 0 where
+-- where the walk stopped
+pub record HaltsAt (d : List ℕ) (g : Region) (target : Key) (h : Halted) : Type 0 where
   pub match : ℕ
   pub climbs : Climbing d g target (length d) h.at match h.len h.from h.from_len
   pub counts : Counting d g h.at h.len h.number
-  pub stopped : h.good ≡ true → ok (stop_is h.at climbs.before) ≡ walk_region (length d) d g target g.start []
-  pub refused : h.good ≡ false → (h.at < g.end) × ((r : RowRead) → row_in d g h.at h.len ≡ ok r → ⊥)
+  pub stopped : ok (stop_is h.at climbs.before) ≡ walk_region (length d) d g target g.start []
+
+-- or the refusal of a row of the region
+abbrev pub Halts : List ℕ → Region → Key → Result Halted Refusal → Type 0
+Halts d g target (Ok h) = HaltsAt d g target h
+Halts d g target (Err r) = refuse (number r) ≡ walk_region (length d) d g target g.start []
 
 -- ---- the read back: the row that ends at a position, found by lengths alone
 
@@ -129,14 +136,16 @@ module _ (d : List ℕ) (g : Region) (stop : ℕ) where
           }
 
     -- by the row's span
-    module _ (p : RowSpan) (e : p ≡ span_of (row_in d g at len)) where
-      pub reaching_more : {k' : Known} → (p.next ≡ 0 → ⊥) → p.next < stop → k' ≡ known_after k p.suffix_at p.shared (p.shared + p.suffix_len) → Reaching p.next (p.shared + p.suffix_len) k'
-      reaching_more z h w = span-row d at g.end len (eqb at g.start) p e z λ r q is. rw (w, sym is) (goes-past r q (rw (sym is) at h))
+    module _ (p : RowSpan) (e : ok p ≡ spans (row_in d g at len)) where
+      pub reaching_more : {k' : Known} → p.next < stop → k' ≡ known_after k p.suffix_at p.shared (p.shared + p.suffix_len) → Reaching p.next (p.shared + p.suffix_len) k'
+      reaching_more h w = span-row (row_in d g at len) p e λ r q is. rw (w, sym is) (goes-past r q (rw (sym is) at h))
 
       -- the row that reaches the position, if it is one
-      pub reaching_far : ((p.next ≡ 0 → ⊥) → stop ≤ p.next) → (r : RowRead) → row_in d g at len ≡ ok r → stop ≤ r.next
-      reaching_far f r q =
-          let n : p.next ≡ r.next = ap (λ (t : RowSpan). t.next) (e ∙ ap span_of q) in
-          let far = (row_in-ends d g at len r q).least in
-          let m = f (λ z. absurd (omega arith)) in
+      pub reaching_far : stop ≤ p.next → (r : RowRead) → row_in d g at len ≡ ok r → stop ≤ r.next
+      reaching_far h r q =
+          let n : p.next ≡ r.next = ap (λ (t : RowSpan). t.next) (ok-inj (e ∙ ap spans q)) in
           omega arith
+
+    -- a row that is refused is none
+    pub reaching_none : {n : ℕ} → refuse n ≡ spans (row_in d g at len) → (r : RowRead) → row_in d g at len ≡ ok r → stop ≤ r.next
+    reaching_none e r q = absurd (apart (sym (e ∙ ap spans q)))

@@ -7,13 +7,14 @@ use Rattle.std.proofs.Math.Logic.{⊎_elim}
 use Rattle.std.proofs.Math.ListN.{get_or-append}
 use Rattle.std.proofs.Math.Seq.{get_or-take}
 use Rattle.std.proofs.lemmas.Bool.{lt-leb}
-use Rattle.layout.specs.Res.{ok}
+use Rattle.layout.specs.Res.{ok, refuse}
 use Rattle.layout.specs.Place.{splice}
 use Rattle.layout.specs.Key.{Key}
 use Rattle.layout.specs.RowRead.{RowRead, key_of}
-use Rattle.layout.specs.Plain.{RowSpan, span_is, span_of}
+use Rattle.layout.specs.Plain.{RowSpan, span_of, spans}
 use Rattle.layout.specs.Trailer.{Region, row_in}
-use Rattle.layout.proofs.Laws.Res.{ltb-cases}
+use Rattle.layout.proofs.Laws.Res.{ltb-cases, ok-inj}
+use Rattle.basics.specs.Answers.{apart}
 use Rattle.layout.specs.Laws.Carry.{suffix_of}
 use Rattle.layout.proofs.Laws.Carry.{key_of-length}
 use Rattle.layout.specs.Laws.MatchWalk.{span_suffix}
@@ -167,38 +168,33 @@ module _ (d : List ℕ) (g : Region) (stop : ℕ) (wanted : Key) where
         ext_get_or 0 key (take (length key) wanted) (sym n)
         λ i u. s.whole h i u (rw is (omega arith)) ∙ ap (λ (k : Key). get_or k i 0) is ∙ sym (get_or-take (length key) wanted i 0 u)
 
-    module _ (h : at < stop) (p : RowSpan) (e : p ≡ span_of (row_in d g at len)) where
+    module _ (h : at < stop) where
       first : {A : Type 0} → ((r : RowRead) (more : List RowRead) → row_in d g at (length s.before) ≡ ok r
-          → row_in d g at len ≡ ok r → p ≡ span_is r.next r.shared r.suffix_at r.suffix_len
-          → Rows d g r.next (key_of d s.before r) more stop wanted → A) → A
+          → row_in d g at len ≡ ok r → Rows d g r.next (key_of d s.before r) more stop wanted → A) → A
       first f =
-          rows-first d g at s.before s.rows stop wanted s.leads h λ r more q w.
-          let q' = rw s.long at q in
-          f r more q q' (e ∙ ap span_of q') w
+          rows-first d g at s.before s.rows stop wanted s.leads h λ r more q w. f r more q (rw s.long at q) w
 
       -- the rows were read before: none is refused
-      pub filling_read : {A : Type 0} → p.next ≡ 0 → A
-      filling_read z =
-          first λ r more q q' is w.
-          let far = (row_in-ends d g at len r q').least in
-          let n = ap (λ (x : RowSpan). x.next) is in
-          absurd (omega arith)
+      pub filling_read : {A : Type 0} {n : ℕ} → refuse n ≡ spans (row_in d g at len) → A
+      filling_read e = first λ r more q q' w. absurd (apart (sym (e ∙ ap spans q')))
 
-      more : {ys : List ℕ} → ys ≡ clipped key p.shared (span_suffix d p) → Filling ys p.next (p.shared + p.suffix_len)
-      more y =
-          first λ r rest q q' is w.
-          let fits : r.shared ≤ length s.before = rw s.long (row-shares d at g.end len (eqb at g.start) r (row_in-ends d g at len r q')) in
-          let all = agrees_clipped key s.before (suffix_of d r) r.shared fits (s.kept r q') in
-          rw (y, is)
-          (record {
-            rows = rest;
-            before = key_of d s.before r;
-            long = key_of-length d at g.end s.before (eqb at g.start) r q;
-            leads = w;
-            room = rw (clipped-length key r.shared (suffix_of d r)) s.room;
-            kept = λ x u i k l m. all i l m;
-            whole = λ u i l m. all i l m;
-          })
+      module _ (p : RowSpan) (e : ok p ≡ spans (row_in d g at len)) where
+        more : {ys : List ℕ} → ys ≡ clipped key p.shared (span_suffix d p) → Filling ys p.next (p.shared + p.suffix_len)
+        more y =
+            first λ r rest q q' w.
+            let is : p ≡ span_of r = ok-inj (e ∙ ap spans q') in
+            let fits : r.shared ≤ length s.before = rw s.long (row-shares d at g.end len (eqb at g.start) r (row_in-ends d g at len r q')) in
+            let all = agrees_clipped key s.before (suffix_of d r) r.shared fits (s.kept r q') in
+            rw (y, is)
+            (record {
+              rows = rest;
+              before = key_of d s.before r;
+              long = key_of-length d at g.end s.before (eqb at g.start) r q;
+              leads = w;
+              room = rw (clipped-length key r.shared (suffix_of d r)) s.room;
+              kept = λ x u i k l m. all i l m;
+              whole = λ u i l m. all i l m;
+            })
 
-      pub filling_more : {ys : List ℕ} → ys ≡ clipped key p.shared (part_of d p) → Filling ys p.next (p.shared + p.suffix_len)
-      filling_more y = more (rw (part-suffix d p) at y)
+        pub filling_more : {ys : List ℕ} → ys ≡ clipped key p.shared (part_of d p) → Filling ys p.next (p.shared + p.suffix_len)
+        filling_more y = more (rw (part-suffix d p) at y)

@@ -34,8 +34,8 @@ pub struct Stop {
     pub number: usize,
 }
 
-// Where a walk stopped, or the row that is refused (not `good`), with the length of the key before and how many rows were read before; and the last row that
-// shared no more than the match, with the length of the key before that one.
+// Where a walk stopped, with the length of the key before and how many rows were read before; and the last row that shared no more than the match, with the
+// length of the key before that one.
 #[derive(Clone, Copy)]
 struct Halted {
     at: usize,
@@ -43,7 +43,6 @@ struct Halted {
     number: usize,
     from: usize,
     from_len: usize,
-    good: bool,
 }
 
 // The first `len` bytes of a key, where they stand in the data: `split` of them from `first` on, the others from `second` on.
@@ -100,11 +99,10 @@ fn rebuild_key(
     let mut at = from;
     let mut len = from_len;
     while at < stop {
-        let row = row_span_v2::span_in(data, at, region.start, region.end, len);
-        // Never taken: the rows were read before.
-        if row.next == 0 {
+        // Never refused: the rows were read before.
+        let Ok(row) = row_span_v2::span_in(data, at, region.start, region.end, len) else {
             return;
-        }
+        };
         let start = row.suffix_at;
         let end = start + row.suffix_len;
         put_clipped(key, row.shared, &data[start..end]);
@@ -122,8 +120,8 @@ fn latest(matched: usize, shared: usize, old: usize, new: usize) -> usize
     if matched < shared { old } else { new }
 }
 
-fn halt(at: usize, len: usize, number: usize, from: usize, from_len: usize, good: bool) -> Halted
-    ensures { result ≡ halted_is at len number from from_len good }
+fn halt(at: usize, len: usize, number: usize, from: usize, from_len: usize) -> Halted
+    ensures { result ≡ halted_is at len number from from_len }
 {
     Halted {
         at,
@@ -131,12 +129,11 @@ fn halt(at: usize, len: usize, number: usize, from: usize, from_len: usize, good
         number,
         from,
         from_len,
-        good,
     }
 }
 
 // Whole rows from a region's start to the first whose key is at or above the target, or to the region's end.
-fn walk_place(data: &[u8], region: Region, target: &[u8]) -> Halted
+fn walk_place(data: &[u8], region: Region, target: &[u8]) -> Result<Halted, Refusal>
     requires { region.end ≤ length «data».now }
     ensures { Halts «data».now (region_from region) target.now result }
 {
@@ -147,15 +144,12 @@ fn walk_place(data: &[u8], region: Region, target: &[u8]) -> Halted
     let mut from = region.start;
     let mut from_len: usize = 0;
     while at < region.end {
-        let row = row_span_v2::span_in(data, at, region.start, region.end, len);
-        if row.next == 0 {
-            return halt(at, len, number, from, from_len, false);
-        }
+        let row = row_span_v2::span_in(data, at, region.start, region.end, len)?;
         let start = row.suffix_at;
         let end = start + row.suffix_len;
         let now = match_keys::match_up(target, matched, row.shared, &data[start..end]);
         if !now.below {
-            return halt(at, len, number, from, from_len, true);
+            return Ok(halt(at, len, number, from, from_len));
         }
         from = latest(matched, row.shared, from, at);
         from_len = latest(matched, row.shared, from_len, len);
@@ -164,7 +158,7 @@ fn walk_place(data: &[u8], region: Region, target: &[u8]) -> Halted
         at = row.next;
         number += 1;
     }
-    halt(at, len, number, from, from_len, true)
+    Ok(halt(at, len, number, from, from_len))
 }
 
 // The first bytes of the key of the row before the place where a walk stopped, as many as `key` has. What the row to start from shares, the target has too.
@@ -188,14 +182,10 @@ pub fn walk_into(
     if data.len() < region.end {
         return Err(Refusal::BadState);
     }
-    let there = walk_place(data, region, target);
+    let there = walk_place(data, region, target)?;
     let at = there.at;
     let key_len = there.len;
     let number = there.number;
-    if !there.good {
-        let refusal = row_span_v2::refusal_in(data, at, region.start, region.end, key_len);
-        return Err(refusal);
-    }
     let stop = Stop {
         at,
         key_len,
@@ -258,15 +248,14 @@ fn reach(data: &[u8], region: Region, stop: usize) -> Reached
         len: 0,
     };
     loop {
-        let row = row_span_v2::span_in(data, at, region.start, region.end, len);
-        if row.next == 0 {
+        let Ok(row) = row_span_v2::span_in(data, at, region.start, region.end, len) else {
             return Reached {
                 at,
                 len,
                 number,
                 known,
             };
-        }
+        };
         if stop <= row.next {
             return Reached {
                 at,

@@ -7,8 +7,8 @@ use Rattle.trailer.specs.Says.{region_from}
 use Rattle.block_regions_v2.specs.Parts.{Reaching}
 use Rattle.block_regions_v2.proofs.reach.Given as goal
 
-abbrev pub invariant-loop-region : goal.invariant-loop-region
-invariant-loop-region l = Reaching l.data (region_from l.region) l.stop l.at l.len l.known × Counting l.data (region_from l.region) l.at l.len l.number
+abbrev pub invariant-loop-row : goal.invariant-loop-row
+invariant-loop-row l = Reaching l.data (region_from l.region) l.stop l.at l.len l.known × Counting l.data (region_from l.region) l.at l.len l.number
 
-abbrev pub decreases-loop-region : goal.decreases-loop-region
-decreases-loop-region l = l.stop - l.at
+abbrev pub decreases-loop-row : goal.decreases-loop-row
+decreases-loop-row l = l.stop - l.at
