@@ -6,7 +6,7 @@ use Rattle.std.proofs.Math.Nat.{le_antisymm}
 use Rattle.std.proofs.Common.{le-leb}
 use Rattle.std.proofs.lemmas.Bool.{lt-leb}
 use Rattle.layout.specs.Res.{ok, refuse}
-use Rattle.layout.specs.Plain.{RowSpan, span_of}
+use Rattle.layout.specs.Plain.{RowSpan, spans}
 use Rattle.layout.specs.Trailer.{Region, row_in}
 use Rattle.layout.specs.Number.{ended_by}
 use Rattle.layout.specs.Laws.Number.{Counting}
@@ -18,12 +18,12 @@ use Rattle.block_regions_v2.specs.Parts.{Reaching, reaching_only, reaching_refus
 use Rattle.block_regions_v2.specs.Count.{counting-ended, counting-span}
 use Rattle.whole_regions_v2.specs.Regions.{rows_in}
 
-module _ (d : List ℕ) (g : Region) (at len n : ℕ) (c : Counting d g at len n) (p : RowSpan) (e : p ≡ span_of (row_in d g at len)) (z : p.next ≡ 0 → ⊥) where
+module _ (d : List ℕ) (g : Region) (at len n : ℕ) (c : Counting d g at len n) (p : RowSpan) (e : ok p ≡ spans (row_in d g at len)) where
   -- the row's end, or the place that was best before
   pub counting-best : (above : Bool) (best m : ℕ) → ended_by d g best ≡ m → {best' m' : ℕ} → best' ≡ cond above best p.next → m' ≡ cond above m (n + 1)
       → ended_by d g best' ≡ m'
   counting-best true best m h b w = rw (b, w) h
-  counting-best false best m h b w = rw (b, w) (counting-here d g p.next (p.shared + p.suffix_len) (n + 1) (counting-span d g at len n c p e z))
+  counting-best false best m h b w = rw (b, w) (counting-here d g p.next (p.shared + p.suffix_len) (n + 1) (counting-span d g at len n c p e))
 
 -- ---- how many rows a region has
 
@@ -37,13 +37,13 @@ module _ (d : List ℕ) (g : Region) where
     unfolding rows_in
     count_no e = rw (lt-leb g.end g.start h, sym (reaching_refused d g g.end at len _ s e))
 
-    module _ (p : RowSpan) (e : p ≡ span_of (row_in d g at len)) (z : p.next ≡ 0 → ⊥) where
+    module _ (p : RowSpan) (e : ok p ≡ spans (row_in d g at len)) where
       pub count-all : (n : ℕ) → Counting d g at len n → g.end ≤ p.next → ok (n + 1) ≡ rows_in d g
       unfolding rows_in
       count-all n c u =
-          span-row d at g.end len (eqb at g.start) p e z λ r q is.
+          span-row (row_in d g at len) p e λ r q is.
           let last : r.next ≡ g.end = le_antisymm (row_in-ends d g at len r q).within (rw (sym is) at u) in
           rw (lt-leb g.end g.start h, sym (reaching_found d g g.end at len _ s r q last), counting-ended d g at len n c r q last)
 
       pub count-more : p.next < g.end → Reaching d g g.end p.next (p.shared + p.suffix_len) (known_is 0 0 0 0)
-      count-more u = let on = reaching_more d g g.end at len _ s p e z u refl in reaching_only d g g.end p.next (p.shared + p.suffix_len) _ on
+      count-more u = let on = reaching_more d g g.end at len _ s p e u refl in reaching_only d g g.end p.next (p.shared + p.suffix_len) _ on

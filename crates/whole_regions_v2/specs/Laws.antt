@@ -5,7 +5,7 @@ use Rattle.std.proofs.Common.{ap, sym, ◌∙◌, arith, length-take-le, lt-ltb,
 use Rattle.std.proofs.lemmas.Bool.{lt-leb}
 use Rattle.layout.specs.Res.{Res, ok, refuse, bind}
 use Rattle.layout.specs.Key.{Key}
-use Rattle.layout.specs.Plain.{RowSpan, span_of}
+use Rattle.layout.specs.Plain.{RowSpan, spans}
 use Rattle.layout.specs.Trailer.{Trailer, trailer_of, data_of, Region, region_of, row_in}
 use Rattle.layout.specs.Number.{ended_by, number_at}
 use Rattle.layout.specs.Cursor.{row_ending_at}
@@ -49,11 +49,11 @@ last-is d g target {at} e is = rw (sym e) (ap (λ (i : ℕ). ok (counted at i)) 
 -- ---- a turn of the read down
 
 pub turn-down : (d : List ℕ) (g : Region) (target : Key) (fuel at m len best : ℕ) (above : Bool) → MatchingDown d g target fuel at m len best above → at < g.end
-    → (p : RowSpan) → p ≡ span_of (row_in d g at len) → (p.next ≡ 0 → ⊥) → {m' best' : ℕ} {above' : Bool}
+    → (p : RowSpan) → ok p ≡ spans (row_in d g at len) → {m' best' : ℕ} {above' : Bool}
     → m' ≡ match_after target m p.shared (part_of d p) → above' ≡ above_after target m above p.shared (part_of d p) → best' ≡ cond above' best p.next
     → MatchingDown d g target fuel p.next m' (p.shared + p.suffix_len) best' above'
-turn-down d g target fuel at m len best above s h p e z w a b =
-    down-more d g target fuel at m len best above s h p e z (rw (part-suffix d p) at w) (rw (part-suffix d p) at a) b
+turn-down d g target fuel at m len best above s h p e w a b =
+    down-more d g target fuel at m len best above s h p e (rw (part-suffix d p) at w) (rw (part-suffix d p) at a) b
 
 -- ---- for callers
 

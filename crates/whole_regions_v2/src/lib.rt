@@ -42,11 +42,7 @@ pub fn last_at_or_below(data: &[u8], region: Region, target: &[u8]) -> Result<La
     let mut best = region.start;
     let mut best_number: usize = 0;
     while at < region.end {
-        let row = row_span_v2::span_in(data, at, region.start, region.end, len);
-        if row.next == 0 {
-            let refusal = row_span_v2::refusal_in(data, at, region.start, region.end, len);
-            return Err(refusal);
-        }
+        let row = row_span_v2::span_in(data, at, region.start, region.end, len)?;
         let from = row.suffix_at;
         let to = from + row.suffix_len;
         let now = match_keys::match_down(target, matched, above, row.shared, &data[from..to]);
@@ -77,11 +73,7 @@ pub fn count_rows(data: &[u8], region: Region) -> Result<usize, Refusal>
     let mut len: usize = 0;
     let mut rows: usize = 0;
     loop {
-        let row = row_span_v2::span_in(data, at, region.start, region.end, len);
-        if row.next == 0 {
-            let refusal = row_span_v2::refusal_in(data, at, region.start, region.end, len);
-            return Err(refusal);
-        }
+        let row = row_span_v2::span_in(data, at, region.start, region.end, len)?;
         rows += 1;
         if region.end <= row.next {
             return Ok(rows);
