@@ -63,10 +63,7 @@ fn check_region(
     let mut seq = p.seq;
     let mut rows = p.rows;
     while at < g.end {
-        let row = row_span_v2::numbered_in(data, at, g.start, g.end, key_len);
-        if row.next == 0 {
-            return Err(row_span_v2::refusal_in(data, at, g.start, g.end, key_len));
-        }
+        let row = row_span_v2::numbered_in(data, at, g.start, g.end, key_len)?;
         let shared = row.shared;
         let from = row.suffix_at;
         let to = from + row.suffix_len;

@@ -17,11 +17,11 @@ use Rattle.layout.proofs.Laws.Trailer.{trailer_of-tells}
 use Rattle.buf_mut.proofs.Laws.{copied}
 use Rattle.trailer.specs.Laws.{region-known}
 use Rattle.trailer.specs.Says.{trailer_from, region_from}
-use Rattle.row_span_v2.specs.Laws.{numbered, numbered-known, span-refusal}
+use Rattle.row_span_v2.specs.Laws.{numbered, numbered-known, numbered-no}
 use Rattle.row_span_v2.specs.Promise.{numbered_from}
 use Rattle.block_check_v2.specs.Laws.{Walks, stands-no, stands-inside, stands-walks, walks-over, walks-no, walks-room, walks-falls, walks-narrow, walks_more, may-told, the_trailer}
 use mathlib.Core.Bool.{not}
-use Rattle.block_check_v2.proofs.check_region.Goals.{At-loop-at, In_ok-g, Else-row-eq0, Start}
+use Rattle.block_check_v2.proofs.check_region.Goals.{At-loop-at, In_ok-g, In_ok-row, Start}
 use Rattle.block_check_v2.proofs.check_region.Goals as goal
 
 -- a length fits a word
@@ -40,20 +40,20 @@ walk : (l : At-loop-at) → Walks l.args.block.now (trailer_from l.args.t) l.arg
 walk l = l.loop-at.invariant.1 _ l.requires.block_value
 
 -- the row that was read, with the numbers that were answered of it
-known : (n : Else-row-eq0) → let p = n.numbered_in-row.result in
-    (x : RowRead) × (row_in (data_of n.args.block.now (trailer_from n.args.t)) (region_from n.in_ok-g.g) n.loop-at.at n.loop-at.key_len ≡ ok (numbered x (numbered_from p) p.seq))
-known n = numbered-known _ _ _ _ _ (numbered_from n.numbered_in-row.result) n.numbered_in-row.ensures.0 n.if-row-eq0.false n.numbered_in-row.ensures.1
+known : (n : In_ok-row) → let p = n.in_ok-row.row in
+    (x : RowRead) × (row_in (data_of n.args.block.now (trailer_from n.args.t)) (region_from n.in_ok-g.g) n.loop-at.at n.loop-at.key_len ≡ ok (numbered x (numbered_from p).span p.seq))
+known n = numbered-known _ (numbered_from n.in_ok-row.row) n.in_ok-row.ensures
 
-abbrev row : Else-row-eq0 → RowRead
-row n = numbered (known n).0 (numbered_from n.numbered_in-row.result) n.numbered_in-row.result.seq
+abbrev row : In_ok-row → RowRead
+row n = numbered (known n).0 (numbered_from n.in_ok-row.row).span n.in_ok-row.row.seq
 
-read : (n : Else-row-eq0) → row_in (data_of n.args.block.now (trailer_from n.args.t)) (region_from n.in_ok-g.g) n.loop-at.at n.loop-at.key_len ≡ ok (row n)
+read : (n : In_ok-row) → row_in (data_of n.args.block.now (trailer_from n.args.t)) (region_from n.in_ok-g.g) n.loop-at.at n.loop-at.key_len ≡ ok (row n)
 read n = (known n).1
 
-told : (n : Else-row-eq0) → RowEnds (data_of n.args.block.now (trailer_from n.args.t)) n.loop-at.at n.in_ok-g.g.end n.loop-at.key_len (eqb n.loop-at.at n.in_ok-g.g.start) (row n)
+told : (n : In_ok-row) → RowEnds (data_of n.args.block.now (trailer_from n.args.t)) n.loop-at.at n.in_ok-g.g.end n.loop-at.key_len (eqb n.loop-at.at n.in_ok-g.g.start) (row n)
 told n = read_row-ends _ _ _ _ _ _ (read n)
 
-shares : (n : Else-row-eq0) → (row n).shared ≤ n.loop-at.key_len
+shares : (n : In_ok-row) → (row n).shared ≤ n.loop-at.key_len
 shares n = row-shares _ _ _ _ _ _ (told n)
 
 pub returns-in_err-g : goal.returns-in_err-g
@@ -69,26 +69,27 @@ pub loop-at-init : goal.loop-at-init
 loop-at-init c =
     (refl, the_trailer _ _ _ c.requires.block_value (stands-walks _ _ _ _ c.requires.stands c.requires.at_lt_size _ (used (goal.at.loop-at-init c).In_ok-g)))
 
-pub shape_of-key-then-row-eq0 : goal.shape_of-key-then-row-eq0
-shape_of-key-then-row-eq0 c = c.loop-at.invariant.0
+pub shape_of-key-in_err-row : goal.shape_of-key-in_err-row
+shape_of-key-in_err-row c = c.loop-at.invariant.0
 
-pub returns-then-row-eq0 : goal.returns-then-row-eq0
-returns-then-row-eq0 c =
-    walks-no _ _ _ _ (used (goal.at.returns-then-row-eq0 c).In_ok-g) _ _ _ _ _ (walk (goal.at.returns-then-row-eq0 c).At-loop-at) c.loop-at-test.true
-    (span-refusal _ _ _ _ _ (numbered_from c.numbered_in-row.result) c.numbered_in-row.ensures.0 c.if-row-eq0.true c.refusal_in.ensures)
+pub returns-in_err-row : goal.returns-in_err-row
+returns-in_err-row c =
+    let p = err_from_is_err_and c.from_residual-in_err-row.result c.from_residual-in_err-row.ensures.1 in
+    rw (p.1, p.2)
+    (walks-no _ _ _ _ (used (goal.at.returns-in_err-row c).In_ok-g) _ _ _ _ _ (walk (goal.at.returns-in_err-row c).At-loop-at) c.loop-at-test.true (numbered-no _ c.in_err-row.ensures))
 
 pub overflow_add-to : goal.overflow_add-to
 overflow_add-to c =
-    omega (arith, (told (goal.at.overflow_add-to c).Else-row-eq0).suffix, length-take c.args.t.size c.args.block.now, short (goal.at.overflow_add-to c).Start)
+    omega (arith, (told (goal.at.overflow_add-to c).In_ok-row).suffix, length-take c.args.t.size c.args.block.now, short (goal.at.overflow_add-to c).Start)
 
 pub slice_bounds-compare-end : goal.slice_bounds-compare-end
-slice_bounds-compare-end c = (told (goal.at.slice_bounds-compare-end c).Else-row-eq0).suffix
+slice_bounds-compare-end c = (told (goal.at.slice_bounds-compare-end c).In_ok-row).suffix
 
 pub slice_bounds-compare-count-in-loop-at : goal.slice_bounds-compare-count-in-loop-at
-slice_bounds-compare-count-in-loop-at c = shares (goal.at.slice_bounds-compare-count-in-loop-at c).Else-row-eq0
+slice_bounds-compare-count-in-loop-at c = shares (goal.at.slice_bounds-compare-count-in-loop-at c).In_ok-row
 
 pub slice_bounds-compare-start-in-loop-at : goal.slice_bounds-compare-start-in-loop-at
-slice_bounds-compare-start-in-loop-at c = shares (goal.at.slice_bounds-compare-start-in-loop-at c).Else-row-eq0
+slice_bounds-compare-start-in-loop-at c = shares (goal.at.slice_bounds-compare-start-in-loop-at c).In_ok-row
 
 pub slice_bounds-compare-end-in-loop-at : goal.slice_bounds-compare-end-in-loop-at
 slice_bounds-compare-end-in-loop-at c = (walk (goal.at.slice_bounds-compare-end-in-loop-at c).At-loop-at).goes.room
@@ -98,37 +99,37 @@ shape_of-key-then-not-may_follow c = c.loop-at.invariant.0
 
 pub returns-then-not-may_follow : goal.returns-then-not-may_follow
 returns-then-not-may_follow c =
-    walks-falls _ _ _ _ (used (goal.at.returns-then-not-may_follow c).In_ok-g) _ _ _ _ _ (walk (goal.at.returns-then-not-may_follow c).At-loop-at) c.loop-at-test.true _ (read (goal.at.returns-then-not-may_follow c).Else-row-eq0) (may-told _ _ _ _ c.compare-order.ensures c.may_follow.ensures (not-true _ (ap not c.if-not-may_follow.true)))
+    walks-falls _ _ _ _ (used (goal.at.returns-then-not-may_follow c).In_ok-g) _ _ _ _ _ (walk (goal.at.returns-then-not-may_follow c).At-loop-at) c.loop-at-test.true _ (read (goal.at.returns-then-not-may_follow c).In_ok-row) (may-told _ _ _ _ c.compare-order.ensures c.may_follow.ensures (not-true _ (ap not c.if-not-may_follow.true)))
 
 pub overflow_add-key_len : goal.overflow_add-key_len
-overflow_add-key_len c = omega (arith, (told (goal.at.overflow_add-key_len c).Else-row-eq0).fits)
+overflow_add-key_len c = omega (arith, (told (goal.at.overflow_add-key_len c).In_ok-row).fits)
 
 pub shape_of-key-then-key-key_len : goal.shape_of-key-then-key-key_len
 shape_of-key-then-key-key_len c = c.loop-at.invariant.0
 
 pub returns-then-key-key_len : goal.returns-then-key-key_len
 returns-then-key-key_len c =
-    walks-narrow _ _ _ _ (used (goal.at.returns-then-key-key_len c).In_ok-g) _ _ _ _ _ (walk (goal.at.returns-then-key-key_len c).At-loop-at) c.loop-at-test.true _ (read (goal.at.returns-then-key-key_len c).Else-row-eq0) c.if-key-key_len.true
+    walks-narrow _ _ _ _ (used (goal.at.returns-then-key-key_len c).In_ok-g) _ _ _ _ _ (walk (goal.at.returns-then-key-key_len c).At-loop-at) c.loop-at-test.true _ (read (goal.at.returns-then-key-key_len c).In_ok-row) c.if-key-key_len.true
 
 pub slice_bounds-copy_in-end : goal.slice_bounds-copy_in-end
-slice_bounds-copy_in-end c = (told (goal.at.slice_bounds-copy_in-end c).Else-row-eq0).suffix
+slice_bounds-copy_in-end c = (told (goal.at.slice_bounds-copy_in-end c).In_ok-row).suffix
 
 pub overflow_add-rows : goal.overflow_add-rows
-overflow_add-rows c = let f = (walk (goal.at.overflow_add-rows c).At-loop-at).goes.few in omega (arith, (told (goal.at.overflow_add-rows c).Else-row-eq0).least)
+overflow_add-rows c = let f = (walk (goal.at.overflow_add-rows c).At-loop-at).goes.few in omega (arith, (told (goal.at.overflow_add-rows c).In_ok-row).least)
 
 pub loop-at-smaller : goal.loop-at-smaller
-loop-at-smaller c = let w = told (goal.at.loop-at-smaller c).Else-row-eq0 in omega (arith, w.least, w.within)
+loop-at-smaller c = let w = told (goal.at.loop-at-smaller c).In_ok-row in omega (arith, w.least, w.within)
 
 pub loop-at-preserved : goal.loop-at-preserved
 loop-at-preserved c =
     let u = used (goal.at.loop-at-preserved c).In_ok-g in
     let t = c.loop-at-test.true in
     let k = c.if-key-key_len.false in
-    let r = walks-room _ _ _ _ u _ _ _ _ _ (walk (goal.at.loop-at-preserved c).At-loop-at) t _ (read (goal.at.loop-at-preserved c).Else-row-eq0) k in
+    let r = walks-room _ _ _ _ u _ _ _ _ _ (walk (goal.at.loop-at-preserved c).At-loop-at) t _ (read (goal.at.loop-at-preserved c).In_ok-row) k in
     let q = copied r c.copy_in.ensures in (
       ap length q ∙ length-splice _ _ _ r ∙ c.loop-at.invariant.0,
       the_trailer _ _ _ c.requires.block_value
-          (walks_more _ _ _ _ u _ _ _ _ _ (walk (goal.at.loop-at-preserved c).At-loop-at) t _ (read (goal.at.loop-at-preserved c).Else-row-eq0) k (may-told _ _ _ _ c.compare-order.ensures c.may_follow.ensures (not-false _ (ap not c.if-not-may_follow.false))) _ q),
+          (walks_more _ _ _ _ u _ _ _ _ _ (walk (goal.at.loop-at-preserved c).At-loop-at) t _ (read (goal.at.loop-at-preserved c).In_ok-row) k (may-told _ _ _ _ c.compare-order.ensures c.may_follow.ensures (not-false _ (ap not c.if-not-may_follow.false))) _ q),
     )
 
 pub overflow_add-result : goal.overflow_add-result
