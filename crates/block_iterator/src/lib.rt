@@ -178,8 +178,8 @@ fn open(block: &[u8]) -> Result<(), Refusal>
     ensures { Tests block.now result }
 {
     let t = trailer::trailer_of(block)?;
-    let _ = trailer::all_offsets(block, t)?;
-    let _ = block_keys_v1::first_key(block, t)?;
+    trailer::all_offsets(block, t)?;
+    block_keys_v1::first_key(block, t)?;
     Ok(())
 }
 

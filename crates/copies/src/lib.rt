@@ -79,10 +79,8 @@ fn copy_each(buf: &mut [u8], at: usize, src: &[u8])
     requires { at + length src.now ≤ length buf.old }
     ensures { buf.new ≡ splice buf.old at src.now }
 {
-    let mut i = 0;
-    while i < src.len() {
+    for i in 0..src.len() {
         buf[at + i] = src[i];
-        i += 1;
     }
 }
 
