@@ -5,26 +5,20 @@ use mathlib.Core.Path.{◌≡◌, refl, ◌∙◌}
 use mathlib.Core.Bool.{Bool}
 use mathlib.Core.List.{List, [], ◌∷◌}
 use lib.ListN.{length, set}
+use Rattle.std.specs.Prelude.{Result, Ok, Err}
+use Rattle.basics.specs.declared.Read.{Read}
 use Rattle.layout.specs.Res.{Res, ok, refuse, bind}
 use Rattle.layout.specs.Place.{varint_at, num_at}
 use Rattle.layout.specs.RowRead.{KeyRead as KeyReadL, read_key}
 use Rattle.layout.specs.Varint.{varint}
-use Rattle.basics.specs.Answers.{yes, no}
+use Rattle.basics.specs.Answers.{yes, says_same, says_num}
 use Rattle.basics.specs.Number.{number}
 use Rattle.basics.specs.declared.Refusal.{Refusal}
 use Rattle.buf_mut.specs.Promise.{Puts}
-use Rattle.buf_mut.specs.Says.{says_put, refusal_of_put}
-use Rattle.buf_mut.specs.declared.Put.{Put}
-use Rattle.buf_mut.specs.declared.Put.TheVariants.{At, Refused as PutRefused}
 use Rattle.utils_decode.specs.Promise.{ReadsVarint}
-use Rattle.utils_decode.specs.Says.{says_varint, refusal_of_varint}
-use Rattle.utils_decode.specs.declared.VarintRead.{VarintRead}
-use Rattle.utils_decode.specs.declared.VarintRead.TheVariants.{Number as VarintNumber, Refused as VarintRefused}
 use Rattle.row_decode_v2.specs.Promise.{DecodesKey}
-use Rattle.row_decode_v2.specs.Says.{key_from, says_key, refusal_of_key}
+use Rattle.row_decode_v2.specs.Says.{key_from, says_key}
 use Rattle.row_decode_v2.specs.declared.KeyPlace.{KeyPlace}
-use Rattle.row_decode_v2.specs.declared.KeyRead.{KeyRead}
-use Rattle.row_decode_v2.specs.declared.KeyRead.TheVariants.{Read as ReadKey, Refused as KeyRefused}
 use Rattle.row_words.specs.Words.{bad_words, counted, truth_in}
 use Rattle.row_words.proofs.Laws.{counted-not, counted-so}
 use Rattle.row_words.specs.Flat.{sets-good, sets-refused}
@@ -33,12 +27,12 @@ use Rattle.compare_parts.specs.Promise.{WritesVarintFlat, ReadsVarintFlat, Reads
 
 -- ---- a varint written
 
-module _ (v : ℕ) (out : List ℕ) (n : ℕ) (r : Put) (out' : List ℕ) (p : Puts (varint v) out 0 r out') where
-  pub writes-good : {k : ℕ} → r ≡ At k → WritesVarintFlat v out n 0 out' k
-  writes-good e = let is = yes says_put p.answer e in record { answer = rw is refl; number = rw is refl; bytes = p.bytes }
+module _ (v : ℕ) (out : List ℕ) (n : ℕ) (r : Result ℕ Refusal) (out' : List ℕ) (p : Puts (varint v) out 0 r out') where
+  pub writes-good : {k : ℕ} → r ≡ Ok k → WritesVarintFlat v out n 0 out' k
+  writes-good e = let is = yes says_same p.answer e in record { answer = rw is refl; number = rw is refl; bytes = p.bytes }
 
-  pub writes-refused : {y x : Refusal} {code : ℕ} → r ≡ PutRefused y → x ≡ refusal_of_put r → code ≡ number x → WritesVarintFlat v out n code out' n
-  writes-refused e t q = let is = no says_put refusal_of_put p.answer e refl t in record { answer = rw is q; number = rw is refl; bytes = p.bytes }
+  pub writes-refused : {x : Refusal} {code : ℕ} → r ≡ Err x → code ≡ number x → WritesVarintFlat v out n code out' n
+  writes-refused e q = let is = yes says_same p.answer e in record { answer = rw is q; number = rw is refl; bytes = p.bytes }
 
 -- ---- a varint read
 
@@ -46,12 +40,12 @@ module _ (s : List ℕ) (at : ℕ) (ws : List ℕ) where
   pub reads_short : (length ws ≡ 2 → ⊥) → ReadsVarintFlat s at ws bad_words ws
   reads_short h = sets-refused (counted-not ws 2 (varint_at s at) h) refl
 
-  module _ (r : VarintRead) (h : length ws ≡ 2) (p : ReadsVarint s at r) where
-    pub reads-good : {v n : ℕ} → r ≡ VarintNumber v n → ReadsVarintFlat s at ws 0 (set (set ws 0 v) 1 n)
-    reads-good {v} {n} e = sets-good (num_at v n) (counted-so ws 2 (varint_at s at) h ∙ yes says_varint p e) (all-stored (v ∷ n ∷ []) ws h)
+  module _ (r : Result (Read ℕ) Refusal) (h : length ws ≡ 2) (p : ReadsVarint s at r) where
+    pub reads-good : {x : Read ℕ} → r ≡ Ok x → ReadsVarintFlat s at ws 0 (set (set ws 0 x.value) 1 x.next)
+    reads-good {x} e = sets-good (num_at x.value x.next) (counted-so ws 2 (varint_at s at) h ∙ yes says_num p e) (all-stored (x.value ∷ x.next ∷ []) ws h)
 
-    pub reads-refused : {y x : Refusal} {code : ℕ} → r ≡ VarintRefused y → x ≡ refusal_of_varint r → code ≡ number x → ReadsVarintFlat s at ws code ws
-    reads-refused e t q = sets-refused (counted-so ws 2 (varint_at s at) h ∙ no says_varint refusal_of_varint p e refl t) q
+    pub reads-refused : {x : Refusal} {code : ℕ} → r ≡ Err x → code ≡ number x → ReadsVarintFlat s at ws code ws
+    reads-refused e q = sets-refused (counted-so ws 2 (varint_at s at) h ∙ yes says_num p e) q
 
 -- ---- a key read
 
@@ -65,13 +59,13 @@ module _ (s : List ℕ) (at end prev_len restart : ℕ) (ws : List ℕ) where
   pub key-no_truth : length ws ≡ 3 → truth_in restart ≡ refuse bad_words → ReadsKeyFlat s at end prev_len restart ws bad_words ws
   key-no_truth h e = sets-refused (counted-so ws 3 (bind (truth_in restart) wanted) h ∙ rw e refl) refl
 
-  module _ (b : Bool) (r : KeyRead) (h : length ws ≡ 3) (is : truth_in restart ≡ ok b) (p : DecodesKey s at end prev_len b r) where
+  module _ (b : Bool) (r : Result KeyPlace Refusal) (h : length ws ≡ 3) (is : truth_in restart ≡ ok b) (p : DecodesKey s at end prev_len b r) where
     asked : counted ws 3 (bind (truth_in restart) wanted) ≡ wanted b
     asked = counted-so ws 3 (bind (truth_in restart) wanted) h ∙ rw is refl
 
-    pub key-good : {k : KeyPlace} → r ≡ ReadKey k
+    pub key-good : {k : KeyPlace} → r ≡ Ok k
         → ReadsKeyFlat s at end prev_len restart ws 0 (set (set (set ws 0 k.shared) 1 k.suffix_at) 2 k.suffix_len)
     key-good {k} e = sets-good (key_from k) (asked ∙ yes says_key p e) (all-stored (k.shared ∷ k.suffix_at ∷ k.suffix_len ∷ []) ws h)
 
-    pub key-refused : {y x : Refusal} {code : ℕ} → r ≡ KeyRefused y → x ≡ refusal_of_key r → code ≡ number x → ReadsKeyFlat s at end prev_len restart ws code ws
-    key-refused e t q = sets-refused (asked ∙ no says_key refusal_of_key p e refl t) q
+    pub key-refused : {x : Refusal} {code : ℕ} → r ≡ Err x → code ≡ number x → ReadsKeyFlat s at end prev_len restart ws code ws
+    key-refused e q = sets-refused (asked ∙ yes says_key p e) q

@@ -6,11 +6,6 @@
 
 ghost use Rattle.compare_parts.specs.Promise.{WritesVarintFlat, ReadsVarintFlat, ReadsKeyFlat};
 
-use buf_mut::Put;
-use row_decode_v2::KeyRead;
-use row_words::TruthRead;
-use utils_decode::VarintRead;
-
 const VARINT_WORDS: usize = 2;
 
 const KEY_WORDS: usize = 3;
@@ -20,12 +15,13 @@ const KEY_WORDS: usize = 3;
 pub extern "C" fn slatedb_varint_put(output: &mut [u8], value: u32, count: &mut u64) -> u8
     ensures { WritesVarintFlat value output.old count.old result output.new count.new }
 {
-    let put = utils::encode_varint(output, 0, value);
-    let Put::At(n) = put else {
-        return basics::number(buf_mut::put_refusal(put));
-    };
-    *count = n as u64;
-    block_words::GOOD
+    match utils::encode_varint(output, 0, value) {
+        Ok(n) => {
+            *count = n as u64;
+            block_words::GOOD
+        }
+        Err(refusal) => u8::from(refusal),
+    }
 }
 
 // Reads the varint at `at`: 254, 9, 10. Good sets the words to its number and to the place after it.
@@ -36,13 +32,14 @@ pub extern "C" fn slatedb_varint_get(input: &[u8], at: usize, words: &mut [u64])
     if words.len() != VARINT_WORDS {
         return block_words::BAD_WORDS;
     }
-    let read = utils_decode::decode_varint(input, at);
-    let VarintRead::Number { value, next } = read else {
-        return basics::number(utils_decode::varint_refusal(read));
-    };
-    words[0] = value as u64;
-    words[1] = next as u64;
-    block_words::GOOD
+    match utils_decode::decode_varint(input, at) {
+        Ok(read) => {
+            words[0] = read.value as u64;
+            words[1] = read.next as u64;
+            block_words::GOOD
+        }
+        Err(refusal) => u8::from(refusal),
+    }
 }
 
 // Reads the key alone of the row at `at`, after a key of `previous_len` bytes, in a region that ends at `region_end`: 254, 9, 10, 13, 1, 2, 9, 16. Good sets the
@@ -61,16 +58,16 @@ pub extern "C" fn slatedb_decode_key(
     if words.len() != KEY_WORDS {
         return block_words::BAD_WORDS;
     }
-    let truth = row_words::truth_in(restart);
-    let TruthRead::Is(first) = truth else {
+    let Some(first) = row_words::truth_in(restart) else {
         return block_words::BAD_WORDS;
     };
-    let read = row_decode_v2::decode_key_only(input, at, region_end, previous_len, first);
-    let KeyRead::Read(key) = read else {
-        return basics::number(row_decode_v2::key_refusal(read));
-    };
-    words[0] = key.shared as u64;
-    words[1] = key.suffix_at as u64;
-    words[2] = key.suffix_len as u64;
-    block_words::GOOD
+    match row_decode_v2::decode_key_only(input, at, region_end, previous_len, first) {
+        Ok(key) => {
+            words[0] = key.shared as u64;
+            words[1] = key.suffix_at as u64;
+            words[2] = key.suffix_len as u64;
+            block_words::GOOD
+        }
+        Err(refusal) => u8::from(refusal),
+    }
 }

@@ -1,7 +1,5 @@
 -- A key read alone keeps its promise: the number of words and the restart's word first, then the places that `decode_key_only` promised.
 -- Each exit is one law.
-use native.Mathlib.Omega.{arith}
-use lib.ListN.{length-set}
 use Rattle.basics.specs.Answers.{yes}
 use Rattle.row_words.specs.Says.{says_truth}
 use Rattle.compare_parts.proofs.Laws.{key-short, key-no_truth, key-good, key-refused}
@@ -13,15 +11,12 @@ returns-then-words-ne-KEY_WORDS c =
 
 pub returns-in_default : goal.returns-in_default
 returns-in_default c =
-    key-no_truth _ _ _ _ c.args.restart c.args.words.now c.if-words-ne-KEY_WORDS.false (yes says_truth c.truth_in-truth.ensures c.in_default.is)
+    key-no_truth _ _ _ _ c.args.restart c.args.words.now c.if-words-ne-KEY_WORDS.false (yes says_truth c.truth_in.ensures c.in_default.is)
 
-pub returns-in_default-read : goal.returns-in_default-read
-returns-in_default-read c =
-    key-refused _ _ _ _ c.args.restart c.args.words.now _ _ c.if-words-ne-KEY_WORDS.false (yes says_truth c.truth_in-truth.ensures c.in-Is.is) c.decode_key_only-read.ensures c.in_default-read.is c.key_refusal.ensures c.number.ensures
+pub returns-in-Err : goal.returns-in-Err
+returns-in-Err c =
+    key-refused _ _ _ _ c.args.restart c.args.words.now _ _ c.if-words-ne-KEY_WORDS.false (yes says_truth c.truth_in.ensures c.in-Some.is) c.decode_key_only.ensures c.in-Err.is c.from.ensures
 
-pub bounds-words-2 : goal.bounds-words-2
-bounds-words-2 c = simp length-set (omega (arith, c.if-words-ne-KEY_WORDS.false))
-
-pub returns : goal.returns
-returns c =
-    key-good _ _ _ _ c.args.restart c.args.words.now _ _ c.if-words-ne-KEY_WORDS.false (yes says_truth c.truth_in-truth.ensures c.in-Is.is) c.decode_key_only-read.ensures c.in-Read.is
+pub returns-in-Ok : goal.returns-in-Ok
+returns-in-Ok c =
+    key-good _ _ _ _ c.args.restart c.args.words.now _ _ c.if-words-ne-KEY_WORDS.false (yes says_truth c.truth_in.ensures c.in-Some.is) c.decode_key_only.ensures c.in-Ok.is

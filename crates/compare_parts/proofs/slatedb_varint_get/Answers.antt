@@ -6,10 +6,10 @@ use Rattle.compare_parts.proofs.slatedb_varint_get.Goals as goal
 pub returns-then-words-ne-VARINT_WORDS : goal.returns-then-words-ne-VARINT_WORDS
 returns-then-words-ne-VARINT_WORDS c = reads_short _ _ c.args.words.now c.if-words-ne-VARINT_WORDS.true
 
-pub returns-in_default : goal.returns-in_default
-returns-in_default c =
-    reads-refused _ _ c.args.words.now _ c.if-words-ne-VARINT_WORDS.false c.decode_varint-read.ensures c.in_default.is c.varint_refusal.ensures c.number.ensures
+pub returns-in-Err : goal.returns-in-Err
+returns-in-Err c =
+    reads-refused _ _ c.args.words.now _ c.if-words-ne-VARINT_WORDS.false c.decode_varint.ensures c.in-Err.is c.from.ensures
 
-pub returns : goal.returns
-returns c =
-    reads-good _ _ c.args.words.now _ c.if-words-ne-VARINT_WORDS.false c.decode_varint-read.ensures c.in-Number.is
+pub returns-in-Ok : goal.returns-in-Ok
+returns-in-Ok c =
+    reads-good _ _ c.args.words.now _ c.if-words-ne-VARINT_WORDS.false c.decode_varint.ensures c.in-Ok.is

@@ -3,10 +3,10 @@
 use Rattle.compare_parts.proofs.Laws.{writes-good, writes-refused}
 use Rattle.compare_parts.proofs.slatedb_varint_put.Goals as goal
 
-pub returns-in_default : goal.returns-in_default
-returns-in_default c =
-    writes-refused _ _ _ _ _ c.encode_varint-put.ensures c.in_default.is c.put_refusal.ensures c.number.ensures
+pub returns-in-Err : goal.returns-in-Err
+returns-in-Err c =
+    writes-refused _ _ _ _ _ c.encode_varint.ensures c.in-Err.is c.from.ensures
 
-pub returns : goal.returns
-returns c =
-    writes-good _ _ _ _ _ c.encode_varint-put.ensures c.in-At.is
+pub returns-in-Ok : goal.returns-in-Ok
+returns-in-Ok c =
+    writes-good _ _ _ _ _ c.encode_varint.ensures c.in-Ok.is
