@@ -7,29 +7,24 @@ use mathlib.Core.Path.{◌≡◌, refl, ap, ◌∙◌}
 use mathlib.Core.List.{List, []}
 use lib.ListN.{length}
 use borrow.Author.Tests.{eq-eqb, ne_eqb}
+use Rattle.std.specs.Prelude.{Result, Option, Ok, Err, Some, None, ⊤}
 use Rattle.layout.specs.Res.{Res, ok, refuse}
 use Rattle.layout.proofs.Laws.Res.{whether-good, whether-refused}
 use Rattle.layout_v1.specs.Builder.{new_builder, built, has_no_rows}
 use Rattle.layout_v1.specs.Cursor.{open_block, cursor_or}
-use Rattle.basics.specs.Answers.{yes, says_verdict}
+use Rattle.basics.specs.Answers.{yes, says_verdict, says_same}
 use Rattle.basics.specs.Number.{number}
 use Rattle.basics.specs.Says.{says_order}
 use Rattle.basics.specs.declared.IterationOrder.{IterationOrder}
 use Rattle.basics.specs.declared.Refusal.{Refusal}
-use Rattle.basics.specs.declared.Verdict.TheVariants.{Good, Refused}
 use Rattle.state_v1.specs.Promise.{MakesState}
 use Rattle.state_v1.specs.Says.{view_from}
 use Rattle.state_v1.specs.declared.NewState.{NewState}
 use Rattle.finish_in_place_v1.specs.Promise.{Finishes}
-use Rattle.finish_in_place_v2.specs.Says.{says_build}
-use Rattle.finish_in_place_v2.specs.declared.BuildAnswer.{BuildAnswer}
-use Rattle.finish_in_place_v2.specs.declared.BuildAnswer.TheVariants.{Block, Refused as BuildRefused}
 use Rattle.block_iterator.specs.Promise.{Opens, TellsEmpty}
-use Rattle.block_iterator.specs.Says.{view_of, says_empty}
+use Rattle.block_iterator.specs.Says.{view_of}
 use Rattle.block_iterator.specs.declared.BlockIterator.{BlockIterator}
 use Rattle.block_iterator.specs.declared.Opened.{Opened}
-use Rattle.block_iterator.specs.declared.EmptyRead.{EmptyRead}
-use Rattle.block_iterator.specs.declared.EmptyRead.TheVariants.{Is as IsEmpty, Refused as EmptyRefused}
 use Rattle.row_words.specs.Words.{bad_words, truth_word, order_in}
 use Rattle.row_words.specs.Flat.{sets-good, sets-refused}
 use Rattle.row_words.proofs.Laws.{counted-not, counted-so}
@@ -52,12 +47,12 @@ pub makes-short : (ws : List ℕ) (size : ℕ) → (length ws ≡ builder_count 
 makes-short ws size h = sets-refused (counted-not ws builder_count (new_builder size) h) refl
 
 module _ (ws : List ℕ) (size : ℕ) (r : NewState) (h : length ws ≡ builder_count) (m : MakesState size r) where
-  pub makes-good : {ws' : List ℕ} → r.answer ≡ Good → ws' ≡ builder_words (view_from r.state []) → MakesFlat ws size 0 ws'
+  pub makes-good : {ws' : List ℕ} → r.answer ≡ Ok tt → ws' ≡ builder_words (view_from r.state []) → MakesFlat ws size 0 ws'
   makes-good e q =
       let w = whether-good (new_builder size) (view_from r.state []) (yes says_verdict m.answer e) (λ a z. m.view [] ∙ ap built z) in
       sets-good (view_from r.state []) (counted-so ws builder_count (new_builder size) h ∙ w) q
 
-  pub makes-refused : {x : Refusal} {code : ℕ} → r.answer ≡ Refused x → code ≡ number x → MakesFlat ws size code ws
+  pub makes-refused : {x : Refusal} {code : ℕ} → r.answer ≡ Err x → code ≡ number x → MakesFlat ws size code ws
   makes-refused {x} e q = sets-refused (counted-so ws builder_count (new_builder size) h ∙ whether-refused (new_builder size) (number x) (yes says_verdict m.answer e)) q
 
 pub empties-short : (ws : List ℕ) (n : ℕ) → (length ws ≡ builder_count → ⊥) → EmptiesFlat ws n bad_words n
@@ -69,16 +64,16 @@ empties ws n x b h e q = rw (q, e) (tells-good (rw (eq-eqb (length ws) builder_c
 pub builds-short : (ws bytes places : List ℕ) (n : ℕ) → (length ws ≡ builder_count → ⊥) → BuildsFlat ws bytes places n bad_words bytes n
 builds-short ws bytes places n h = rw (ne_eqb (length ws) builder_count h) (record { told = record { answer = refl; number = refl }; bytes_after = refl })
 
-module _ (ws bytes places bytes' : List ℕ) (n : ℕ) (r : BuildAnswer) (h : length ws ≡ builder_count) (b : Finishes (state_in ws) bytes places r bytes') where
-  pub builds-block : {k : ℕ} → r ≡ Block k → BuildsFlat ws bytes places n 0 bytes' k
+module _ (ws bytes places bytes' : List ℕ) (n : ℕ) (r : Result ℕ Refusal) (h : length ws ≡ builder_count) (b : Finishes (state_in ws) bytes places r bytes') where
+  pub builds-block : {k : ℕ} → r ≡ Ok k → BuildsFlat ws bytes places n 0 bytes' k
   builds-block {k} e =
-      let w = yes says_build (b []).answer e in
+      let w = yes says_same (b []).answer e in
       let after = rw w at (b []).bytes_after in
       rw (eq-eqb (length ws) builder_count h, w) (record { told = record { answer = refl; number = refl }; bytes_after = after })
 
-  pub builds-refused : {x : Refusal} {code : ℕ} → r ≡ BuildRefused x → code ≡ number x → BuildsFlat ws bytes places n code bytes' n
+  pub builds-refused : {x : Refusal} {code : ℕ} → r ≡ Err x → code ≡ number x → BuildsFlat ws bytes places n code bytes' n
   builds-refused {x} e q =
-      let w = yes says_build (b []).answer e in
+      let w = yes says_same (b []).answer e in
       let after = rw w at (b []).bytes_after in
       rw (eq-eqb (length ws) builder_count h, w, q) (record { told = record { answer = refl; number = refl }; bytes_after = after })
 
@@ -91,12 +86,12 @@ pub opens-no-order : (b : List ℕ) (order : ℕ) (ws : List ℕ) → length ws 
 opens-no-order b order ws h o = sets-refused (counted-so ws cursor_count _ h ∙ rw o refl) refl
 
 module _ (b : List ℕ) (order : ℕ) (ws : List ℕ) (r : Opened) (o : IterationOrder) (h : length ws ≡ cursor_count) (is : order_in order ≡ ok (says_order o)) (opens : Opens b o r) where
-  pub opens-good : {ws' : List ℕ} → r.answer ≡ Good → ws' ≡ cursor_words (view_of r.iterator) → OpensFlat b order ws 0 ws'
+  pub opens-good : {ws' : List ℕ} → r.answer ≡ Ok tt → ws' ≡ cursor_words (view_of r.iterator) → OpensFlat b order ws 0 ws'
   opens-good e q =
       let w = whether-good (open_block b (says_order o)) (view_of r.iterator) (yes says_verdict opens.answer e) (λ c z. opens.view ∙ ap (cursor_or (says_order o)) z) in
       sets-good (view_of r.iterator) (counted-so ws cursor_count _ h ∙ rw is w) q
 
-  pub opens-refused : {x : Refusal} {code : ℕ} → r.answer ≡ Refused x → code ≡ number x → OpensFlat b order ws code ws
+  pub opens-refused : {x : Refusal} {code : ℕ} → r.answer ≡ Err x → code ≡ number x → OpensFlat b order ws code ws
   opens-refused {x} e q =
       let w = whether-refused (open_block b (says_order o)) (number x) (yes says_verdict opens.answer e) in
       sets-refused (counted-so ws cursor_count _ h ∙ rw is w) q
@@ -106,9 +101,9 @@ module _ (b : List ℕ) (order : ℕ) (ws : List ℕ) (r : Opened) (o : Iteratio
 pub empty-no-cursor : (b ws : List ℕ) (n : ℕ) → cursor_in ws ≡ refuse bad_words → TellsFlat b ws n bad_words n
 empty-no-cursor b ws n e = tells-refused (rw e refl) refl
 
-module _ (b ws : List ℕ) (n : ℕ) (c : BlockIterator) (r : EmptyRead) (is : cursor_in ws ≡ ok (view_of c)) (t : TellsEmpty c b r) where
-  pub empty-told : {e : Bool} {x : ℕ} → r ≡ IsEmpty e → x ≡ truth_word e → TellsFlat b ws n 0 x
-  empty-told {e} {x} z q = rw q (tells-good (rw (is, yes says_empty t z) refl))
+module _ (b ws : List ℕ) (n : ℕ) (c : BlockIterator) (r : Result Bool Refusal) (is : cursor_in ws ≡ ok (view_of c)) (t : TellsEmpty c b r) where
+  pub empty-told : {e : Bool} {x : ℕ} → r ≡ Ok e → x ≡ truth_word e → TellsFlat b ws n 0 x
+  empty-told {e} {x} z q = rw q (tells-good (rw (is, yes says_same t z) refl))
 
-  pub empty-refused : {x : Refusal} {code : ℕ} → r ≡ EmptyRefused x → code ≡ number x → TellsFlat b ws n code n
-  empty-refused {x} z q = tells-refused {k = number x} (rw (is, yes says_empty t z) refl) q
+  pub empty-refused : {x : Refusal} {code : ℕ} → r ≡ Err x → code ≡ number x → TellsFlat b ws n code n
+  empty-refused {x} z q = tells-refused {k = number x} (rw (is, yes says_same t z) refl) q

@@ -5,34 +5,25 @@ use mathlib.Core.Path.{◌≡◌, refl, ap, sym, ◌∙◌}
 use mathlib.Core.List.{List, []}
 use lib.ListN.{length}
 use borrow.Author.Tests.{eq-eqb}
+use Rattle.std.specs.Prelude.{Result, Option, Ok, Err, Some, None, ⊤}
 use Rattle.layout.specs.Res.{Res, ok, refuse, bind}
+use Rattle.layout.proofs.Laws.Res.{ok-inj}
 use Rattle.layout.specs.Limits.{max_key}
 use Rattle.layout.specs.Key.{Key}
 use Rattle.layout.specs.Row.{Fields}
 use Rattle.layout_v1.specs.RowRead.{decode_row}
 use Rattle.layout_v1.specs.Builder.{Builder, would_fit, add}
-use Rattle.basics.specs.Answers.{apart, yes, no, says_verdict}
+use Rattle.basics.specs.Answers.{apart, yes, says_verdict, says_same}
 use Rattle.basics.specs.Number.{number}
 use Rattle.basics.specs.declared.Refusal.{Refusal}
-use Rattle.basics.specs.declared.Verdict.{Verdict}
-use Rattle.basics.specs.declared.Verdict.TheVariants.{Good, Refused}
 use Rattle.row_flags.specs.Says.{fields_from}
 use Rattle.row_flags.specs.declared.RowFields.{RowFields}
 use Rattle.row_size_v0.specs.Promise.{Sizes}
-use Rattle.row_size_v2.specs.Says.{says_sized}
-use Rattle.row_size_v2.specs.declared.Sized.{Sized}
-use Rattle.row_size_v2.specs.declared.Sized.TheVariants.{Bytes as SizedBytes, Refused as SizedRefused}
 use Rattle.row_encode_v0.specs.Promise.{Encodes}
-use Rattle.row_encode_v2.specs.Says.{says_encoded}
-use Rattle.row_encode_v2.specs.declared.Encoded.{Encoded}
-use Rattle.row_encode_v2.specs.declared.Encoded.TheVariants.{Bytes, Refused as EncodedRefused}
 use Rattle.row_decode_v0.specs.Promise.{Decodes}
-use Rattle.row_decode_v2.specs.Says.{row_from, says_row, refusal_of_row}
+use Rattle.row_decode_v2.specs.Says.{row_from, says_row}
 use Rattle.row_decode_v2.specs.declared.Row.{Row}
-use Rattle.row_decode_v2.specs.declared.RowRead.{RowRead}
-use Rattle.row_decode_v2.specs.declared.RowRead.TheVariants.{Read as ReadRow, Refused as RowRefused}
 use Rattle.build_in_place_v1.specs.Promise.{FitsInPlace, AddsInPlace, AddsInPlaceAs}
-use Rattle.build_in_place_v1.specs.declared.Grown.{Grown}
 use Rattle.state_v1.specs.Says.{view_from}
 use Rattle.state_v1.specs.declared.State.{State}
 use Rattle.row_words.specs.Words.{bad_words, code_of, fields_in, single_words, single_count}
@@ -51,12 +42,12 @@ module _ (shared suffix_len value_len : ℕ) (fs : List ℕ) (n : ℕ) where
   pub sizes_bad : fields_in fs [] ≡ refuse bad_words → SizesFlat shared suffix_len value_len fs n bad_words n
   sizes_bad e = tells-refused (rw e refl) refl
 
-  module _ (f : RowFields) (r : Sized) (is : fields_in fs [] ≡ ok (fields_from f [])) (p : Sizes shared suffix_len f.kind value_len f.expire f.create r) where
-    pub sizes-good : {k : ℕ} → r ≡ SizedBytes k → SizesFlat shared suffix_len value_len fs n 0 k
-    sizes-good e = let w = yes says_sized p e in tells-good (rw is w)
+  module _ (f : RowFields) (r : Result ℕ Refusal) (is : fields_in fs [] ≡ ok (fields_from f [])) (p : Sizes shared suffix_len f.kind value_len f.expire f.create r) where
+    pub sizes-good : {k : ℕ} → r ≡ Ok k → SizesFlat shared suffix_len value_len fs n 0 k
+    sizes-good e = let w = yes says_same p e in tells-good (rw is w)
 
-    pub sizes-refused : {x : Refusal} {code : ℕ} → r ≡ SizedRefused x → code ≡ number x → SizesFlat shared suffix_len value_len fs n code n
-    sizes-refused {x} e q = let w = yes says_sized p e in tells-refused {k = number x} (rw is w) q
+    pub sizes-refused : {x : Refusal} {code : ℕ} → r ≡ Err x → code ≡ number x → SizesFlat shared suffix_len value_len fs n code n
+    sizes-refused {x} e q = let w = yes says_same p e in tells-refused {k = number x} (rw is w) q
 
 -- ---- encode
 
@@ -64,12 +55,12 @@ module _ (first_len shared : ℕ) (suffix value fs out : List ℕ) (n : ℕ) whe
   pub encodes_bad : fields_in fs value ≡ refuse bad_words → EncodesFlat first_len shared suffix value fs out n bad_words out n
   encodes_bad e = rw e (record { told = record { answer = refl; number = refl }; bytes = refl })
 
-  module _ (f : RowFields) (r : Encoded) (out' : List ℕ) (is : fields_in fs value ≡ ok (fields_from f value)) (p : Encodes first_len shared suffix value f out r out') where
-    pub encodes-good : {k : ℕ} → r ≡ Bytes k → EncodesFlat first_len shared suffix value fs out n 0 out' k
-    encodes-good e = rw is (record { told = tells-good (yes says_encoded p.answer e); bytes = p.bytes })
+  module _ (f : RowFields) (r : Result ℕ Refusal) (out' : List ℕ) (is : fields_in fs value ≡ ok (fields_from f value)) (p : Encodes first_len shared suffix value f out r out') where
+    pub encodes-good : {k : ℕ} → r ≡ Ok k → EncodesFlat first_len shared suffix value fs out n 0 out' k
+    encodes-good e = rw is (record { told = tells-good (yes says_same p.answer e); bytes = p.bytes })
 
-    pub encodes-refused : {x : Refusal} {code : ℕ} → r ≡ EncodedRefused x → code ≡ number x → EncodesFlat first_len shared suffix value fs out n code out' n
-    encodes-refused {x} e q = rw is (record { told = tells-refused {k = number x} (yes says_encoded p.answer e) q; bytes = p.bytes })
+    pub encodes-refused : {x : Refusal} {code : ℕ} → r ≡ Err x → code ≡ number x → EncodesFlat first_len shared suffix value fs out n code out' n
+    encodes-refused {x} e q = rw is (record { told = tells-refused {k = number x} (yes says_same p.answer e) q; bytes = p.bytes })
 
 -- ---- decode
 
@@ -77,12 +68,12 @@ module _ (s : List ℕ) (first_len : ℕ) (row : List ℕ) where
   pub decodes-short : (length row ≡ single_count → ⊥) → DecodesFlat s first_len row bad_words row
   decodes-short h = sets-refused (counted-not row single_count (decode_row s first_len) h) refl
 
-  module _ (a : RowRead) (h : length row ≡ single_count) (d : Decodes s first_len a) where
-    pub decodes-good : {r : Row} {row' : List ℕ} → a ≡ ReadRow r → row' ≡ single_words (row_from r) → DecodesFlat s first_len row 0 row'
+  module _ (a : Result Row Refusal) (h : length row ≡ single_count) (d : Decodes s first_len a) where
+    pub decodes-good : {r : Row} {row' : List ℕ} → a ≡ Ok r → row' ≡ single_words (row_from r) → DecodesFlat s first_len row 0 row'
     decodes-good {r} e q = sets-good (row_from r) (counted-so row single_count (decode_row s first_len) h ∙ yes says_row d e) q
 
-    pub decodes-refused : {y x : Refusal} {code : ℕ} → a ≡ RowRefused y → x ≡ refusal_of_row a → code ≡ number x → DecodesFlat s first_len row code row
-    decodes-refused {y} {x} e t q = sets-refused (counted-so row single_count (decode_row s first_len) h ∙ no says_row refusal_of_row d e refl t) q
+    pub decodes-refused : {x : Refusal} {code : ℕ} → a ≡ Err x → code ≡ number x → DecodesFlat s first_len row code row
+    decodes-refused e q = sets-refused (counted-so row single_count (decode_row s first_len) h ∙ yes says_row d e) q
 
 -- ---- the fit question
 
@@ -90,7 +81,7 @@ module _ (ws first : List ℕ) (data_len places_len : ℕ) (key value fs : List 
   pub fits_bad : offer_in ws first fs value ≡ refuse bad_words → FitsFlat ws first data_len places_len key value fs bad_words
   fits_bad e = sym (ap code_of (offer_bad ws first fs value (λ (o : Gain). would_fit o.builder data_len places_len key o.fields) e))
 
-  module _ (s : State) (f : RowFields) (a : Verdict) (e : offer_in ws first fs value ≡ ok (gain_is (view_from s first) (fields_from f value)))
+  module _ (s : State) (f : RowFields) (a : Result ⊤ Refusal) (e : offer_in ws first fs value ≡ ok (gain_is (view_from s first) (fields_from f value)))
       (p : FitsInPlace s first data_len places_len key value f a) where
     o : Offers ws first fs value s f
     o = offer-tells ws first fs value s f e
@@ -99,10 +90,10 @@ module _ (ws first : List ℕ) (data_len places_len : ℕ) (key value fs : List 
     said : says_verdict a ≡ would_fit (builder_from ws first) data_len places_len key (fields_from f value)
     said = rw (o.state, eq-eqb (length first) max_key o.long) at p
 
-    pub fits-yes : a ≡ Good → FitsFlat ws first data_len places_len key value fs 0
+    pub fits-yes : a ≡ Ok tt → FitsFlat ws first data_len places_len key value fs 0
     fits-yes z = rw (eq-eqb (length ws) builder_count o.count, eq-eqb (length first) max_key o.long, o.fields) (sym (ap code_of (yes says_verdict said z)))
 
-    pub fits_refused : {x : Refusal} {code : ℕ} → a ≡ Refused x → code ≡ number x → FitsFlat ws first data_len places_len key value fs code
+    pub fits_refused : {x : Refusal} {code : ℕ} → a ≡ Err x → code ≡ number x → FitsFlat ws first data_len places_len key value fs code
     fits_refused {x} z q = rw (eq-eqb (length ws) builder_count o.count, eq-eqb (length first) max_key o.long, o.fields) (q ∙ sym (ap code_of (yes says_verdict said z)))
 
 -- ---- adding
@@ -110,25 +101,25 @@ module _ (ws first : List ℕ) (data_len places_len : ℕ) (key value fs : List 
 abbrev gained : Fields → Builder → Res Gain
 gained f w = ok (gain_is w f)
 
-module _ (s : State) (ws first bytes places : List ℕ) (key : Key) (f : Fields) (r : Grown) (first' bytes' places' : List ℕ) where
-  grown-good : (want : Res Builder) → AddsInPlaceAs want s first bytes places key f r first' bytes' places' → {ws' : List ℕ} → r.answer ≡ Good
-      → ws' ≡ builder_words (view_from r.state []) → AddsAs (bind want (gained f)) (view_from s first) key ws first bytes places 0 ws' first' bytes' places'
+module _ (s : State) (ws first bytes places : List ℕ) (key : Key) (f : Fields) (r : Result State Refusal) (first' bytes' places' : List ℕ) where
+  grown-good : (want : Res Builder) → AddsInPlaceAs want s first bytes places key f r first' bytes' places' → {t : State} {ws' : List ℕ} → r ≡ Ok t
+      → ws' ≡ builder_words (view_from t []) → AddsAs (bind want (gained f)) (view_from s first) key ws first bytes places 0 ws' first' bytes' places'
   grown-good (ok w) p e q =
       record {
         answer = refl;
-        state = q ∙ ap (λ (x : State). builder_words (view_from x [])) p.state;
+        state = q ∙ ap (λ (x : State). builder_words (view_from x [])) (sym (ok-inj (yes says_same p.answer e)));
         first-after = p.first-after;
         bytes_after = p.bytes_after;
         places-after = p.places-after;
       }
-  grown-good (refuse n) p e q = absurd (apart (sym (yes says_verdict p.answer e)))
+  grown-good (refuse n) p e q = absurd (apart (sym (yes says_same p.answer e)))
 
-  grown-refused : (want : Res Builder) → AddsInPlaceAs want s first bytes places key f r first' bytes' places' → {x : Refusal} {code : ℕ} → r.answer ≡ Refused x
+  grown-refused : (want : Res Builder) → AddsInPlaceAs want s first bytes places key f r first' bytes' places' → {x : Refusal} {code : ℕ} → r ≡ Err x
       → code ≡ number x → AddsAs (bind want (gained f)) (view_from s first) key ws first bytes places code ws first' bytes' places'
-  grown-refused (ok w) p e q = absurd (apart (yes says_verdict p.answer e))
+  grown-refused (ok w) p e q = absurd (apart (yes says_same p.answer e))
   grown-refused (refuse n) p e q =
       record {
-        answer = q ∙ sym (ap code_of (yes says_verdict p.answer e));
+        answer = q ∙ sym (ap code_of (yes says_same p.answer e));
         state = refl;
         first-after = p.first-after;
         bytes_after = p.bytes_after;
@@ -150,12 +141,12 @@ module _ (ws first bytes places key value fs : List ℕ) where
         → AddsFlat ws first bytes places key value fs code ws' first' bytes' places'
     asked a = rw (eq-eqb (length ws) builder_count h, eq-eqb (length first) max_key k, is) a
 
-    module _ (r : Grown) (first' bytes' places' : List ℕ) (p : AddsInPlace (state_in ws) first bytes places key value f r first' bytes' places') where
+    module _ (r : Result State Refusal) (first' bytes' places' : List ℕ) (p : AddsInPlace (state_in ws) first bytes places key value f r first' bytes' places') where
       whole : AddsInPlaceAs wanted (state_in ws) first bytes places key (fields_from f value) r first' bytes' places'
       whole = rw (eq-eqb (length first) max_key k) at p
 
-      pub adds-good : {ws' : List ℕ} → r.answer ≡ Good → ws' ≡ builder_words (view_from r.state []) → AddsFlat ws first bytes places key value fs 0 ws' first' bytes' places'
+      pub adds-good : {t : State} {ws' : List ℕ} → r ≡ Ok t → ws' ≡ builder_words (view_from t []) → AddsFlat ws first bytes places key value fs 0 ws' first' bytes' places'
       adds-good e q = asked (grown-good (state_in ws) ws first bytes places key (fields_from f value) r first' bytes' places' wanted whole e q)
 
-      pub adds-refused : {x : Refusal} {code : ℕ} → r.answer ≡ Refused x → code ≡ number x → AddsFlat ws first bytes places key value fs code ws first' bytes' places'
+      pub adds-refused : {x : Refusal} {code : ℕ} → r ≡ Err x → code ≡ number x → AddsFlat ws first bytes places key value fs code ws first' bytes' places'
       adds-refused e q = asked (grown-refused (state_in ws) ws first bytes places key (fields_from f value) r first' bytes' places' wanted whole e q)

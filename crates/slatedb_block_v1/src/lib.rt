@@ -10,16 +10,7 @@ ghost use Rattle.row_words.specs.Words.{done_code};
 ghost use Rattle.cursor_words_v1.specs.Words.{cursor_count};
 ghost use Rattle.slatedb_block_v1.specs.Promise.{SizesFlat, EncodesFlat, DecodesFlat, MakesFlat, FitsFlat, AddsFlat, EmptiesFlat, BuildsFlat, ChecksFlat, OpensFlat, TellsFlat, StepsFlat, SeeksFlat, SeeksAs, landed};
 
-use basics::Verdict;
-use block_check_v2::Checked;
-use block_iterator::{BlockIterator, EmptyRead, NextAnswer, SeekAnswer};
-use builder_words_v1::{OfferRead, StateRead};
-use cursor_words_v1::{CursorRead, OrderRead};
-use finish_in_place_v2::BuildAnswer;
-use row_decode_v2::RowRead;
-use row_encode_v2::Encoded;
-use row_size_v2::Sized;
-use row_words::FieldsRead;
+use block_iterator::BlockIterator;
 
 // ---- codes: beside these, the number of a refusal
 
@@ -42,20 +33,23 @@ pub extern "C" fn slatedb_v1_encoded_size(
 ) -> u8
     ensures { SizesFlat shared key_suffix_len value_len fields.now count.old result count.new }
 {
-    let loaded = row_words::fields_in(fields);
-    let FieldsRead::Is(row) = loaded else {
+    let Some(row) = row_words::fields_in(fields) else {
         return BAD_WORDS;
     };
-    let kind = row.kind;
-    let expire = row.expire;
-    let create = row.create;
-    let sized = row_size_v0::encoded_size(shared, key_suffix_len, kind, value_len, expire, create);
+    let sized = row_size_v0::encoded_size(
+        shared,
+        key_suffix_len,
+        row.kind,
+        value_len,
+        row.expire,
+        row.create,
+    );
     match sized {
-        Sized::Bytes(n) => {
+        Ok(n) => {
             *count = n as u64;
             GOOD
         }
-        Sized::Refused(refusal) => basics::number(refusal),
+        Err(refusal) => u8::from(refusal),
     }
 }
 
@@ -72,17 +66,15 @@ pub extern "C" fn slatedb_v1_encode(
 ) -> u8
     ensures { EncodesFlat first_key_len shared key_suffix.now value.now fields.now output.old count.old result output.new count.new }
 {
-    let loaded = row_words::fields_in(fields);
-    let FieldsRead::Is(row) = loaded else {
+    let Some(row) = row_words::fields_in(fields) else {
         return BAD_WORDS;
     };
-    let encoded = row_encode_v0::encode(output, first_key_len, shared, key_suffix, value, row);
-    match encoded {
-        Encoded::Bytes(n) => {
+    match row_encode_v0::encode(output, first_key_len, shared, key_suffix, value, row) {
+        Ok(n) => {
             *count = n as u64;
             GOOD
         }
-        Encoded::Refused(refusal) => basics::number(refusal),
+        Err(refusal) => u8::from(refusal),
     }
 }
 
@@ -94,12 +86,13 @@ pub extern "C" fn slatedb_v1_decode(input: &[u8], first_key_len: usize, single: 
     if single.len() != row_words::SINGLE_WORDS {
         return BAD_WORDS;
     }
-    let read = row_decode_v0::decode(input, first_key_len);
-    let RowRead::Read(r) = read else {
-        return basics::number(row_decode_v2::row_refusal(read));
-    };
-    row_words::put_single(single, r);
-    GOOD
+    match row_decode_v0::decode(input, first_key_len) {
+        Ok(r) => {
+            row_words::put_single(single, r);
+            GOOD
+        }
+        Err(refusal) => u8::from(refusal),
+    }
 }
 
 // ---- building a block
@@ -113,13 +106,12 @@ pub extern "C" fn slatedb_v1_builder_new(builder: &mut [u64], block_size: usize)
         return BAD_WORDS;
     }
     let new = state_v1::new_state(block_size);
-    let answer = new.answer;
-    match answer {
-        Verdict::Good => {
+    match new.answer {
+        Ok(()) => {
             builder_words_v1::put_state(builder, new.state);
             GOOD
         }
-        Verdict::Refused(refusal) => basics::number(refusal),
+        Err(refusal) => u8::from(refusal),
     }
 }
 
@@ -136,22 +128,21 @@ pub extern "C" fn slatedb_v1_builder_would_fit(
 ) -> u8
     ensures { FitsFlat builder.now first_key.now data_len offsets_len key.now value.now fields.now result }
 {
-    let loaded = builder_words_v1::offer_in(builder, first_key, fields);
-    let OfferRead::Is { state: s, row } = loaded else {
+    let Some(offer) = builder_words_v1::offer_in(builder, first_key, fields) else {
         return BAD_WORDS;
     };
     let fit = build_in_place_v1::would_fit_in_place(
         first_key,
-        s,
+        offer.state,
         data_len,
         offsets_len,
         key,
         value,
-        row,
+        offer.row,
     );
     match fit {
-        Verdict::Good => GOOD,
-        Verdict::Refused(refusal) => basics::number(refusal),
+        Ok(()) => GOOD,
+        Err(refusal) => u8::from(refusal),
     }
 }
 
@@ -168,18 +159,24 @@ pub extern "C" fn slatedb_v1_builder_add(
 ) -> u8
     ensures { AddsFlat builder.old first_key.old «data».old offsets.old key.now value.now fields.now result builder.new first_key.new «data».new offsets.new }
 {
-    let loaded = builder_words_v1::offer_in(builder, first_key, fields);
-    let OfferRead::Is { state: s, row } = loaded else {
+    let Some(offer) = builder_words_v1::offer_in(builder, first_key, fields) else {
         return BAD_WORDS;
     };
-    let grown = build_in_place_v1::add_in_place(first_key, s, data, offsets, key, value, row);
-    let answer = grown.answer;
-    match answer {
-        Verdict::Good => {
-            builder_words_v1::put_state(builder, grown.state);
+    let grown = build_in_place_v1::add_in_place(
+        first_key,
+        offer.state,
+        data,
+        offsets,
+        key,
+        value,
+        offer.row,
+    );
+    match grown {
+        Ok(state) => {
+            builder_words_v1::put_state(builder, state);
             GOOD
         }
-        Verdict::Refused(refusal) => basics::number(refusal),
+        Err(refusal) => u8::from(refusal),
     }
 }
 
@@ -188,8 +185,7 @@ pub extern "C" fn slatedb_v1_builder_add(
 pub extern "C" fn slatedb_v1_builder_is_empty(builder: &[u64], empty: &mut u64) -> u8
     ensures { EmptiesFlat builder.now empty.old result empty.new }
 {
-    let words = builder_words_v1::state_in(builder);
-    let StateRead::Is(s) = words else {
+    let Some(s) = builder_words_v1::state_in(builder) else {
         return BAD_WORDS;
     };
     *empty = row_words::truth_word(state_v1::is_empty_state(s));
@@ -206,17 +202,15 @@ pub extern "C" fn slatedb_v1_builder_build(
 ) -> u8
     ensures { BuildsFlat builder.now «data».old offsets.now count.old result «data».new count.new }
 {
-    let words = builder_words_v1::state_in(builder);
-    let StateRead::Is(s) = words else {
+    let Some(s) = builder_words_v1::state_in(builder) else {
         return BAD_WORDS;
     };
-    let built = finish_in_place_v1::build_in_place(s, data, offsets);
-    match built {
-        BuildAnswer::Block(len) => {
+    match finish_in_place_v1::build_in_place(s, data, offsets) {
+        Ok(len) => {
             *count = len as u64;
             GOOD
         }
-        BuildAnswer::Refused(refusal) => basics::number(refusal),
+        Err(refusal) => u8::from(refusal),
     }
 }
 
@@ -227,13 +221,12 @@ pub extern "C" fn slatedb_v1_builder_build(
 pub extern "C" fn slatedb_v1_check(block: &[u8], count: &mut u64) -> u8
     ensures { ChecksFlat block.now count.old result count.new }
 {
-    let checked = block_check_v1::check(block);
-    match checked {
-        Checked::Rows(rows) => {
+    match block_check_v1::check(block) {
+        Ok(rows) => {
             *count = rows as u64;
             GOOD
         }
-        Checked::Refused(refusal) => basics::number(refusal),
+        Err(refusal) => u8::from(refusal),
     }
 }
 
@@ -245,18 +238,16 @@ pub extern "C" fn slatedb_v1_open(block: &[u8], order: u64, cursor: &mut [u64]) 
     if cursor.len() != cursor_words_v1::CURSOR_WORDS {
         return BAD_WORDS;
     }
-    let ordered = cursor_words_v1::order_in(order);
-    let OrderRead::Is(o) = ordered else {
+    let Some(o) = row_words::order_in(order) else {
         return BAD_WORDS;
     };
     let opened = BlockIterator::new(block, o);
-    let answer = opened.answer;
-    match answer {
-        Verdict::Good => {
+    match opened.answer {
+        Ok(()) => {
             cursor_words_v1::put_cursor(cursor, opened.iterator);
             GOOD
         }
-        Verdict::Refused(refusal) => basics::number(refusal),
+        Err(refusal) => u8::from(refusal),
     }
 }
 
@@ -265,17 +256,15 @@ pub extern "C" fn slatedb_v1_open(block: &[u8], order: u64, cursor: &mut [u64]) 
 pub extern "C" fn slatedb_v1_is_empty(block: &[u8], cursor: &[u64], empty: &mut u64) -> u8
     ensures { TellsFlat block.now cursor.now empty.old result empty.new }
 {
-    let loaded = cursor_words_v1::cursor_in(cursor);
-    let CursorRead::Is(c) = loaded else {
+    let Some(c) = cursor_words_v1::cursor_in(cursor) else {
         return BAD_WORDS;
     };
-    let read = c.is_empty(block);
-    match read {
-        EmptyRead::Is(b) => {
+    match c.is_empty(block) {
+        Ok(b) => {
             *empty = row_words::truth_word(b);
             GOOD
         }
-        EmptyRead::Refused(refusal) => basics::number(refusal),
+        Err(refusal) => u8::from(refusal),
     }
 }
 
@@ -292,23 +281,20 @@ pub extern "C" fn slatedb_v1_next(
     if row.len() != cursor_words_v1::ROW_WORDS {
         return BAD_WORDS;
     }
-    let loaded = cursor_words_v1::cursor_in(cursor);
-    let CursorRead::Is(c) = loaded else {
+    let Some(c) = cursor_words_v1::cursor_in(cursor) else {
         return BAD_WORDS;
     };
     let next = c.next(block, out);
-    let answer = next.answer;
-    match answer {
-        NextAnswer::Found { number, row: r } => {
+    match next.answer {
+        Ok(stepped) => {
             cursor_words_v1::put_cursor(cursor, next.iterator);
-            cursor_words_v1::put_row(row, number, r);
+            let Some(found) = stepped else {
+                return DONE;
+            };
+            cursor_words_v1::put_row(row, found.number, found.row);
             GOOD
         }
-        NextAnswer::Done => {
-            cursor_words_v1::put_cursor(cursor, next.iterator);
-            DONE
-        }
-        NextAnswer::Refused(refusal) => basics::number(refusal),
+        Err(refusal) => u8::from(refusal),
     }
 }
 
@@ -324,14 +310,13 @@ fn put_sought(block: &[u8], cursor: &mut [u64], reads: &mut u64, c: BlockIterato
     requires { length cursor.old ≡ cursor_count }
     ensures { SeeksAs (landed block.now (sought_is (view_of c) n)) cursor.old reads.old result cursor.new reads.new }
 {
-    let left = c.is_empty(block);
-    match left {
-        EmptyRead::Is(over) => {
+    match c.is_empty(block) {
+        Ok(over) => {
             cursor_words_v1::put_cursor(cursor, c);
             *reads = n as u64;
             landed_code(over)
         }
-        EmptyRead::Refused(refusal) => basics::number(refusal),
+        Err(refusal) => u8::from(refusal),
     }
 }
 
@@ -346,14 +331,12 @@ pub extern "C" fn slatedb_v1_seek(
 ) -> u8
     ensures { SeeksFlat block.now target.now cursor.old reads.old result cursor.new reads.new }
 {
-    let loaded = cursor_words_v1::cursor_in(cursor);
-    let CursorRead::Is(c) = loaded else {
+    let Some(c) = cursor_words_v1::cursor_in(cursor) else {
         return BAD_WORDS;
     };
     let sought = c.seek(block, target);
-    let answer = sought.answer;
-    match answer {
-        SeekAnswer::Landed(n) => put_sought(block, cursor, reads, sought.iterator, n),
-        SeekAnswer::Refused(refusal) => basics::number(refusal),
+    match sought.answer {
+        Ok(n) => put_sought(block, cursor, reads, sought.iterator, n),
+        Err(refusal) => u8::from(refusal),
     }
 }

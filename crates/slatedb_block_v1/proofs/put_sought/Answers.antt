@@ -4,10 +4,10 @@ use Rattle.row_words.proofs.Laws.{stored}
 use Rattle.slatedb_block_v1.proofs.Steps.{lands, lands-not}
 use Rattle.slatedb_block_v1.proofs.put_sought.Goals as goal
 
-pub returns-in-Is : goal.returns-in-Is
-returns-in-Is c =
-    lands _ c.args.cursor.now _ _ c.args.c _ c.is_empty-left.ensures c.in-Is.is c.landed_code.ensures (stored c.requires c.put_cursor.ensures)
+pub returns-in-Ok : goal.returns-in-Ok
+returns-in-Ok c =
+    lands _ c.args.cursor.now _ _ c.args.c _ c.is_empty.ensures c.in-Ok.is c.landed_code.ensures (stored c.requires c.put_cursor.ensures)
 
-pub returns-in-Refused : goal.returns-in-Refused
-returns-in-Refused c =
-    lands-not _ c.args.cursor.now _ _ c.args.c _ c.is_empty-left.ensures c.in-Refused.is c.number.ensures
+pub returns-in-Err : goal.returns-in-Err
+returns-in-Err c =
+    lands-not _ c.args.cursor.now _ _ c.args.c _ c.is_empty.ensures c.in-Err.is c.from.ensures

@@ -7,12 +7,12 @@ use Rattle.slatedb_block_v1.proofs.Rows.{sizes_bad, sizes-good, sizes-refused}
 use Rattle.slatedb_block_v1.proofs.slatedb_v1_encoded_size.Goals as goal
 
 pub returns-in_default : goal.returns-in_default
-returns-in_default c = sizes_bad _ _ _ c.args.fields.now _ (yes (says_fields []) (c.fields_in-loaded.ensures []) c.in_default.is)
+returns-in_default c = sizes_bad _ _ _ c.args.fields.now _ (yes (says_fields []) (c.fields_in.ensures []) c.in_default.is)
 
-pub returns-in-Bytes : goal.returns-in-Bytes
-returns-in-Bytes c =
-    sizes-good _ _ _ c.args.fields.now _ c.in-Is.row _ (yes (says_fields []) (c.fields_in-loaded.ensures []) c.in-Is.is) c.encoded_size-sized.ensures c.in-Bytes.is
+pub returns-in-Ok : goal.returns-in-Ok
+returns-in-Ok c =
+    sizes-good _ _ _ c.args.fields.now _ c.in-Some.row _ (yes (says_fields []) (c.fields_in.ensures []) c.in-Some.is) c.encoded_size-sized.ensures c.in-Ok.is
 
-pub returns-in-Refused : goal.returns-in-Refused
-returns-in-Refused c =
-    sizes-refused _ _ _ c.args.fields.now _ c.in-Is.row _ (yes (says_fields []) (c.fields_in-loaded.ensures []) c.in-Is.is) c.encoded_size-sized.ensures c.in-Refused.is c.number.ensures
+pub returns-in-Err : goal.returns-in-Err
+returns-in-Err c =
+    sizes-refused _ _ _ c.args.fields.now _ c.in-Some.row _ (yes (says_fields []) (c.fields_in.ensures []) c.in-Some.is) c.encoded_size-sized.ensures c.in-Err.is c.from.ensures
