@@ -1,9 +1,7 @@
 // What is built: rows offered to a builder over buffers that hold something before, and the finished block.
-use crate::say;
-use basics::{Kind, Time, Verdict};
+use basics::Kind;
 use block_v1::BlockBuilderV1;
-use finish_in_place_v2::BuildAnswer;
-use replay_text::show;
+use replay_text::{say, show};
 use row_flags::RowFields;
 use state_v1::State;
 use std::io;
@@ -12,8 +10,8 @@ fn value(seq: u64) -> RowFields {
     RowFields {
         kind: Kind::Value,
         seq,
-        expire: Time::Absent,
-        create: Time::Absent,
+        expire: None,
+        create: None,
     }
 }
 
@@ -27,13 +25,12 @@ fn add(
     bytes: &[u8],
     row: RowFields,
 ) -> io::Result<BlockBuilderV1> {
-    let r = builder.add(data, offsets, key, bytes, row);
-    let answer = r.answer;
-    match answer {
-        Verdict::Good => say::line(rt, b"taken")?,
-        Verdict::Refused(refusal) => say::refusal(rt, refusal)?,
+    let added = builder.add(data, offsets, key, bytes, row);
+    match added.answer {
+        Ok(()) => println!(rt; "taken")?,
+        Err(r) => say::refusal(rt, r)?,
     }
-    Ok(r.builder)
+    Ok(added.builder)
 }
 
 fn built(
@@ -42,20 +39,18 @@ fn built(
     data: &mut [u8],
     offsets: &[u16],
 ) -> io::Result<()> {
-    let answer = builder.build(data, offsets).answer;
-    match answer {
-        BuildAnswer::Block(n) => {
-            say::count(rt, b"", n)?;
-            show::text(rt, b" bytes: ")?;
+    match builder.build(data, offsets).answer {
+        Ok(n) => {
+            print!(rt; "{n} bytes: ")?;
             show::bytes(rt, data, 0, n)?;
-            show::text(rt, b"\n")
+            println!(rt;)
         }
-        BuildAnswer::Refused(r) => say::refusal(rt, r),
+        Err(r) => say::refusal(rt, r),
     }
 }
 
 pub fn three_rows(rt: &impl Print) -> io::Result<()> {
-    say::line(rt, b"keys a, ab and b")?;
+    println!(rt; "keys a, ab and b")?;
     let mut data = [255u8; 96];
     let mut offsets = [255u16; 4];
     let fresh = BlockBuilderV1::new(4096).builder;
@@ -94,28 +89,28 @@ fn row_at(rt: &impl Print, used: usize) -> io::Result<()> {
 }
 
 pub fn sizes(rt: &impl Print) -> io::Result<()> {
-    say::line(rt, b"block size 41: the block may be 2 bytes over")?;
+    println!(rt; "block size 41: the block may be 2 bytes over")?;
     two_rows(rt, 41, b"x", value(2))?;
-    say::line(rt, b"block sizes 40 and 0")?;
+    println!(rt; "block sizes 40 and 0")?;
     two_rows(rt, 40, b"x", value(2))?;
     two_rows(rt, 0, b"x", value(2))?;
-    say::line(rt, b"no row")?;
+    println!(rt; "no row")?;
     let mut data = [255u8; 96];
     let offsets = [255u16; 4];
     built(rt, BlockBuilderV1::new(0).builder, &mut data, &offsets)?;
-    say::line(rt, b"a row at 65535, and at 65536")?;
+    println!(rt; "a row at 65535, and at 65536")?;
     row_at(rt, 65535)?;
     row_at(rt, 65536)
 }
 
 // Two bytes are offered for it, and not written.
 pub fn tombstone(rt: &impl Print) -> io::Result<()> {
-    say::line(rt, b"a tombstone with both times")?;
+    println!(rt; "a tombstone with both times")?;
     let held = RowFields {
         kind: Kind::Tombstone,
         seq: 2,
-        expire: Time::At(7),
-        create: Time::At(-1),
+        expire: Some(7),
+        create: Some(-1),
     };
     two_rows(rt, 4096, b"xy", held)
 }

@@ -5,7 +5,6 @@
 mod building;
 mod damaged;
 mod reading;
-mod say;
 
 use std::io;
 

@@ -1,75 +1,76 @@
 // What is read: blocks checked, walked and sought in, both ways. Of each row its number, its key, what it holds, and how many rows the cursor has passed then.
-use crate::say;
-use basics::{IterationOrder, Verdict};
-use block_check_v2::Checked;
-use block_iterator::{BlockIterator, EmptyRead, NextAnswer, SeekAnswer};
-use replay_text::show;
+use basics::IterationOrder;
+use block_iterator::BlockIterator;
+use replay_text::{say, show};
 use std::io;
 
 pub fn checked(rt: &impl Print, block: &[u8]) -> io::Result<()> {
     match block_check_v1::check(block) {
-        Checked::Rows(n) => {
-            say::count(rt, b"accepted, rows: ", n)?;
-            show::text(rt, b"\n")
-        }
-        Checked::Refused(r) => say::refusal(rt, r),
+        Ok(n) => println!(rt; "accepted, rows: {n}"),
+        Err(r) => say::refusal(rt, r),
     }
 }
 
 fn passed(rt: &impl Print, c: BlockIterator) -> io::Result<()> {
-    say::count(rt, b", passed ", c.passed)?;
-    show::text(rt, b"\n")
+    println!(rt; ", passed {}", c.passed)
 }
 
 // One step, and what it gives.
 pub fn step(rt: &impl Print, cursor: BlockIterator, block: &[u8]) -> io::Result<BlockIterator> {
     let mut key = [0u8; 8];
     let next = cursor.next(block, &mut key);
-    let answer = next.answer;
-    match answer {
-        NextAnswer::Found { number, row } => {
-            say::count(rt, b"row ", number)?;
-            show::text(rt, b" ")?;
-            let len = row.shared.wrapping_add(row.suffix_len);
-            show::bytes(rt, &key, 0, len)?;
+    match next.answer {
+        Ok(Some(found)) => {
+            let row = found.row;
+            print!(rt; "row {} ", found.number)?;
+            show::bytes(rt, &key, 0, row.shared.wrapping_add(row.suffix_len))?;
             show::row(rt, block, row)?;
             passed(rt, next.iterator)?;
         }
-        NextAnswer::Done => {
-            show::text(rt, b"done")?;
+        Ok(None) => {
+            print!(rt; "done")?;
             passed(rt, next.iterator)?;
         }
-        NextAnswer::Refused(r) => say::refusal(rt, r)?,
+        Err(r) => say::refusal(rt, r)?,
     }
     Ok(next.iterator)
+}
+
+// So many steps.
+fn steps(
+    rt: &impl Print,
+    cursor: BlockIterator,
+    block: &[u8],
+    n: usize,
+) -> io::Result<BlockIterator> {
+    let mut at = cursor;
+    for _ in 0..n {
+        at = step(rt, at, block)?;
+    }
+    Ok(at)
 }
 
 // A block opened, and three steps. A refused one leaves the cursor.
 pub fn walk(rt: &impl Print, block: &[u8], order: IterationOrder) -> io::Result<BlockIterator> {
     let opened = BlockIterator::new(block, order);
-    let answer = opened.answer;
-    match answer {
-        Verdict::Good => say::line(rt, b"opened")?,
-        Verdict::Refused(r) => say::refusal(rt, r)?,
+    match opened.answer {
+        Ok(()) => println!(rt; "opened")?,
+        Err(r) => say::refusal(rt, r)?,
     }
-    let one = step(rt, opened.iterator, block)?;
-    let two = step(rt, one, block)?;
-    step(rt, two, block)
+    steps(rt, opened.iterator, block, 3)
 }
 
 // A seek, and the step after it. Of the cursor only the order counts.
 pub fn seek(rt: &impl Print, block: &[u8], order: IterationOrder, target: &[u8]) -> io::Result<()> {
     let cursor = BlockIterator { order, passed: 9 };
     let sought = cursor.seek(block, target);
-    let answer = sought.answer;
-    match answer {
-        SeekAnswer::Landed(reads) => {
-            say::count(rt, b"keys read ", reads)?;
-            show::text(rt, b": ")?;
+    match sought.answer {
+        Ok(reads) => {
+            print!(rt; "keys read {reads}: ")?;
             step(rt, sought.iterator, block)?;
             Ok(())
         }
-        SeekAnswer::Refused(r) => say::refusal(rt, r),
+        Err(r) => say::refusal(rt, r),
     }
 }
 
@@ -87,17 +88,15 @@ fn block_of_three() -> [u8; 63] {
 
 fn walks_and_seeks(rt: &impl Print, block: &[u8]) -> io::Result<()> {
     checked(rt, block)?;
-    say::line(rt, b"forwards, and two steps more")?;
+    println!(rt; "forwards, and two steps more")?;
     let up = walk(rt, block, IterationOrder::Ascending)?;
-    let up_again = step(rt, up, block)?;
-    step(rt, up_again, block)?;
-    say::line(rt, b"backwards")?;
+    steps(rt, up, block, 2)?;
+    println!(rt; "backwards")?;
     let down = walk(rt, block, IterationOrder::Descending)?;
-    let down_again = step(rt, down, block)?;
-    step(rt, down_again, block)?;
-    say::line(rt, b"sought up: ab, aa, c, nothing")?;
+    steps(rt, down, block, 2)?;
+    println!(rt; "sought up: ab, aa, c, nothing")?;
     all_targets(rt, block, IterationOrder::Ascending)?;
-    say::line(rt, b"down")?;
+    println!(rt; "down")?;
     all_targets(rt, block, IterationOrder::Descending)
 }
 
@@ -108,7 +107,7 @@ pub fn three_rows(rt: &impl Print) -> io::Result<()> {
 
 // As `building` has it.
 pub fn tombstone(rt: &impl Print) -> io::Result<()> {
-    say::line(rt, b"the tombstone's block")?;
+    println!(rt; "the tombstone's block")?;
     let block =
         b"\x00\x00\x00\x01a\x00\x00\x00\x00\x00\x00\x00\x01\x00\x00\x00\x00\x00\x00\x01\x00\x01b\x00\x00\x00\x00\x00\x00\x00\x02\x07\x00\x00\x00\x00\x00\x00\x00\x07\xFF\xFF\xFF\xFF\xFF\xFF\xFF\xFF\x00\x00\x00\x12\x00\x02";
     checked(rt, block)?;
@@ -127,7 +126,7 @@ fn twice(first: u8, second: u8) -> [u8; 41] {
 }
 
 pub fn equal_keys(rt: &impl Print) -> io::Result<()> {
-    say::line(rt, b"one key twice, numbers 2 and 1, 2 and 2, 1 and 2")?;
+    println!(rt; "one key twice, numbers 2 and 1, 2 and 2, 1 and 2")?;
     let falling = twice(2, 1);
     checked(rt, &falling)?;
     let equal = twice(2, 2);
@@ -139,17 +138,10 @@ pub fn equal_keys(rt: &impl Print) -> io::Result<()> {
 }
 
 fn empty(rt: &impl Print, block: &[u8], order: IterationOrder, passed: usize) -> io::Result<()> {
-    let cursor = BlockIterator { order, passed };
-    let read = cursor.is_empty(block);
-    match read {
-        EmptyRead::Is(all) => {
-            if all {
-                say::line(rt, b"empty")
-            } else {
-                say::line(rt, b"not empty")
-            }
-        }
-        EmptyRead::Refused(r) => say::refusal(rt, r),
+    match (BlockIterator { order, passed }).is_empty(block) {
+        Ok(true) => println!(rt; "empty"),
+        Ok(false) => println!(rt; "not empty"),
+        Err(r) => say::refusal(rt, r),
     }
 }
 
@@ -161,10 +153,7 @@ fn four_passed(rt: &impl Print, block: &[u8], order: IterationOrder) -> io::Resu
 }
 
 pub fn forged(rt: &impl Print) -> io::Result<()> {
-    say::line(
-        rt,
-        b"four rows of three passed; then is_empty with 4, 3 and 2 passed",
-    )?;
+    println!(rt; "four rows of three passed; then is_empty with 4, 3 and 2 passed")?;
     let block = block_of_three();
     four_passed(rt, &block, IterationOrder::Ascending)?;
     four_passed(rt, &block, IterationOrder::Descending)
