@@ -62,10 +62,10 @@ fn append_whole(buffer: &mut [u8], used: usize, record: Record) -> Result<usize,
 pub fn append(buffer: &mut [u8], used: usize, record: Record) -> Result<usize, Refusal>
     ensures { Appends buffer.old used «record» result buffer.new }
 {
-    if buffer.len() < used {
+    let Some(part) = buffer.get(..used) else {
         return Err(Refusal::UsedPastBuffer);
-    }
-    let reading = journal_read::read(&buffer[..used])?;
+    };
+    let reading = journal_read::read(part)?;
     match reading.tail {
         Some(_) => Err(Refusal::EndsInside),
         None => append_whole(buffer, used, record),

@@ -1,5 +1,5 @@
 -- `append` keeps its promise: 32 first, then what the reader says of the used part: its refusal (30, 31), a tail (33), or a whole part, after which the record goes.
-use Prim.Native.Nat.{ℕ, ◌≤◌}
+use Prim.Native.Nat.{ℕ, ◌-◌, ◌≤◌}
 use mathlib.Core.Path.{◌≡◌, refl, ap, sym, ◌∙◌}
 use mathlib.Core.List.{List}
 use native.Mathlib.Omega.{arith}
@@ -16,6 +16,7 @@ use Rattle.journal_append.specs.Append.{appended}
 use Rattle.journal_append.specs.Promise.{Appends}
 use Rattle.journal_append.specs.Parts.{Places}
 use Rattle.journal_append.specs.Laws.Append.{append-past, append-reads, place-refused, place-tail, place-whole, reading_is, reading_short}
+use Rattle.journal_append.proofs.append.Goals.{After-read}
 use Rattle.journal_append.proofs.append.Goals as goal
 
 module _ (buffer : List ℕ) (used : ℕ) (r : Record) (h : used ≤ length buffer) where
@@ -38,11 +39,15 @@ module _ (buffer : List ℕ) (used : ℕ) (r : Record) (h : used ≤ length buff
         bytes = p.bytes;
       }
 
-pub returns-then-buffer-used : goal.returns-then-buffer-used
-returns-then-buffer-used c = record { answer = append-past _ _ _ c.if-buffer-used.true; bytes = refl }
+pub returns-in_default : goal.returns-in_default
+returns-in_default c = record { answer = append-past _ _ _ (omega (arith, c.in_default.ensures.lookup)); bytes = refl }
 
-pub slice_bounds-read-end-2 : goal.slice_bounds-read-end-2
-slice_bounds-read-end-2 c = sym (length-take-le c.args.used c.args.buffer.now (omega arith))
+-- what was read is the used part
+part_of : (c : After-read) → (c.args.used ≤ length c.args.buffer.now) × (c.in-Some.part.now ≡ take c.args.used c.args.buffer.now)
+part_of c =
+    let l = c.in-Some.ensures.lookup.0 in
+    let all : c.args.used - 0 ≡ c.args.used = omega arith in
+    (l.1, l.2 ∙ ap (λ (n : ℕ). take n c.args.buffer.now) all)
 
 -- a refusal that is handed on
 handed : (x : Result ℕ Refusal) {q : Refusal} → IsErrAnd x (λ y. y ≡ q) → x ≡ Err q
@@ -50,20 +55,27 @@ handed x e = let p = err_from_is_err_and x e in p.1 ∙ ap Err p.2
 
 pub returns-in_err-reading : goal.returns-in_err-reading
 returns-in_err-reading c =
+    let p = part_of (goal.at.returns-in_err-reading c).After-read in
     let e = handed c.from_residual.result c.from_residual.ensures.1 in
     record {
-      answer = e ∙ says-no c.args.buffer.now c.args.used c.args.record c.if-buffer-used.false _ c.in_err-reading.ensures;
+      answer = e ∙ says-no c.args.buffer.now c.args.used c.args.record p.0 _ (c.in_err-reading.ensures ∙ ap reading_of p.1);
       bytes = rw e refl;
     }
 
-pub returns-in-Some : goal.returns-in-Some
-returns-in-Some c =
-    record { answer = says-tail c.args.buffer.now c.args.used c.args.record c.if-buffer-used.false c.in_ok-reading.reading _ c.in_ok-reading.ensures c.in-Some.is; bytes = refl }
+pub returns-in-Some-tail : goal.returns-in-Some-tail
+returns-in-Some-tail c =
+    let p = part_of (goal.at.returns-in-Some-tail c).After-read in
+    record {
+      answer = says-tail c.args.buffer.now c.args.used c.args.record p.0 c.in_ok-reading.reading _ (c.in_ok-reading.ensures ∙ ap reading_of p.1) c.in-Some-tail.is;
+      bytes = refl;
+    }
 
 pub append_whole-requires : goal.append_whole-requires
 append_whole-requires c =
-    (omega arith, says-short c.args.buffer.now c.args.used c.args.record c.if-buffer-used.false c.in_ok-reading.reading c.in_ok-reading.ensures)
+    let p = part_of (goal.at.append_whole-requires c).After-read in
+    (p.0, says-short c.args.buffer.now c.args.used c.args.record p.0 c.in_ok-reading.reading (c.in_ok-reading.ensures ∙ ap reading_of p.1))
 
 pub returns-in-None : goal.returns-in-None
 returns-in-None c =
-    says-whole c.args.buffer.now c.args.used c.args.record c.if-buffer-used.false c.in_ok-reading.reading c.in_ok-reading.ensures c.in-None.is c.append_whole.ensures
+    let p = part_of (goal.at.returns-in-None c).After-read in
+    says-whole c.args.buffer.now c.args.used c.args.record p.0 c.in_ok-reading.reading (c.in_ok-reading.ensures ∙ ap reading_of p.1) c.in-None.is c.append_whole.ensures
