@@ -5,7 +5,6 @@
 mod newest;
 mod reading;
 mod rows;
-mod say;
 
 use std::io;
 

@@ -1,18 +1,13 @@
 // Cases 8 to 10, and the walks both ways, on the block of keys a, b, b, b, c with interval 2. A row is known by where it starts.
-use crate::say;
 use basics::IterationOrder;
-use block_check_v2::Checked;
-use block_iterator_v2::{BlockIteratorV2, NextAnswer, SeekAnswer};
+use block_iterator_v2::{BlockIteratorV2, SeekAnswer};
+use replay_text::say;
 use std::io;
 
 pub fn checked(rt: &impl Print, block: &[u8]) -> io::Result<()> {
     match block_check_v2::check(block) {
-        Checked::Rows(n) => {
-            say::text(rt, b"accepted, rows: ")?;
-            say::number(rt, n as u64)?;
-            say::text(rt, b"\n")
-        }
-        Checked::Refused(r) => say::refusal(rt, r),
+        Ok(n) => println!(rt; "accepted, rows: {n}"),
+        Err(r) => say::refusal(rt, r),
     }
 }
 
@@ -32,73 +27,55 @@ fn number_of(start: usize) -> u64 {
 fn step(rt: &impl Print, cursor: BlockIteratorV2, block: &[u8]) -> io::Result<BlockIteratorV2> {
     let mut key = [0u8; 8];
     let next = cursor.next(block, &mut key);
-    let answer = next.answer;
-    match answer {
-        NextAnswer::Found {
-            region: _,
-            number: _,
-            row,
-        } => {
-            say::text(rt, b" row ")?;
-            say::number(rt, number_of(row.start))?;
-        }
-        NextAnswer::Done => say::text(rt, b" done")?,
-        NextAnswer::Refused(r) => say::refusal(rt, r)?,
+    match next.answer {
+        Ok(Some(found)) => print!(rt; " row {}", number_of(found.row.start))?,
+        Ok(None) => print!(rt; " done")?,
+        Err(r) => say::refusal(rt, r)?,
     }
     Ok(next.iterator)
 }
 
 // Five rows, and a step past them.
 fn walk(rt: &impl Print, block: &[u8], order: IterationOrder) -> io::Result<()> {
-    let open = BlockIteratorV2::new(block, order).iterator;
-    let one = step(rt, open, block)?;
-    let two = step(rt, one, block)?;
-    let three = step(rt, two, block)?;
-    let four = step(rt, three, block)?;
-    let five = step(rt, four, block)?;
-    step(rt, five, block)?;
-    say::text(rt, b"\n")
+    let mut cursor = BlockIteratorV2::new(block, order).iterator;
+    for _ in 0..6 {
+        cursor = step(rt, cursor, block)?;
+    }
+    println!(rt;)
 }
 
 fn seek(rt: &impl Print, block: &[u8], order: IterationOrder, target: &[u8]) -> io::Result<()> {
     let sought = BlockIteratorV2::new(block, order)
         .iterator
         .seek(block, target);
-    let answer = sought.answer;
-    match answer {
-        SeekAnswer::Landed(reads) => {
-            say::number(rt, reads as u64)?;
-            say::text(rt, b" keys read:")?;
-        }
-        SeekAnswer::Done(reads) => {
-            say::number(rt, reads as u64)?;
-            say::text(rt, b" keys read, none:")?;
-        }
-        SeekAnswer::Refused(r) => say::refusal(rt, r)?,
+    match sought.answer {
+        Ok(SeekAnswer::Landed(reads)) => print!(rt; "{reads} keys read:")?,
+        Ok(SeekAnswer::Done(reads)) => print!(rt; "{reads} keys read, none:")?,
+        Err(r) => say::refusal(rt, r)?,
     }
     step(rt, sought.iterator, block)?;
-    say::text(rt, b"\n")
+    println!(rt;)
 }
 
 fn both_ways(rt: &impl Print, block: &[u8], target: &[u8]) -> io::Result<()> {
-    say::text(rt, b"ascending: ")?;
+    print!(rt; "ascending: ")?;
     seek(rt, block, IterationOrder::Ascending, target)?;
-    say::text(rt, b"descending: ")?;
+    print!(rt; "descending: ")?;
     seek(rt, block, IterationOrder::Descending, target)
 }
 
 fn all_seeks(rt: &impl Print, block: &[u8]) -> io::Result<()> {
-    say::text(rt, b"forwards:")?;
+    print!(rt; "forwards:")?;
     walk(rt, block, IterationOrder::Ascending)?;
-    say::text(rt, b"backwards:")?;
+    print!(rt; "backwards:")?;
     walk(rt, block, IterationOrder::Descending)?;
-    say::text(rt, b"case 8, target b\n")?;
+    println!(rt; "case 8, target b")?;
     both_ways(rt, block, b"b")?;
-    say::text(rt, b"case 9, target bb\n")?;
+    println!(rt; "case 9, target bb")?;
     both_ways(rt, block, b"bb")?;
-    say::text(rt, b"case 10, target d\n")?;
+    println!(rt; "case 10, target d")?;
     both_ways(rt, block, b"d")?;
-    say::text(rt, b"case 10, empty target\n")?;
+    println!(rt; "case 10, empty target")?;
     both_ways(rt, block, b"")
 }
 

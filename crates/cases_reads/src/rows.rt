@@ -1,35 +1,30 @@
 // Cases 6 and 7, and the spellings of a number: numbers and rows by themselves.
-use crate::say;
-use row_decode_v2::{KeyRead, RowRead};
+use replay_text::say;
 use std::io;
-use utils_decode::VarintRead;
 
 fn number(rt: &impl Print, s: &[u8]) -> io::Result<()> {
     match utils_decode::decode_varint(s, 0) {
-        VarintRead::Number { value, next: _ } => {
-            say::number(rt, value as u64)?;
-            say::text(rt, b"\n")
-        }
-        VarintRead::Refused(r) => say::refusal(rt, r),
+        Ok(read) => println!(rt; "{}", read.value),
+        Err(r) => say::refusal(rt, r),
     }
 }
 
 pub fn numbers(rt: &impl Print) -> io::Result<()> {
-    say::text(rt, b"case 6\n")?;
+    println!(rt; "case 6")?;
     number(rt, b"\xFF\xFF\xFF\xFF\x0F")?;
     number(rt, b"\xFF\xFF\xFF\xFF\x10")
 }
 
 fn key(rt: &impl Print, s: &[u8]) -> io::Result<()> {
     match row_decode_v2::decode_key_only(s, 0, s.len(), 0, false) {
-        KeyRead::Read(_) => say::text(rt, b"a key\n"),
-        KeyRead::Refused(r) => say::refusal(rt, r),
+        Ok(_) => println!(rt; "a key"),
+        Err(r) => say::refusal(rt, r),
     }
 }
 
 // A number's bytes are those that are written for it: any other spelling is refused, in every length of a row.
 pub fn spellings(rt: &impl Print) -> io::Result<()> {
-    say::text(rt, b"one spelling for a number\n")?;
+    println!(rt; "one spelling for a number")?;
     number(rt, b"\x00")?;
     number(rt, b"\x80\x00")?;
     number(rt, b"\x80\x80\x80\x80\x00")?;
@@ -43,17 +38,13 @@ pub fn spellings(rt: &impl Print) -> io::Result<()> {
 
 fn read(rt: &impl Print, s: &[u8]) -> io::Result<()> {
     match row_decode_v2::decode(s, 0) {
-        RowRead::Read(found) => {
-            say::text(rt, b"a row up to ")?;
-            say::number(rt, found.next as u64)?;
-            say::text(rt, b"\n")
-        }
-        RowRead::Refused(r) => say::refusal(rt, r),
+        Ok(found) => println!(rt; "a row up to {}", found.next),
+        Err(r) => say::refusal(rt, r),
     }
 }
 
 pub fn flags(rt: &impl Print) -> io::Result<()> {
-    say::text(rt, b"case 7\n")?;
+    println!(rt; "case 7")?;
     read(rt, b"\x00\x01\x00a\x00\x00\x00\x00\x00\x00\x00\x01\x09")?;
     read(rt, b"\x00\x01\x00a\x00\x00\x00\x00\x00\x00\x00\x01\x10")
 }
