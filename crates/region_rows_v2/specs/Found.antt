@@ -1,6 +1,6 @@
 -- What a step in place tells a loop that makes many: the rules' own step, whatever room was lent for the key.
 -- A row, "done" and a refusal are told apart, so what was told leaves one case of the step that is wanted.
-use Rattle.std.specs.Prelude.{ℕ, ◌≤◌, ◌≡◌, refl, List, length}
+use Rattle.std.specs.Prelude.{ℕ, ◌≤◌, ◌≡◌, refl, List, length, Result, Ok, Err}
 use Rattle.std.proofs.Common.{ap, sym, ◌∙◌, arith, length-take-le}
 use Rattle.layout.specs.Res.{Res, ok, refuse, bind}
 use Rattle.layout.specs.Limits.{max_key}
@@ -21,7 +21,7 @@ use Rattle.step_in_place_v2.specs.Promise.{Moves, StepsInPlace}
 use Rattle.step_in_place_v2.specs.Says.{row, none, told, told_of, told-row, told-apart, says_moved, place_after}
 use Rattle.place_v2.specs.Says.{view_in}
 use Rattle.step_in_place_v2.specs.declared.Moved.{Moved}
-use Rattle.step_in_place_v2.specs.declared.Moved.TheVariants.{Found, Done, Refused}
+use Rattle.step_in_place_v2.specs.declared.Moved.TheVariants.{Found, Done}
 use Rattle.place_v2.specs.declared.Place.{Place}
 
 -- a row found, with its region and its number there: the step from c to d, and its key, which stands at the start of the lent bytes then
@@ -67,21 +67,21 @@ refuses (refuse n) {k} t = let same : n ≡ k = cc in ap refuse same
 
 -- ---- of a step in place, whose key bytes are as many as a key may have
 
-module _ (p : Place) (key b out : List ℕ) (r : Moved) (key' out' : List ℕ) (k : length key ≡ max_key) (m : StepsInPlace p key b out r key' out') where
+module _ (p : Place) (key b out : List ℕ) (r : Result Moved Refusal) (key' out' : List ℕ) (k : length key ≡ max_key) (m : StepsInPlace p key b out r key' out') where
   whole : Moves (next (view_in p key) b (length out)) p key out r key' out'
   whole = rw (lent-whole p key b (length out) k refl) at m
 
-  pub moved-finds : {q : Place} {region n : ℕ} {x : Row} → r ≡ Found q region n x → Finds b (view_in p key) (view_in q key') region n (row_from x) out out'
+  pub moved-finds : {q : Place} {region n : ℕ} {x : Row} → r ≡ Ok (Found q region n x) → Finds b (view_in p key) (view_in q key') region n (row_from x) out out'
   moved-finds {q} {region} {n} {x} e =
       finds b (view_in p key) (view_in q key') out out' (λ few. length-take-le p.key_len key (omega (arith, few, k))) region n (row_from x) (yes says_moved whole.answer e)
-      (sym (ap (λ (y : Moved). view_in (place_after y p) key') e) ∙ whole.view) whole.lent
+      (sym (ap (λ (y : Result Moved Refusal). view_in (place_after y p) key') e) ∙ whole.view) whole.lent
 
-  pub moved_ends : {q : Place} → r ≡ Done q → (next (view_in p key) b (length out) ≡ ok (step_is (view_in q key') done)) × (out' ≡ out)
+  pub moved_ends : {q : Place} → r ≡ Ok (Done q) → (next (view_in p key) b (length out) ≡ ok (step_is (view_in q key') done)) × (out' ≡ out)
   moved_ends {q} e =
-      ends b (view_in p key) (view_in q key') out out' (yes says_moved whole.answer e) (sym (ap (λ (y : Moved). view_in (place_after y p) key') e) ∙ whole.view) whole.lent
+      ends b (view_in p key) (view_in q key') out out' (yes says_moved whole.answer e) (sym (ap (λ (y : Result Moved Refusal). view_in (place_after y p) key') e) ∙ whole.view) whole.lent
 
   -- a refusal writes nothing
-  pub moved-refuses : {x : Refusal} → r ≡ Refused x → (next (view_in p key) b (length out) ≡ refuse (number x)) × (key' ≡ key) × (out' ≡ out)
+  pub moved-refuses : {x : Refusal} → r ≡ Err x → (next (view_in p key) b (length out) ≡ refuse (number x)) × (key' ≡ key) × (out' ≡ out)
   moved-refuses {x} e =
       let z = refuses (next (view_in p key) b (length out)) (yes says_moved whole.answer e) in
       (z, rw z at whole.whole, rw z at whole.lent)

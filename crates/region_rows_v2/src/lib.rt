@@ -39,20 +39,18 @@ pub fn bounds_of(block: &[u8], p: Place) -> Bounds
     if p.done {
         return no_bounds();
     }
-    let t = trailer::plain_trailer(block);
-    if t.count == 0 {
+    let Ok(t) = trailer::trailer_of(block) else {
         return no_bounds();
-    }
+    };
     if t.count <= p.region {
         return no_bounds();
     }
     if basics::MAX_KEY < p.key_len {
         return no_bounds();
     }
-    let region = trailer::plain_region(block, t, p.region);
-    if region.end == 0 {
+    let Ok(region) = trailer::region_of(block, t, p.region) else {
         return no_bounds();
-    }
+    };
     if p.at < region.start {
         return no_bounds();
     }
