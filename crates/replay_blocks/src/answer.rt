@@ -1,13 +1,19 @@
-// A command's number is its place among the names.
+// A command's name, and what answers it.
 use crate::reading;
-use replay_text::{show, words};
+use replay_text::lines::Commands;
+use replay_text::words;
 use std::io;
 
-pub fn answer(rt: &impl Print, line: &[u8]) -> io::Result<()> {
-    let names = b"scan2 seek2 walk2 isempty2";
-    let command = words::which(words::word(line, b' ', 0), names);
-    match command {
-        reading::SCAN..=reading::EMPTY => reading::read(rt, line, command),
-        _ => show::mark(rt, b'?'),
+pub struct Blocks;
+
+impl Commands for Blocks {
+    fn answer(&self, rt: &impl Print, line: &[u8]) -> io::Result<()> {
+        match words::word(line, b' ', 0) {
+            b"scan2" => reading::scan(rt, line),
+            b"seek2" => reading::seek(rt, line),
+            b"walk2" => reading::walk(rt, line),
+            b"isempty2" => reading::empty(rt, line),
+            _ => print!(rt; "?"),
+        }
     }
 }

@@ -3,11 +3,11 @@
 #![tactic(auto)]
 
 mod answer;
-mod lines;
 mod reading;
 
+use replay_text::lines;
 use std::io;
 
 fn main(rt: HostRuntime) -> io::Result<()> {
-    lines::answer_input(&rt)
+    lines::answer_input(&rt, &answer::Blocks)
 }

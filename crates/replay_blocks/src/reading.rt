@@ -1,69 +1,58 @@
 // The commands on a block and its iterator.
-use basics::IterationOrder;
-use block_check_v2::Checked;
-use block_iterator_v2::{BlockIteratorV2, NextAnswer};
-use place_v2::EmptyRead;
+use basics::{IterationOrder, Refusal};
+use block_iterator_v2::{BlockIteratorV2, Found};
 use replay_text::{parse, show, words};
 use std::io;
 
-// The numbers of the commands.
-pub const SCAN: usize = 0;
-
-pub const SEEK: usize = 1;
-
-pub const WALK: usize = 2;
-
-pub const EMPTY: usize = 3;
-
 // What a step gave, in a word.
-fn say(rt: &impl Print, answer: NextAnswer, key: &[u8], block: &[u8]) -> io::Result<()> {
+fn say(
+    rt: &impl Print,
+    answer: Result<Option<Found>, Refusal>,
+    key: &[u8],
+    block: &[u8],
+) -> io::Result<()> {
     match answer {
-        NextAnswer::Found {
-            region: _,
-            number: _,
-            row,
-        } => {
-            let len = row.shared.wrapping_add(row.suffix_len);
-            show::bytes(rt, key, 0, len)?;
+        Ok(Some(found)) => {
+            let row = found.row;
+            show::bytes(rt, key, 0, row.shared.wrapping_add(row.suffix_len))?;
             show::row(rt, block, row)
         }
-        NextAnswer::Done => show::text(rt, b"done"),
-        NextAnswer::Refused(r) => show::refusal(rt, r),
+        Ok(None) => print!(rt; "done"),
+        Err(r) => show::refusal(rt, r),
     }
 }
 
 fn step(rt: &impl Print, cursor: BlockIteratorV2, block: &[u8]) -> io::Result<BlockIteratorV2> {
     let mut key = [0u8; basics::MAX_KEY];
     let next = cursor.next(block, &mut key);
-    let answer = next.answer;
-    say(rt, answer, &key, block)?;
+    say(rt, next.answer, &key, block)?;
     Ok(next.iterator)
 }
 
 // The rows that follow. A row has more than one byte, so there are turns enough for all of them.
 fn rest(rt: &impl Print, cursor: BlockIteratorV2, block: &[u8]) -> io::Result<()> {
     let mut at = cursor;
-    for _ in 0..block.len() {
+    for _ in block {
         at = step(rt, at, block)?;
         if at.place.done {
             return Ok(());
         }
-        show::mark(rt, b' ')?;
+        print!(rt; " ")?;
     }
     Ok(())
 }
 
 // "Done" is no answer of the Rust's seek: the step after it says so.
-fn seek(target: &[u8], cursor: BlockIteratorV2, block: &[u8]) -> BlockIteratorV2 {
+fn sought(target: &[u8], cursor: BlockIteratorV2, block: &[u8]) -> BlockIteratorV2 {
     let mut bytes = [0u8; 8192];
     let n = parse::bytes(target, &mut bytes);
     cursor.seek(block, &bytes[..n]).iterator
 }
 
-fn empty(rt: &impl Print, cursor: BlockIteratorV2, block: &[u8]) -> io::Result<()> {
+fn is_empty(rt: &impl Print, cursor: BlockIteratorV2, block: &[u8]) -> io::Result<()> {
     match cursor.is_empty(block) {
-        EmptyRead::Is(b) => show::text(rt, words::word(b"false true", b' ', b as usize)),
-        EmptyRead::Refused(r) => show::refusal(rt, r),
+        Ok(empty) => print!(rt; "{empty}"),
+        Err(r) => show::refusal(rt, r),
     }
 }
 
@@ -84,7 +73,7 @@ fn empty_after(
     for _ in 0..steps {
         at = pass(at, block);
     }
-    empty(rt, at, block)
+    is_empty(rt, at, block)
 }
 
 // One operation, in a word: n: next, e: is_empty, i: init, which in the Rust does nothing, s:HEX: seek.
@@ -94,70 +83,96 @@ fn operate(
     cursor: BlockIteratorV2,
     block: &[u8],
 ) -> io::Result<BlockIteratorV2> {
-    match words::byte(op, 0) {
-        b'n' => step(rt, cursor, block),
-        b'e' => {
-            empty(rt, cursor, block)?;
+    match op {
+        [b'n', ..] => step(rt, cursor, block),
+        [b'e', ..] => {
+            is_empty(rt, cursor, block)?;
             Ok(cursor)
         }
-        b'i' => {
-            show::text(rt, b"ok")?;
+        [b'i', ..] => {
+            print!(rt; "ok")?;
             Ok(cursor)
         }
         _ => {
-            let at = seek(words::word(op, b':', 1), cursor, block);
-            show::text(rt, b"ok")?;
+            let at = sought(words::word(op, b':', 1), cursor, block);
+            print!(rt; "ok")?;
             Ok(at)
         }
     }
 }
 
-fn walk(rt: &impl Print, line: &[u8], cursor: BlockIteratorV2, block: &[u8]) -> io::Result<()> {
+// The operations that follow the line's block, with a space between two.
+fn operate_all(
+    rt: &impl Print,
+    line: &[u8],
+    cursor: BlockIteratorV2,
+    block: &[u8],
+) -> io::Result<()> {
     let mut at = cursor;
-    for number in 3..words::count(line, b' ') {
-        if 3 < number {
-            show::mark(rt, b' ')?;
+    for (before, op) in line.split(|b| *b == b' ').skip(3).enumerate() {
+        if 0 < before {
+            print!(rt; " ")?;
         }
-        at = operate(rt, words::word(line, b' ', number), at, block)?;
+        at = operate(rt, op, at, block)?;
     }
     Ok(())
 }
 
-fn ask(
-    rt: &impl Print,
-    line: &[u8],
-    command: usize,
-    cursor: BlockIteratorV2,
-    block: &[u8],
-) -> io::Result<()> {
-    let arg = words::word(line, b' ', 3);
-    match command {
-        SCAN => rest(rt, cursor, block),
-        SEEK => rest(rt, seek(arg, cursor, block), block),
-        WALK => walk(rt, line, cursor, block),
-        _ => empty_after(rt, parse::number(arg), cursor, block),
-    }
-}
-
 fn order(word: &[u8]) -> IterationOrder {
-    match words::byte(word, 0) {
-        b'a' => IterationOrder::Ascending,
+    match word {
+        [b'a', ..] => IterationOrder::Ascending,
         _ => IterationOrder::Descending,
     }
 }
 
-// The list has only blocks that the check accepts. Such a block opens, and refuses no step and no seek.
-fn open(rt: &impl Print, line: &[u8], command: usize, block: &[u8]) -> io::Result<()> {
-    if let Checked::Refused(r) = block_check_v2::check(block) {
+// Gives what reads it the line's block, opened. The list has only blocks that the check accepts. Such a block opens, and refuses no step and no seek.
+fn open<F: FnOnce(BlockIteratorV2, &[u8]) -> io::Result<()>>(
+    rt: &impl Print,
+    line: &[u8],
+    read: F,
+) -> io::Result<()>
+    requires { F.IsAlwaysCallable read }
+{
+    let mut bytes = [0u8; 8192];
+    let n = parse::bytes(words::word(line, b' ', 2), &mut bytes);
+    let block = &bytes[..n];
+    if let Err(r) = block_check_v2::check(block) {
         return show::refusal(rt, r);
     }
-    let cursor = BlockIteratorV2::new(block, order(words::word(line, b' ', 1))).iterator;
-    ask(rt, line, command, cursor, block)
+    let opened = BlockIteratorV2::new(block, order(words::word(line, b' ', 1)));
+    read(opened.iterator, block)
 }
 
-// scan2 ORDER BLOCK, seek2 ORDER BLOCK TARGET, walk2 ORDER BLOCK OP.., isempty2 ORDER BLOCK STEPS.
-pub fn read(rt: &impl Print, line: &[u8], command: usize) -> io::Result<()> {
-    let mut block = [0u8; 8192];
-    let n = parse::bytes(words::word(line, b' ', 2), &mut block);
-    open(rt, line, command, &block[..n])
+// scan2 ORDER BLOCK
+pub fn scan(rt: &impl Print, line: &[u8]) -> io::Result<()> {
+    open(rt, line, |cursor, block| rest(rt, cursor, block))
+}
+
+// seek2 ORDER BLOCK TARGET
+pub fn seek(rt: &impl Print, line: &[u8]) -> io::Result<()> {
+    let target = words::word(line, b' ', 3);
+    open(
+        rt,
+        line,
+        |cursor, block| rest(rt, sought(target, cursor, block), block),
+    )
+}
+
+// walk2 ORDER BLOCK OP..
+pub fn walk(rt: &impl Print, line: &[u8]) -> io::Result<()> {
+    open(
+        rt,
+        line,
+        |cursor, block| operate_all(rt, line, cursor, block),
+    )
+}
+
+// isempty2 ORDER BLOCK STEPS
+pub fn empty(rt: &impl Print, line: &[u8]) -> io::Result<()> {
+    let steps = parse::number(words::word(line, b' ', 3));
+    open(
+        rt,
+        line,
+        |cursor, block| empty_after(rt, steps, cursor, block),
+    )
 }
