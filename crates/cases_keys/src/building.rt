@@ -1,14 +1,14 @@
 // A block's builder: asked about the row, given it, and made to build.
-use crate::{rows, say};
-use basics::Verdict;
+use crate::rows;
+use basics::Refusal;
 use block_v2::BlockBuilderV2;
-use finish_in_place_v2::BuildAnswer;
+use replay_text::say;
 use std::io;
 
-fn verdict(rt: &impl Print, answer: Verdict) -> io::Result<()> {
+fn verdict(rt: &impl Print, answer: Result<(), Refusal>) -> io::Result<()> {
     match answer {
-        Verdict::Good => say::text(rt, b"yes\n"),
-        Verdict::Refused(r) => say::refusal(rt, r),
+        Ok(()) => println!(rt; "yes"),
+        Err(r) => say::refusal(rt, r),
     }
 }
 
@@ -18,16 +18,12 @@ fn built(
     data: &mut [u8],
     restarts: &[u16],
 ) -> io::Result<()> {
-    say::text(rt, b"built: ")?;
-    let answer = builder.build(data, restarts).answer;
-    match answer {
-        BuildAnswer::Block(n) => rows::count(rt, n),
-        BuildAnswer::Refused(r) => say::refusal(rt, r),
-    }
+    print!(rt; "built: ")?;
+    rows::told(rt, builder.build(data, restarts).answer)
 }
 
 fn asked(rt: &impl Print, builder: BlockBuilderV2, key: &[u8]) -> io::Result<()> {
-    say::text(rt, b"would fit: ")?;
+    print!(rt; "would fit: ")?;
     verdict(rt, builder.would_fit(8192, 1, key, b"", rows::fields()))
 }
 
@@ -37,9 +33,8 @@ fn offered(rt: &impl Print, key: &[u8]) -> io::Result<()> {
     let mut data = [0u8; 8192];
     let mut restarts = [0u16; 1];
     let added = fresh.add(&mut data, &mut restarts, key, b"", rows::fields());
-    say::text(rt, b"added: ")?;
-    let answer = added.answer;
-    verdict(rt, answer)?;
+    print!(rt; "added: ")?;
+    verdict(rt, added.answer)?;
     built(rt, added.builder, &mut data, &restarts)
 }
 

@@ -4,22 +4,21 @@
 mod building;
 mod reading;
 mod rows;
-mod say;
 
 use std::io;
 
 fn main(rt: HostRuntime) -> io::Result<()> {
-    say::text(&rt, b"a key of 4,096 bytes\n")?;
+    println!(&rt; "a key of 4,096 bytes")?;
     rows::longest(&rt)?;
     building::longest(&rt)?;
     reading::longest(&rt)?;
-    say::text(&rt, b"and a row that shares 4,095 of them\n")?;
+    println!(&rt; "and a row that shares 4,095 of them")?;
     building::shared(&rt)?;
-    say::text(&rt, b"a key of 4,097 bytes\n")?;
+    println!(&rt; "a key of 4,097 bytes")?;
     rows::longer(&rt)?;
     building::longer(&rt)?;
     reading::longer(&rt)?;
-    say::text(&rt, b"as the length of a key that is carried\n")?;
+    println!(&rt; "as the length of a key that is carried")?;
     building::carried(&rt)?;
     reading::carried(&rt)
 }
