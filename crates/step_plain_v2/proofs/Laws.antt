@@ -1,5 +1,6 @@
 -- When a step is plain, one law for each exit of the look; what a plain step stands on; and that it is the
 -- rules' own step, with the key carried and given.
+use Rattle.std.specs.Prelude.{Option, Some, None}
 use Prim.Native.Nat.{ℕ, ◌+◌, ◌-◌, ◌*◌, ◌≤◌, ◌<◌}
 use mathlib.Core.Path.{◌≡◌, refl, ap, sym, ◌∙◌, subst}
 use mathlib.Core.Bool.{Bool, true, false, cond, not, ◌||◌}
@@ -28,13 +29,13 @@ use Rattle.layout.proofs.Laws.Number.{right-tells}
 use Rattle.layout.specs.Laws.Place.{four_at}
 use Rattle.layout.proofs.Laws.Place.{fixed_at-eight}
 use Rattle.layout.specs.Laws.Plain.{PlainTells}
-use Rattle.layout.proofs.Laws.Plain.{or-false, fixed_at-is, plain_at-tells, plain-read}
+use Rattle.layout.proofs.Laws.Plain.{or-false, some-one, none-apart, fixed_at-is, plain_at-tells, plain-read}
 use Rattle.layout.proofs.Laws.Trailer.{trailer_of-tells, region_of-tells}
 use Rattle.trailer.specs.Handed.{region_by}
 use Rattle.trailer.specs.Joined.{region_by-tells}
 use Rattle.step_plain_v2.specs.declared.Ahead.{Ahead}
 use Rattle.step_plain_v2.specs.declared.Stepped.{Stepped}
-use Rattle.step_plain_v2.specs.Ahead.{no_ahead, ahead_with, ahead_at, ascends, plain_step_of, no_step, stepped_of, stepped_to, row_made, Moved}
+use Rattle.step_plain_v2.specs.Ahead.{ahead_with, ahead_at, ascends, where_plain, plain_step_of, stepped_of, stepped_to, row_made, Moved}
 use Rattle.step_plain_v2.specs.Promise.{Goes}
 use Rattle.step_plain_v2.proofs.Copies.{part_length}
 
@@ -45,44 +46,44 @@ shares false n = refl
 -- ---- each way through the look
 
 module _ (b : List ℕ) (region at number key_len held room : ℕ) where
-  pub ahead-odd : (ltb max_key key_len || not (eqb held max_key)) ≡ true → no_ahead ≡ ahead_at b region at number key_len held room
+  pub ahead-odd : (ltb max_key key_len || not (eqb held max_key)) ≡ true → None ≡ ahead_at b region at number key_len held room
   unfolding ahead_at
   ahead-odd e = rw e
 
   module _ (e : (ltb max_key key_len || not (eqb held max_key)) ≡ false) where
-    pub ahead_none : {n : ℕ} → refuse n ≡ region_by b region → no_ahead ≡ ahead_at b region at number key_len held room
+    pub ahead_none : {n : ℕ} → refuse n ≡ region_by b region → None ≡ ahead_at b region at number key_len held room
     unfolding ahead_at
     ahead_none q = rw (e, ← q)
 
     module _ (g : Region) (q : ok g ≡ region_by b region) where
-      pub ahead_before : at < g.start → no_ahead ≡ ahead_at b region at number key_len held room
+      pub ahead_before : at < g.start → None ≡ ahead_at b region at number key_len held room
       unfolding ahead_at
       ahead_before h = rw (e, ← q, lt-ltb at g.start h)
 
       module _ (h : g.start ≤ at) where
-        pub ahead_wrong : wrong_after (at - g.start) number ≡ true → no_ahead ≡ ahead_at b region at number key_len held room
+        pub ahead_wrong : wrong_after (at - g.start) number ≡ true → None ≡ ahead_at b region at number key_len held room
         unfolding ahead_at
         ahead_wrong w = rw (e, ← q, le-ltb at g.start h, w)
 
-      module _ (h : g.start ≤ at) (w : wrong_after (at - g.start) number ≡ false) {most : ℕ} (m : most ≡ cond (eqb at g.start) 0 key_len) (p : Plain) (r : p ≡ plain_at (take g.end b) at g.end most) where
-        row_is_lem : p ≡ plain_at (take g.end b) at g.end (may_share (eqb at g.start) key_len)
+      module _ (h : g.start ≤ at) (w : wrong_after (at - g.start) number ≡ false) {most : ℕ} (m : most ≡ cond (eqb at g.start) 0 key_len) {x : Option Plain} (r : x ≡ plain_at (take g.end b) at g.end most) where
+        row_is_lem : x ≡ plain_at (take g.end b) at g.end (may_share (eqb at g.start) key_len)
         row_is_lem = r ∙ ap (plain_at (take g.end b) at g.end) (m ∙ shares (eqb at g.start) key_len)
 
-        pub ahead-not : p.next ≡ 0 → no_ahead ≡ ahead_at b region at number key_len held room
+        pub ahead-not : x ≡ None → None ≡ ahead_at b region at number key_len held room
         unfolding ahead_at
-        ahead-not n = rw (e, ← q, le-ltb at g.start h, w, ← row_is_lem, eq-eqb p.next 0 n)
+        ahead-not n = rw (e, ← q, le-ltb at g.start h, w, ← row_is_lem, n)
 
-        module _ (n : p.next ≡ 0 → ⊥) where
+        module _ (p : Plain) (n : x ≡ Some p) where
           pub ahead-tells : PlainTells (take g.end b) at g.end (may_share (eqb at g.start) key_len) p
-          ahead-tells = rw row_is_lem (plain_at-tells (take g.end b) at g.end (may_share (eqb at g.start) key_len) (rw (← row_is_lem) (omega arith)))
+          ahead-tells = plain_at-tells (take g.end b) at g.end (may_share (eqb at g.start) key_len) (sym row_is_lem ∙ n)
 
-          pub ahead-narrow : room < p.shared + p.unshared → no_ahead ≡ ahead_at b region at number key_len held room
+          pub ahead-narrow : room < p.shared + p.unshared → None ≡ ahead_at b region at number key_len held room
           unfolding ahead_at
-          ahead-narrow k = rw (e, ← q, le-ltb at g.start h, w, ← row_is_lem, ne_eqb p.next 0 n, lt-ltb room (p.shared + p.unshared) k)
+          ahead-narrow k = rw (e, ← q, le-ltb at g.start h, w, ← row_is_lem, n, lt-ltb room (p.shared + p.unshared) k)
 
-          pub ahead-good : p.shared + p.unshared ≤ room → ahead_with g.reach p ≡ ahead_at b region at number key_len held room
+          pub ahead-good : p.shared + p.unshared ≤ room → Some (ahead_with g.reach p) ≡ ahead_at b region at number key_len held room
           unfolding ahead_at
-          ahead-good k = rw (e, ← q, le-ltb at g.start h, w, ← row_is_lem, ne_eqb p.next 0 n, le-ltb room (p.shared + p.unshared) k)
+          ahead-good k = rw (e, ← q, le-ltb at g.start h, w, ← row_is_lem, n, le-ltb room (p.shared + p.unshared) k)
 
 -- a region that is good ends inside the block
 pub region-inside : (b : List ℕ) (region : ℕ) (g : Region) → ok g ≡ region_by b region → g.end ≤ length b
@@ -131,17 +132,17 @@ was : (t : Bool) → not t ≡ false → t ≡ true
 was true e = refl
 was false e = cc
 
-module _ (b : List ℕ) (region at number key_len held room : ℕ) (a : Ahead) (e : a ≡ ahead_at b region at number key_len held room) (n : a.next ≡ 0 → ⊥) where
+module _ (b : List ℕ) (region at number key_len held room : ℕ) (a : Ahead) (e : Some a ≡ ahead_at b region at number key_len held room) where
   -- no exit but the last
-  never : {A : Type 0} → no_ahead ≡ ahead_at b region at number key_len held room → A
-  never q = absurd (n (ap (λ (x : Ahead). x.next) (e ∙ sym q)))
+  never : {A : Type 0} → None ≡ ahead_at b region at number key_len held room → A
+  never q = absurd (none-apart (q ∙ sym e))
 
   module _ (g : Region) (q : ok g ≡ region_by b region) where
-    abbrev p₀ : Plain
-    p₀ = plain_at (take g.end b) at g.end (cond (eqb at g.start) 0 key_len)
+    abbrev x₀ : Option Plain
+    x₀ = plain_at (take g.end b) at g.end (cond (eqb at g.start) 0 key_len)
 
-    last : (o : (ltb max_key key_len || not (eqb held max_key)) ≡ false) (h : g.start ≤ at) (w : wrong_after (at - g.start) number ≡ false) (r : p₀.next ≡ 0 → ⊥) → p₀.shared + p₀.unshared ≤ room → Standing b region at number key_len held room a
-    last o h w r k =
+    last : (o : (ltb max_key key_len || not (eqb held max_key)) ≡ false) (h : g.start ≤ at) (w : wrong_after (at - g.start) number ≡ false) (p₀ : Plain) (r : x₀ ≡ Some p₀) → p₀.shared + p₀.unshared ≤ room → Standing b region at number key_len held room a
+    last o h w p₀ r k =
         let u = or-false {a = ltb max_key key_len} {b = not (eqb held max_key)} o in
         region_by-tells b region g (sym q) λ t read inside bounds.
         let v = region_of-tells b t region g bounds in
@@ -157,9 +158,9 @@ module _ (b : List ℕ) (region at number key_len held room : ℕ) (a : Ahead) (
           bounds = bounds;
           from = h;
           right = w;
-          plain = cut b g.end t.size at g.end (may_share (eqb at g.start) key_len) p₀ (omega arith) v.inside (omega arith) (ahead-tells b region at number key_len held room o g q h w refl p₀ refl r);
+          plain = cut b g.end t.size at g.end (may_share (eqb at g.start) key_len) p₀ (omega arith) v.inside (omega arith) (ahead-tells b region at number key_len held room o g q h w refl refl p₀ r);
           fits = k;
-          is = e ∙ sym (ahead-good b region at number key_len held room o g q h w refl p₀ refl r k);
+          is = some-one (e ∙ sym (ahead-good b region at number key_len held room o g q h w refl refl p₀ r k));
         }
 
     stands_in : (ltb max_key key_len || not (eqb held max_key)) ≡ false → Standing b region at number key_len held room a
@@ -167,15 +168,16 @@ module _ (b : List ℕ) (region at number key_len held room : ℕ) (a : Ahead) (
         ⊎_elim (λ h. never (ahead_before b region at number key_len held room o g q h.1))
         (λ h.
         ⊎_elim (λ w. never (ahead_wrong b region at number key_len held room o g q h.1 w))
-        (λ w.
-        ⊎_elim (λ r. never (ahead-not b region at number key_len held room o g q h.1 w refl p₀ refl r.1))
-        (λ r.
-        ⊎_elim (λ k. never (ahead-narrow b region at number key_len held room o g q h.1 w refl p₀ refl r.1 k.1))
-        (λ k. last o h.1 w r.1 k.1)
-        (ltb-cases room (p₀.shared + p₀.unshared)))
-        (eqb-cases p₀.next 0))
+        (λ w. met o h.1 w x₀ refl)
         (bool_cases (wrong_after (at - g.start) number)))
         (ltb-cases at g.start)
+      where
+        met : (o : (ltb max_key key_len || not (eqb held max_key)) ≡ false) (h : g.start ≤ at) (w : wrong_after (at - g.start) number ≡ false) (x : Option Plain) → x₀ ≡ x → Standing b region at number key_len held room a
+        met o h w None r = never (ahead-not b region at number key_len held room o g q h w refl refl r)
+        met o h w (Some p₀) r =
+            ⊎_elim (λ k. never (ahead-narrow b region at number key_len held room o g q h w refl refl p₀ r k.1))
+            (λ k. last o h w p₀ r k.1)
+            (ltb-cases room (p₀.shared + p₀.unshared))
 
   pub standing : Standing b region at number key_len held room a
   standing =
@@ -299,7 +301,7 @@ module _ (b : List ℕ) (region at number key_len : ℕ) (key out : List ℕ) {a
 
     -- a finished region hands over, or the cursor carries the row's key
     goes : (t : Bool) → Goes (ok (step_is (cond t (cursor_is ascending (region + 1) s.p.next 0 [] false) (cursor_is ascending region s.p.next (number + 1) k false)) (found region number r k))) key out
-        (record {
+        (Some (record {
           region = cond t (region + 1) region;
           number = cond t 0 (number + 1);
           key_len = cond t 0 (s.p.shared + s.p.unshared);
@@ -308,28 +310,28 @@ module _ (b : List ℕ) (region at number key_len : ℕ) (key out : List ℕ) {a
           unshared = s.p.unshared;
           value_len = s.p.value_len;
           seq = four_at b (s.p.next - 9) * 4294967296 + four_at b (s.p.next - 9 + 4);
-        })
+        }))
         key' out'
     goes true = record { answer = rw seq; key-bytes = refl; lent = given }
     goes false = record { answer = rw (seq, long); key-bytes = rw long key-is; lent = given }
 
-module _ (b : List ℕ) (region at number key_len : ℕ) (key out : List ℕ) (a : Ahead) (e : a ≡ ahead_at b region at number key_len (length key) (length out)) where
-  pub step-not : {x : Stepped} → a.next ≡ 0 → x ≡ no_step → Goes (plain_step_of region at number key_len key b (length out)) key out x key out
+module _ (b : List ℕ) (region at number key_len : ℕ) (key out : List ℕ) where
+  pub step-not : None ≡ ahead_at b region at number key_len (length key) (length out) → Goes (plain_step_of region at number key_len key b (length out)) key out None key out
   unfolding plain_step_of
-  step-not z is = rw (← e, eq-eqb a.next 0 z) (record { answer = is; key-bytes = refl; lent = refl })
+  step-not e = rw (← e) (record { answer = refl; key-bytes = refl; lent = refl })
 
-  module _ (n : a.next ≡ 0 → ⊥) where
+  module _ (a : Ahead) (e : Some a ≡ ahead_at b region at number key_len (length key) (length out)) where
     step_is_lem : plain_step_of region at number key_len key b (length out) ≡ next (ascends region at number key_len key) b (length out)
     unfolding plain_step_of
-    step_is_lem = rw (← e, ne_eqb a.next 0 n)
+    step_is_lem = rw (← e)
 
     goes-made : {key' out' : List ℕ} → Moved key out a.shared (take a.unshared (drop (at + 3) b)) key' out'
-        → Goes (plain_step_of region at number key_len key b (length out)) key out (made region number (four_at b (a.next - 9) * 4294967296 + four_at b (a.next - 9 + 4)) a) key' out'
+        → Goes (plain_step_of region at number key_len key b (length out)) key out (Some (made region number (four_at b (a.next - 9) * 4294967296 + four_at b (a.next - 9 + 4)) a)) key' out'
     goes-made {key'} {out'} m =
-        let s = standing b region at number key_len (length key) (length out) a e n in
+        let s = standing b region at number key_len (length key) (length out) a e in
         let moved = subst (λ (x : Ahead). Moved key out x.shared (take x.unshared (drop (at + 3) b)) key' out') s.is m in
-        subst (λ (w : Res Step). Goes w key out (made region number (four_at b (a.next - 9) * 4294967296 + four_at b (a.next - 9 + 4)) a) key' out') (sym (step_is_lem ∙ wanted b region at number key_len key out s))
-        (subst (λ (x : Ahead). Goes (ok (step_is (past_row (c b region at number key_len key out s) s.g (r b region at number key_len key out s) (k b region at number key_len key out s)) (found region number (r b region at number key_len key out s) (k b region at number key_len key out s)))) key out (made region number (four_at b (x.next - 9) * 4294967296 + four_at b (x.next - 9 + 4)) x) key' out') (sym s.is)
+        subst (λ (w : Res Step). Goes w key out (Some (made region number (four_at b (a.next - 9) * 4294967296 + four_at b (a.next - 9 + 4)) a)) key' out') (sym (step_is_lem ∙ wanted b region at number key_len key out s))
+        (subst (λ (x : Ahead). Goes (ok (step_is (past_row (c b region at number key_len key out s) s.g (r b region at number key_len key out s) (k b region at number key_len key out s)) (found region number (r b region at number key_len key out s) (k b region at number key_len key out s)))) key out (Some (made region number (four_at b (x.next - 9) * 4294967296 + four_at b (x.next - 9 + 4)) x)) key' out') (sym s.is)
         (goes b region at number key_len key out s moved (ltb s.g.reach s.p.next)))
 
     -- by the numbers that were met
@@ -338,7 +340,7 @@ module _ (b : List ℕ) (region at number key_len : ℕ) (key out : List ℕ) (a
         → left ≡ cond (ltb a.reach a.next) 0 (a.shared + a.unshared)
         → q ≡ four_at b (a.next - 9) * 4294967296 + four_at b (a.next - 9 + 4)
         → Goes (plain_step_of region at number key_len key b (length out)) key out
-        (record { region = to; number = more; key_len = left; next = a.next; shared = a.shared; unshared = a.unshared; value_len = a.value_len; seq = q }) key' out'
+        (Some (record { region = to; number = more; key_len = left; next = a.next; shared = a.shared; unshared = a.unshared; value_len = a.value_len; seq = q })) key' out'
     step-goes m t i l w =
         let g = goes-made m in
         record { answer = rw (t, i, l, w) g.answer; key-bytes = g.key-bytes; lent = g.lent }
@@ -349,32 +351,34 @@ module _ (b : List ℕ) (region at number key_len : ℕ) (key out : List ℕ) (a
 pub plain_step-tells : (region at number key_len : ℕ) (key b : List ℕ) (room : ℕ) (s : Step) → plain_step_of region at number key_len key b room ≡ ok s
     → (length key ≡ max_key) × (next (ascends region at number key_len key) b room ≡ ok s)
 unfolding plain_step_of
-plain_step-tells region at number key_len key b room s e =
-    ⊎_elim (λ x. absurd (let z : ◌≡◌ {A = ℕ} 0 1 = cc in omega arith))
-    (λ x. ((standing b region at number key_len (length key) room (ahead_at b region at number key_len (length key) room) refl (eqb-false (ahead_at b region at number key_len (length key) room).next 0 x.0)).whole, x.1))
-    (cond-ok (eqb (ahead_at b region at number key_len (length key) room).next 0) (refuse 0) (next (ascends region at number key_len key) b room) s e)
+plain_step-tells region at number key_len key b room s e = go (ahead_at b region at number key_len (length key) room) refl e
+  where
+    go : (x : Option Ahead) → x ≡ ahead_at b region at number key_len (length key) room → where_plain x (next (ascends region at number key_len key) b room) ≡ ok s
+        → (length key ≡ max_key) × (next (ascends region at number key_len key) b room ≡ ok s)
+    go None q w = absurd (let z : ◌≡◌ {A = ℕ} 0 1 = cc in omega arith)
+    go (Some a) q w = ((standing b region at number key_len (length key) room a q).whole, w)
 
 -- what a step that was made tells: the cursor and the row, whose places are those of a plain one
 pub record Told (want : Res Step) (region at number : ℕ) (r : Stepped) : Type 0 where
   pub cursor : Cursor
   pub key : Key
   pub is : want ≡ ok (step_is cursor (found region number (row_made at r) key))
-  pub to : r ≡ stepped_to cursor (found region number (row_made at r) key)
+  pub to : Some r ≡ stepped_to cursor (found region number (row_made at r) key)
   pub heads : cursor.order ≡ ascending
   pub unmarked : cursor.done ≡ false
   pub ends : at + 12 + r.unshared + r.value_len ≡ r.next
 
-module _ (region at number key_len : ℕ) (key b out : List ℕ) (x : Stepped) {key' out' : List ℕ} (g : Goes (plain_step_of region at number key_len key b (length out)) key out x key' out') where
-  abbrev a₀ : Ahead
+module _ (region at number key_len : ℕ) (key b out : List ℕ) where
+  abbrev a₀ : Option Ahead
   a₀ = ahead_at b region at number key_len (length key) (length out)
 
-  refused : a₀.next ≡ 0 → plain_step_of region at number key_len key b (length out) ≡ refuse 0
+  refused : None ≡ a₀ → plain_step_of region at number key_len key b (length out) ≡ refuse 0
   unfolding plain_step_of
-  refused z = rw (eq-eqb a₀.next 0 z)
+  refused z = rw (← z)
 
-  module _ (n : a₀.next ≡ 0 → ⊥) where
-    s₀ : Standing b region at number key_len (length key) (length out) a₀
-    s₀ = standing b region at number key_len (length key) (length out) a₀ refl n
+  module _ (a : Ahead) (q : Some a ≡ a₀) where
+    s₀ : Standing b region at number key_len (length key) (length out) a
+    s₀ = standing b region at number key_len (length key) (length out) a q
 
     abbrev r₀ : RowRead
     r₀ = r b region at number key_len key out s₀
@@ -383,15 +387,16 @@ module _ (region at number key_len : ℕ) (key b out : List ℕ) (x : Stepped) {
     k₀ = k b region at number key_len key out s₀
 
     is₀ : plain_step_of region at number key_len key b (length out) ≡ ok (step_is (past_row (ascends region at number key_len key) s₀.g r₀ k₀) (found region number r₀ k₀))
-    is₀ = step_is_lem b region at number key_len key out a₀ refl n ∙ wanted b region at number key_len key out s₀
+    is₀ = step_is_lem b region at number key_len key out a q ∙ wanted b region at number key_len key out s₀
 
     -- whichever cursor it leaves
-    either : (t : Bool) (v : Cursor) → v ≡ cond t (cursor_is ascending (region + 1) s₀.p.next 0 [] false) (cursor_is ascending region s₀.p.next (number + 1) k₀ false)
+    either : (x : Stepped) {key' out' : List ℕ} → Goes (plain_step_of region at number key_len key b (length out)) key out (Some x) key' out' → (t : Bool) (v : Cursor) → v ≡ cond t (cursor_is ascending (region + 1) s₀.p.next 0 [] false) (cursor_is ascending region s₀.p.next (number + 1) k₀ false)
         → plain_step_of region at number key_len key b (length out) ≡ ok (step_is v (found region number r₀ k₀)) → Told (plain_step_of region at number key_len key b (length out)) region at number x
-    either t v e i =
+    either x g t v e i =
         let place : v.at ≡ s₀.p.next = ap (λ (u : Cursor). u.at) e ∙ one t in
-        let to : x ≡ stepped_to v (found region number r₀ k₀) = g.answer ∙ ap stepped_of i in
-        let row : r₀ ≡ row_made at x = ap (λ (m : ℕ). row_made at (record { region = 0; number = 0; key_len = 0; next = m; shared = s₀.p.shared; unshared = s₀.p.unshared; value_len = s₀.p.value_len; seq = r₀.seq })) (sym place) ∙ ap (row_made at) (sym to) in
+        let to : Some x ≡ stepped_to v (found region number r₀ k₀) = g.answer ∙ ap stepped_of i in
+        let same = some-one to in
+        let row : r₀ ≡ row_made at x = ap (λ (m : ℕ). row_made at (record { region = 0; number = 0; key_len = 0; next = m; shared = s₀.p.shared; unshared = s₀.p.unshared; value_len = s₀.p.value_len; seq = r₀.seq })) (sym place) ∙ ap (row_made at) (sym same) in
         record {
           cursor = v;
           key = k₀;
@@ -399,7 +404,7 @@ module _ (region at number key_len : ℕ) (key b out : List ℕ) (x : Stepped) {
           to = to ∙ ap (λ (u : RowRead). stepped_to v (found region number u k₀)) row;
           heads = ap (λ (u : Cursor). u.order) e ∙ two t;
           unmarked = ap (λ (u : Cursor). u.done) e ∙ three t;
-          ends = omega (arith, place, s₀.plain.next-is, ap (λ (u : Stepped). u.unshared) to, ap (λ (u : Stepped). u.value_len) to, ap (λ (u : Stepped). u.next) to);
+          ends = omega (arith, place, s₀.plain.next-is, ap (λ (u : Stepped). u.unshared) same, ap (λ (u : Stepped). u.value_len) same, ap (λ (u : Stepped). u.next) same);
         }
       where
         one : (t : Bool) → (cond t (cursor_is ascending (region + 1) s₀.p.next 0 [] false) (cursor_is ascending region s₀.p.next (number + 1) k₀ false)).at ≡ s₀.p.next
@@ -414,17 +419,22 @@ module _ (region at number key_len : ℕ) (key b out : List ℕ) (x : Stepped) {
         three true = refl
         three false = refl
 
-    made₀ : Told (plain_step_of region at number key_len key b (length out)) region at number x
-    made₀ = either (ltb s₀.g.reach s₀.p.next) _ refl is₀
+    made₀ : (x : Stepped) {key' out' : List ℕ} → Goes (plain_step_of region at number key_len key b (length out)) key out (Some x) key' out' → Told (plain_step_of region at number key_len key b (length out)) region at number x
+    made₀ x g = either x g (ltb s₀.g.reach s₀.p.next) _ refl is₀
 
-  pub not-told : x.next ≡ 0 → plain_step_of region at number key_len key b (length out) ≡ refuse 0
-  not-told z =
-      ⊎_elim (λ y. refused y.1)
-      (λ y. let m = made₀ y.1 in absurd (omega (arith, m.ends)))
-      (eqb-cases a₀.next 0)
+    none-made : {key' out' : List ℕ} → Goes (plain_step_of region at number key_len key b (length out)) key out None key' out' → ⊥
+    none-made g = none-apart (g.answer ∙ ap stepped_of is₀)
 
-  pub told : (x.next ≡ 0 → ⊥) → Told (plain_step_of region at number key_len key b (length out)) region at number x
-  told n =
-      ⊎_elim (λ y. absurd (n (ap (λ (u : Stepped). u.next) (g.answer ∙ ap stepped_of (refused y.1)))))
-      (λ y. made₀ y.1)
-      (eqb-cases a₀.next 0)
+  pub not-told : {key' out' : List ℕ} → Goes (plain_step_of region at number key_len key b (length out)) key out None key' out' → plain_step_of region at number key_len key b (length out) ≡ refuse 0
+  not-told g = go a₀ refl
+    where
+      go : (x : Option Ahead) → x ≡ a₀ → plain_step_of region at number key_len key b (length out) ≡ refuse 0
+      go None q = refused q
+      go (Some a) q = absurd (none-made a q g)
+
+  pub told : (x : Stepped) {key' out' : List ℕ} → Goes (plain_step_of region at number key_len key b (length out)) key out (Some x) key' out' → Told (plain_step_of region at number key_len key b (length out)) region at number x
+  told x g = go a₀ refl
+    where
+      go : (y : Option Ahead) → y ≡ a₀ → Told (plain_step_of region at number key_len key b (length out)) region at number x
+      go None q = absurd (none-apart (sym (g.answer ∙ ap stepped_of (refused q))))
+      go (Some a) q = made₀ a q x g

@@ -1,6 +1,6 @@
 -- The promise admits one outcome: two results, with the key bytes and the buffers that they leave, that both
 -- keep it are equal; but for the key bytes past the length of the key that a moved cursor carries.
-use Rattle.std.specs.Prelude.{ℕ, ◌≡◌, List, length, take}
+use Rattle.std.specs.Prelude.{ℕ, ◌≡◌, List, length, take, Option}
 use Rattle.std.proofs.Common.{sym, ◌∙◌}
 use Rattle.layout.specs.Res.{Res, ok, refuse}
 use Rattle.layout.specs.Cursor.{Step}
@@ -17,7 +17,7 @@ same_key : (want : Res Step) (key k l : List ℕ) → KeyMoved want key k → Ke
 same_key (ok s) key k l m n = m ∙ sym n
 same_key (refuse i) key k l m n = m ∙ sym n
 
-pub plain-step-settled : (region at number key_len : ℕ) (key b out : List ℕ) (r q : Stepped) (k l ys zs : List ℕ)
+pub plain-step-settled : (region at number key_len : ℕ) (key b out : List ℕ) (r q : Option Stepped) (k l ys zs : List ℕ)
     → StepsPlain region at number key_len key b out r k ys → StepsPlain region at number key_len key b out q l zs
     → (r ≡ q) × SameKey (plain_step_of region at number key_len key b (length out)) k l × (ys ≡ zs)
 plain-step-settled region at number key_len key b out r q k l ys zs m n = (

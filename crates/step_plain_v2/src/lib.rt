@@ -7,11 +7,10 @@
 ghost use Rattle.std.specs.Prelude.{cond, ◌≡◌, ◌≤◌, ◌+◌, length, take, drop};
 ghost use Rattle.layout.specs.Number.{wrong_after};
 ghost use Rattle.layout.specs.Place.{splice};
-ghost use Rattle.step_plain_v2.specs.Ahead.{no_ahead, ahead_at, no_step, Moved};
+ghost use Rattle.step_plain_v2.specs.Ahead.{ahead_at, Moved};
 ghost use Rattle.step_plain_v2.specs.Promise.{StepsPlain};
 
-// A step that was made: where the cursor stands then, and the row's numbers. `next` is 0, as all are, where
-// none was.
+// A step that was made: where the cursor stands then, and the row's numbers.
 #[derive(Clone, Copy)]
 pub struct Stepped {
     pub region: usize,
@@ -24,8 +23,7 @@ pub struct Stepped {
     pub seq: u64,
 }
 
-// The plain row that a cursor stands before, and the last position in its region; all 0 where it is not
-// plain.
+// The plain row that a cursor stands before, and the last position in its region.
 #[derive(Clone, Copy)]
 struct Ahead {
     next: usize,
@@ -33,33 +31,6 @@ struct Ahead {
     shared: usize,
     unshared: usize,
     value_len: usize,
-}
-
-fn no_ahead() -> Ahead
-    ensures { result ≡ no_ahead }
-{
-    Ahead {
-        next: 0,
-        reach: 0,
-        shared: 0,
-        unshared: 0,
-        value_len: 0,
-    }
-}
-
-fn no_step() -> Stepped
-    ensures { result ≡ no_step }
-{
-    Stepped {
-        region: 0,
-        number: 0,
-        key_len: 0,
-        next: 0,
-        shared: 0,
-        unshared: 0,
-        value_len: 0,
-        seq: 0,
-    }
 }
 
 // One of two numbers, with no branch.
@@ -91,37 +62,34 @@ fn look_plain(
     key_len: usize,
     held: usize,
     room: usize,
-) -> Ahead
+) -> Option<Ahead>
     ensures { result ≡ ahead_at block.now region at number key_len held room }
 {
     if (basics::MAX_KEY < key_len) | (held != basics::MAX_KEY) {
-        return no_ahead();
+        return None;
     }
     let Ok(g) = trailer::region_by(block, region) else {
-        return no_ahead();
+        return None;
     };
     if at < g.start {
-        return no_ahead();
+        return None;
     }
     if wrong_here(at - g.start, number) {
-        return no_ahead();
+        return None;
     }
     let most = pick(at == g.start, 0, key_len);
     let end = g.end;
-    let row = row_plain_v2::plain_at(&block[..end], at, end, most);
-    if row.next == 0 {
-        return no_ahead();
-    }
+    let row = row_plain_v2::plain_at(&block[..end], at, end, most)?;
     if room < row.shared + row.unshared {
-        return no_ahead();
+        return None;
     }
-    Ahead {
+    Some(Ahead {
         next: row.next,
         reach: g.reach,
         shared: row.shared,
         unshared: row.unshared,
         value_len: row.value_len,
-    }
+    })
 }
 
 // ---- the key: the places of each copy are one after another, so that LLVM makes one load and one store of them
@@ -264,18 +232,15 @@ pub fn plain_step(
     key_len: usize,
     block: &[u8],
     out: &mut [u8],
-) -> Stepped
+) -> Option<Stepped>
     ensures { StepsPlain region at number key_len key.old block.now out.old result key.new out.new }
 {
-    let row = look_plain(block, region, at, number, key_len, key.len(), out.len());
-    if row.next == 0 {
-        return no_step();
-    }
+    let row = look_plain(block, region, at, number, key_len, key.len(), out.len())?;
     carry(key, out, block, row.shared, at + 3, row.unshared);
     let over = row.reach < row.next;
     let seq_at = row.next - 9;
     let seq_end = seq_at + 8;
-    Stepped {
+    Some(Stepped {
         region: pick(over, region + 1, region),
         number: pick(over, 0, number + 1),
         key_len: pick(over, 0, row.shared + row.unshared),
@@ -284,5 +249,5 @@ pub fn plain_step(
         unshared: row.unshared,
         value_len: row.value_len,
         seq: buf::eight(&block[seq_at..seq_end], 0),
-    }
+    })
 }
