@@ -15,9 +15,9 @@ use Rattle.layout.specs.Key.{Key}
 use Rattle.layout.specs.RowRead.{RowRead}
 use Rattle.layout.specs.Cursor.{ascending, Cursor, found, Step, next}
 use Rattle.layout.proofs.Laws.Res.{cond-ok}
-use Rattle.layout.proofs.Laws.Plain.{or-false}
+use Rattle.layout.proofs.Laws.Plain.{or-false, some-one}
 use Rattle.basics.specs.declared.IterationOrder.TheVariants.{Ascending}
-use Rattle.std.specs.Prelude.{None}
+use Rattle.std.specs.Prelude.{Some, None}
 use Rattle.basics.specs.declared.ValueDeletable.TheVariants.{Value}
 use Rattle.row_decode_v2.specs.declared.Row.{Row}
 use Rattle.row_decode_v2.specs.Says.{row_from}
@@ -66,9 +66,9 @@ row_to at x =
     }
 
 -- the words of that place are those of the cursor
-words-to : (c : Cursor) (x : Stepped) (region number : ℕ) (r : RowRead) (k : Key) → x ≡ stepped_to c (found region number r k) → c.order ≡ ascending → c.done ≡ false
+words-to : (c : Cursor) (x : Stepped) (region number : ℕ) (r : RowRead) (k : Key) → Some x ≡ stepped_to c (found region number r k) → c.order ≡ ascending → c.done ≡ false
     → cursor_words (view_in (place_to x) []) ≡ cursor_words c
-words-to c x region number r k e h m = ap (λ (y : Stepped). cursor_words (view_in (place_to y) [])) e ∙ rw (h, m)
+words-to c x region number r k e h m = ap (λ (y : Stepped). cursor_words (view_in (place_to y) [])) (some-one e) ∙ rw (h, m)
 
 module _ (b ws key out row : List ℕ) where
   few : (not (eqb (length ws) cursor_count) || not (eqb (length row) row_count)) ≡ true → plain_flat b ws key (length out) row ≡ refuse 0
@@ -90,26 +90,26 @@ module _ (b ws key out row : List ℕ) where
     pub flat-other : (not (eqb (word_at ws 0) 0) || not (eqb (word_at ws 4) 0)) ≡ true → Made (plain_flat b ws key (length out) row) ws key out row false ws key out row
     flat-other e = unmade (plain_flat b ws key (length out) row) ws key out row (odd e) refl refl
 
-    module _ (u : (not (eqb (word_at ws 0) 0) || not (eqb (word_at ws 4) 0)) ≡ false) {region at number key_len : ℕ} (eg : region ≡ word_at ws 1) (ea : at ≡ word_at ws 2) (ek : key_len ≡ word_at ws 3) (en : number ≡ word_at ws 5) (x : Stepped) {key' out' : List ℕ} (g : StepsPlain region at number key_len key b out x key' out') where
+    module _ (u : (not (eqb (word_at ws 0) 0) || not (eqb (word_at ws 4) 0)) ≡ false) {region at number key_len : ℕ} (eg : region ≡ word_at ws 1) (ea : at ≡ word_at ws 2) (ek : key_len ≡ word_at ws 3) (en : number ≡ word_at ws 5) where
       is : plain_flat b ws key (length out) row ≡ plain_step_of region at number key_len key b (length out)
       unfolding plain_flat
       is = rw (t, u, eg, ea, ek, en)
 
-      pub flat-not : x.next ≡ 0 → Made (plain_flat b ws key (length out) row) ws key out row false ws key' out' row
-      flat-not z =
-          let n = not-told region at number key_len key b out x g z in
-          let h = subst (λ (w : Res Step). Goes w key out x key' out') n g in
+      pub flat-not : {key' out' : List ℕ} → StepsPlain region at number key_len key b out None key' out' → Made (plain_flat b ws key (length out) row) ws key out row false ws key' out' row
+      flat-not {key'} {out'} g =
+          let n = not-told region at number key_len key b out g in
+          let h = subst (λ (w : Res Step). Goes w key out None key' out') n g in
           unmade (plain_flat b ws key (length out) row) ws key out row (is ∙ n) h.key-bytes h.lent
 
-      module _ (n : x.next ≡ 0 → ⊥) where
+      module _ (x : Stepped) {key' out' : List ℕ} (g : StepsPlain region at number key_len key b out (Some x) key' out') where
         -- its places are numbers of the block
         pub flat-ends : at + 12 + x.unshared + x.value_len ≡ x.next
-        flat-ends = (told region at number key_len key b out x g n).ends
+        flat-ends = (told region at number key_len key b out x g).ends
 
         pub flat-made : {r q : Bool} {ws' row' : List ℕ} → PutsCursor (place_to x) ws r ws' → PutsRow region number (row_to at x) row q row' → Made (plain_flat b ws key (length out) row) ws key out row true ws' key' out' row'
         flat-made p q =
-            let m = told region at number key_len key b out x g n in
-            let h = subst (λ (w : Res Step). Goes w key out x key' out') m.is g in
+            let m = told region at number key_len key b out x g in
+            let h = subst (λ (w : Res Step). Goes w key out (Some x) key' out') m.is g in
             let c = flat-words in
             made (plain_flat b ws key (length out) row) (is ∙ m.is)
             (record {

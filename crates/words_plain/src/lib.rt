@@ -28,10 +28,9 @@ pub fn plain_next(
     let at = cursor[2] as usize;
     let key_len = cursor[3] as usize;
     let number = cursor[5] as usize;
-    let r = step_plain_v2::plain_step(key, region, at, number, key_len, block, out);
-    if r.next == 0 {
+    let Some(r) = step_plain_v2::plain_step(key, region, at, number, key_len, block, out) else {
         return false;
-    }
+    };
     let place = Place {
         order: IterationOrder::Ascending,
         region: r.region,
