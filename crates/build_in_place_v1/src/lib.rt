@@ -70,14 +70,13 @@ fn encoded_size(
 // The fit question, with what was found on the way: 18, 1, 2, 3, 4. Of the value its length is enough, and nothing is written.
 fn plan_row(
     s: State,
-    first_key: &[u8],
+    first_key: &[u8; basics::MAX_KEY],
     data_len: usize,
     places_len: usize,
     key: &[u8],
     value_len: usize,
     row: RowFields,
 ) -> Result<Planned, Refusal>
-    requires { length first_key.now ≡ max_key }
     ensures { Plans (λ f. would_fit (view_from s first_key.now) data_len places_len key.now f) (view_from s first_key.now) key.now row value_len result }
 {
     if finish_in_place_v1::is_bad_state(s, data_len, places_len) {
@@ -117,9 +116,9 @@ pub fn would_fit_in_place(
 ) -> Result<(), Refusal>
     ensures { FitsInPlace s first_key.now data_len places_len key.now value.now row result }
 {
-    if first_key.len() != basics::MAX_KEY {
+    let Ok(first_key) = <&[u8; basics::MAX_KEY]>::try_from(first_key) else {
         return Err(Refusal::BadState);
-    }
+    };
     plan_row(s, first_key, data_len, places_len, key, value.len(), row)?;
     Ok(())
 }
@@ -127,14 +126,13 @@ pub fn would_fit_in_place(
 // All tests of adding: the fit question's, then 5, 6.
 fn accept_row(
     s: State,
-    first_key: &[u8],
+    first_key: &[u8; basics::MAX_KEY],
     data_len: usize,
     places_len: usize,
     key: &[u8],
     value_len: usize,
     row: RowFields,
 ) -> Result<Planned, Refusal>
-    requires { length first_key.now ≡ max_key }
     ensures { Plans (λ f. whether (add (view_from s first_key.now) data_len places_len key.now f)) (view_from s first_key.now) key.now row value_len result }
 {
     let planned = plan_row(s, first_key, data_len, places_len, key, value_len, row)?;
@@ -233,11 +231,11 @@ pub fn add_in_place(
 ) -> Result<State, Refusal>
     ensures { AddsInPlace s first_key.old «data».old offsets.old key.now value.now row result first_key.new «data».new offsets.new }
 {
-    if first_key.len() != basics::MAX_KEY {
+    let Ok(first) = <&[u8; basics::MAX_KEY]>::try_from(&first_key[..]) else {
         return Err(Refusal::BadState);
-    }
+    };
     let data_len = data.len();
     let places_len = offsets.len();
-    let planned = accept_row(s, first_key, data_len, places_len, key, value.len(), row)?;
+    let planned = accept_row(s, first, data_len, places_len, key, value.len(), row)?;
     Ok(grow(first_key, s, planned.shared, data, offsets, key, value, row))
 }

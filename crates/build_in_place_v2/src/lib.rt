@@ -107,14 +107,13 @@ fn has_room(counter: usize, block_size: usize, size: usize) -> bool
 // The fit question, with what was found on the way: 18, 1, 2, 3, 4. Of the value its length is enough, and nothing is written.
 fn plan_row(
     s: State,
-    last_key: &[u8],
+    last_key: &[u8; basics::MAX_KEY],
     data_len: usize,
     places_len: usize,
     key: &[u8],
     value_len: usize,
     row: RowFields,
 ) -> Result<Planned, Refusal>
-    requires { length last_key.now ≡ max_key }
     ensures { Plans (fitted (view_from s last_key.now) data_len places_len key.now) row value_len result }
 {
     if finish_in_place_v2::is_bad_state(s, data_len, places_len) {
@@ -151,9 +150,9 @@ pub fn would_fit_in_place(
 ) -> Result<(), Refusal>
     ensures { FitsInPlace s last_key.now data_len places_len key.now value.now row result }
 {
-    if last_key.len() != basics::MAX_KEY {
+    let Ok(last_key) = <&[u8; basics::MAX_KEY]>::try_from(last_key) else {
         return Err(Refusal::BadState);
-    }
+    };
     plan_row(s, last_key, data_len, places_len, key, value.len(), row)?;
     Ok(())
 }
@@ -179,14 +178,13 @@ fn no_place_left(restart: bool, places_len: usize, restarts: usize) -> bool
 // All tests of adding: the fit question's, then 5, 6.
 fn accept_row(
     s: State,
-    last_key: &[u8],
+    last_key: &[u8; basics::MAX_KEY],
     data_len: usize,
     places_len: usize,
     key: &[u8],
     value_len: usize,
     row: RowFields,
 ) -> Result<Planned, Refusal>
-    requires { length last_key.now ≡ max_key }
     ensures { Plans (accepted (view_from s last_key.now) data_len places_len key.now) row value_len result }
 {
     let planned = plan_row(s, last_key, data_len, places_len, key, value_len, row)?;
@@ -217,14 +215,13 @@ fn found_row(shared: usize, size: usize, restart: bool) -> Planned
 // Which one is refused, and how, is left to `accept_row`.
 fn find_row(
     s: State,
-    last_key: &[u8],
+    last_key: &[u8; basics::MAX_KEY],
     data_len: usize,
     places_len: usize,
     key: &[u8],
     value_len: usize,
     row: RowFields,
 ) -> Planned
-    requires { length last_key.now ≡ max_key }
     ensures { Finds (accepted (view_from s last_key.now) data_len places_len key.now) row value_len result }
 {
     if finish_in_place_v2::is_bad_state(s, data_len, places_len) {
@@ -373,15 +370,15 @@ pub fn add_in_place(
 ) -> Result<State, Refusal>
     ensures { AddsInPlace s last_key.old «data».old restarts.old key.now value.now row result last_key.new «data».new restarts.new }
 {
-    if last_key.len() != basics::MAX_KEY {
+    let Ok(last) = <&[u8; basics::MAX_KEY]>::try_from(&last_key[..]) else {
         return Err(Refusal::BadState);
-    }
+    };
     let data_len = data.len();
     let places_len = restarts.len();
     let value_len = value.len();
-    let found = find_row(s, last_key, data_len, places_len, key, value_len, row);
+    let found = find_row(s, last, data_len, places_len, key, value_len, row);
     if found.size == 0 {
-        let planned = accept_row(s, last_key, data_len, places_len, key, value_len, row);
+        let planned = accept_row(s, last, data_len, places_len, key, value_len, row);
         return Err(basics::refusal_of(planned));
     }
     Ok(grow(

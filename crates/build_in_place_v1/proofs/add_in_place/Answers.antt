@@ -5,14 +5,20 @@ use mathlib.Core.Path.{refl}
 use Rattle.build_in_place_v1.proofs.Writes.{tested-is, grows_strange, grows-refused, grows}
 use Rattle.build_in_place_v1.proofs.add_in_place.Goals as goal
 
-pub returns-then-first_key-ne-MAX_KEY : goal.returns-then-first_key-ne-MAX_KEY
-returns-then-first_key-ne-MAX_KEY c = grows_strange _ _ _ _ _ _ c.if-first_key-ne-MAX_KEY.true
+pub returns-in_default : goal.returns-in_default
+returns-in_default c = grows_strange _ _ _ _ _ _ c.in_default.ensures.1
 
 pub returns-in_err-planned : goal.returns-in_err-planned
-returns-in_err-planned c = grows-refused _ _ _ _ _ _ c.if-first_key-ne-MAX_KEY.false _ _ c.from_residual.ensures.1 (c.in_err-planned.ensures _ refl)
+returns-in_err-planned c =
+    let w = c.in-Ok.ensures.1 in
+    grows-refused _ _ _ _ _ _ w.long _ _ c.from_residual.ensures.1 (rw w.same at (c.in_err-planned.ensures _ refl))
 
 pub grow-requires : goal.grow-requires
-grow-requires c = record { first_key_len = c.if-first_key-ne-MAX_KEY.false; tested = tested-is _ _ _ _ _ (c.in_ok-planned.ensures _ refl) }
+grow-requires c =
+    let w = c.in-Ok.ensures.1 in
+    record { first_key_len = w.long; tested = tested-is _ _ _ _ _ (rw w.same at (c.in_ok-planned.ensures _ refl)) }
 
 pub returns : goal.returns
-returns c = grows _ _ _ _ _ _ c.if-first_key-ne-MAX_KEY.false (tested-is _ _ _ _ _ (c.in_ok-planned.ensures _ refl)) c.grow.ensures
+returns c =
+    let w = c.in-Ok.ensures.1 in
+    grows _ _ _ _ _ _ w.long (tested-is _ _ _ _ _ (rw w.same at (c.in_ok-planned.ensures _ refl))) c.grow.ensures

@@ -34,7 +34,7 @@ pub returns-then-is_bad_state : goal.returns-then-is_bad_state
 returns-then-is_bad_state c v long = fit-by _ _ _ _ _ (state-refused _ (c.is_bad_state.ensures _) c.if-is_bad_state.true) refl refl
 
 pub compute_prefix-shared-requires : goal.compute_prefix-shared-requires
-compute_prefix-shared-requires c = omega (arith, (state-tells _ _ _ tt (state (goal.at.compute_prefix-shared-requires c).Else-is_bad_state)).first_fits, c.requires)
+compute_prefix-shared-requires c = omega (arith, (state-tells _ _ _ tt (state (goal.at.compute_prefix-shared-requires c).Else-is_bad_state)).first_fits)
 
 pub encoded_size-requires : goal.encoded_size-requires
 encoded_size-requires c = (share-whole _ _ c.compute_prefix-shared.ensures).0

@@ -43,7 +43,7 @@ pub is_restart_point-mark-requires : goal.is_restart_point-mark-requires
 is_restart_point-mark-requires c = let o = state-tells _ _ _ tt (state (goal.at.is_restart_point-mark-requires c).Else-is_bad_state) in record { le_restart_interval = (o.some, o.few, o.allowed); restarts_value = o.counted }
 
 pub shared_bytes-shared-requires : goal.shared_bytes-shared-requires
-shared_bytes-shared-requires c = omega (arith, (state-tells _ _ _ tt (state (goal.at.shared_bytes-shared-requires c).Else-is_bad_state)).last_fits, c.requires)
+shared_bytes-shared-requires c = omega (arith, (state-tells _ _ _ tt (state (goal.at.shared_bytes-shared-requires c).Else-is_bad_state)).last_fits)
 
 pub entry_encoded_size-requires : goal.entry_encoded_size-requires
 entry_encoded_size-requires c = share-fits _ _ _ c.shared_bytes-shared.ensures

@@ -2,18 +2,18 @@
 -- `plan_row` makes the same tests, and says more: of a row that fits, what was found is dropped, and a refusal is handed on as it is.
 use mathlib.Core.Path.{refl, sym}
 use Rattle.basics.specs.Answers.{handed-on}
-use Rattle.row_flags.specs.Says.{fields_from}
 use Rattle.build_in_place_v2.proofs.Writes.{fit_strange, fit-said, fit_refused}
 use Rattle.build_in_place_v2.proofs.would_fit_in_place.Goals as goal
 
-pub returns-then-last_key-ne-MAX_KEY : goal.returns-then-last_key-ne-MAX_KEY
-returns-then-last_key-ne-MAX_KEY c =
-    let a = c.args in
-    fit_strange a.s a.last_key.now a.data_len a.places_len a.key.now (fields_from a.row a.value.now) c.if-last_key-ne-MAX_KEY.true
+pub returns-in_default : goal.returns-in_default
+returns-in_default c = fit_strange _ _ _ _ _ _ c.in_default.ensures.1
 
 pub returns-in_err-plan_row : goal.returns-in_err-plan_row
 returns-in_err-plan_row c =
-    handed-on (λ v. tt) _ _ c.from_residual.ensures.1 (fit_refused _ _ _ _ _ _ c.if-last_key-ne-MAX_KEY.false (sym (c.in_err-plan_row.ensures _ refl)))
+    let w = c.in-Ok.ensures.1 in
+    handed-on (λ v. tt) _ _ c.from_residual.ensures.1 (fit_refused _ _ _ _ _ _ w.long (sym (rw w.same at (c.in_err-plan_row.ensures _ refl))))
 
 pub returns : goal.returns
-returns c = fit-said _ _ _ _ _ _ c.if-last_key-ne-MAX_KEY.false (sym (c.in_ok-plan_row.ensures _ refl))
+returns c =
+    let w = c.in-Ok.ensures.1 in
+    fit-said _ _ _ _ _ _ w.long (sym (rw w.same at (c.in_ok-plan_row.ensures _ refl)))
