@@ -1,9 +1,9 @@
 -- What is answered of a block: the tally after it, and the verdict. No two answers say the same.
-use Rattle.std.specs.Prelude.{◌≡◌}
+use Rattle.std.specs.Prelude.{◌≡◌, Result, ⊤}
 use Rattle.std.proofs.Common.{ap}
 use Rattle.layout.specs.Res.{Res, ok, refuse}
 use Rattle.basics.specs.Answers.{says_verdict, says_verdict-one}
-use Rattle.basics.specs.declared.Verdict.{Verdict}
+use Rattle.basics.specs.declared.Refusal.{Refusal}
 use Rattle.tally.specs.declared.Tally.{Tally}
 
 pub record Told : Type 0 where
@@ -20,5 +20,5 @@ after_block t (refuse n) = told t (refuse n)
 
 -- ---- one to one
 
-pub told-one : {t s : Tally} {a b : Verdict} → told t (says_verdict a) ≡ told s (says_verdict b) → (t ≡ s) × (a ≡ b)
+pub told-one : {t s : Tally} {a b : Result ⊤ Refusal} → told t (says_verdict a) ≡ told s (says_verdict b) → (t ≡ s) × (a ≡ b)
 told-one {a = a} {b = b} e = (ap (λ (x : Told). x.tally) e, says_verdict-one a b (ap (λ (x : Told). x.verdict) e))

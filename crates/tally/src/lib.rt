@@ -6,13 +6,12 @@ ghost use Rattle.tally.specs.Parts.{OpensRows, PassesRow};
 ghost use Rattle.tally.specs.Tally.{added};
 ghost use Rattle.tally.specs.Promise.{CountsRow, CountsBlock};
 
-use basics::{IterationOrder, ValueDeletable, Verdict};
-use block_check_v2::Checked;
+use basics::{IterationOrder, Refusal, ValueDeletable};
 use block_iterator_v2::BlockIteratorV2;
 use place_v2::Place;
 use step_in_place_v2::Moved;
 
-#[derive(Clone, Copy)]
+#[derive(Clone, Copy, Default)]
 pub struct Tally {
     pub rows: u64,
     pub tombstones: u64,
@@ -24,15 +23,14 @@ pub struct Tally {
 #[derive(Clone, Copy)]
 pub struct TalliedBlock {
     pub tally: Tally,
-    pub answer: Verdict,
+    pub answer: Result<(), Refusal>,
 }
 
-// A block that is opened for counting: the place before its first row, how many rows there are to count, which are none in a refused block, and the answer.
+// A block that is opened for counting: the place before its first row, and how many rows there are to count.
 #[derive(Clone, Copy)]
 struct Opening {
     start: Place,
     rows: usize,
-    answer: Verdict,
 }
 
 // What a step passes: the place past the row, and what the row holds.
@@ -48,10 +46,7 @@ struct Passed {
 fn added(count: u64, n: u64) -> u64
     ensures { result ≡ added count n }
 {
-    if u64::MAX - count < n {
-        return u64::MAX;
-    }
-    count + n
+    count.saturating_add(n)
 }
 
 // The tally with one row more. Value bytes are those of values and merges: a tombstone adds none.
@@ -84,24 +79,15 @@ pub fn tally_row(t: &mut Tally, held: ValueDeletable)
 
 // ---- a block
 
-fn open(block: &[u8]) -> Opening
+fn open(block: &[u8]) -> Result<Opening, Refusal>
     ensures { OpensRows block.now result }
 {
-    let checked = block_check_v2::check(block);
+    let rows = block_check_v2::check(block)?;
     let opened = BlockIteratorV2::new(block, IterationOrder::Ascending);
-    let start = opened.iterator.place;
-    match checked {
-        Checked::Rows(n) => Opening {
-            start,
-            rows: n,
-            answer: Verdict::Good,
-        },
-        Checked::Refused(refusal) => Opening {
-            start,
-            rows: 0,
-            answer: Verdict::Refused(refusal),
-        },
-    }
+    Ok(Opening {
+        start: opened.iterator.place,
+        rows,
+    })
 }
 
 // One step in place. The check has accepted the block where there are rows to count, so there each step finds its row.
@@ -117,38 +103,37 @@ fn step(
         place: p,
         held: ValueDeletable::Tombstone,
     };
-    let moved = step_in_place_v2::next_in_place(carried, p, block, key);
-    match moved {
-        Moved::Found {
-            place,
-            region: _,
-            number: _,
-            row,
-        } => {
+    match step_in_place_v2::next_in_place(carried, p, block, key) {
+        Ok(
+            Moved::Found {
+                place,
+                region: _,
+                number: _,
+                row,
+            },
+        ) => {
             let held = row.held;
             Passed { place, held }
         }
-        Moved::Done(_) => none,
-        Moved::Refused(_) => none,
+        Ok(Moved::Done(_)) => none,
+        Err(_) => none,
     }
 }
 
 // One tally that the desk lends for the whole block, and each row updates in place. A block that the check refuses leaves it as it was.
-pub fn tally_block(t: &mut Tally, block: &[u8]) -> Verdict
+pub fn tally_block(t: &mut Tally, block: &[u8]) -> Result<(), Refusal>
     ensures { CountsBlock t.old block.now t.new result }
 {
-    let opened = open(block);
+    let opened = open(block)?;
     let mut p = opened.start;
-    let mut left = opened.rows;
     let mut carried = [0; basics::MAX_KEY];
     let mut key = [0; basics::MAX_KEY];
-    while 0 < left {
+    for _ in 0..opened.rows {
         let passed = step(&mut carried, p, block, &mut key);
         tally_row(t, passed.held);
         p = passed.place;
-        left -= 1;
     }
-    opened.answer
+    Ok(())
 }
 
 // The same for a desk that holds its tally by value: it is lent for the block, and had back.
