@@ -21,13 +21,12 @@ use Rattle.layout.specs.Cursor.{Direction, ascending, descending}
 use Rattle.layout_v1.specs.RowRead.{read_row}
 use Rattle.layout_v1.specs.Check.{before}
 use Rattle.layout_v1.specs.Cursor.{Cursor, cursor_is, found, done, Step, step_is, number_of, step_to}
-use Rattle.layout_v1.specs.Seek.{Sought as SoughtL, sought_is, passed_by}
+use Rattle.layout_v1.specs.Seek.{Sought as SoughtL, sought_is}
 use Rattle.layout_v1.proofs.Laws.RowReads.{RowEnds, read_row-ends}
 use Rattle.layout_v1.proofs.Laws.Cursor.{before-length, share-fits, step-region, step_row, step-short, step-found}
 use Rattle.basics.specs.Number.{number}
 use Rattle.basics.specs.Says.{says_order}
 use Rattle.basics.specs.declared.IterationOrder.{IterationOrder}
-use Rattle.basics.specs.declared.IterationOrder.TheVariants.{Ascending, Descending}
 use Rattle.basics.specs.declared.Refusal.{Refusal}
 use Rattle.basics.specs.declared.Refusal.TheVariants.{KeyBufferTooShort}
 use Rattle.buf_mut.proofs.Laws.{copied-part}
@@ -125,20 +124,6 @@ module _ (b : List ℕ) (t : Trailer) (i room : ℕ) {a : Result Loaded Refusal}
 pub number-inside : (d : Direction) (count passed : ℕ) {n : ℕ} → passed < count → n ≡ number_of d count passed → n < count
 number-inside ascending count passed h e = omega arith
 number-inside descending count passed h e = omega arith
-
-module _ (count passed : ℕ) {order : IterationOrder} where
-  pub number_up : order ≡ Ascending → passed ≡ number_of (says_order order) count passed
-  number_up o = rw o
-
-  pub number-down : order ≡ Descending → count - 1 - passed ≡ number_of (says_order order) count passed
-  number-down o = rw o (omega arith)
-
-module _ (count place : ℕ) {order : IterationOrder} where
-  pub passed-up : order ≡ Ascending → place ≡ passed_by (says_order order) count place
-  passed-up o = rw o
-
-  pub passed-down : order ≡ Descending → count - place ≡ passed_by (says_order order) count place
-  passed-down o = rw o
 
 part-long : (d : List ℕ) (at n : ℕ) → at + n ≤ length d → length (take n (drop at d)) ≡ n
 part-long d at n h = length-take-le n (drop at d) (rw (length-drop at d) (omega arith))

@@ -21,9 +21,6 @@ pub give_key-requires : goal.give_key-requires
 give_key-requires c =
     loaded-fits _ _ _ _ c.load_at.ensures c.in-Ok.is
 
-pub overflow_add-moved : goal.overflow_add-moved
-overflow_add-moved c = omega (arith, c.requires.1, (trailer_of-tells _ _ c.requires.0).0)
-
 pub returns-in-Ok : goal.returns-in-Ok
 returns-in-Ok c =
     steps-found _ c.args.c _

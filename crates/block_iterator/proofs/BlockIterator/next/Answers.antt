@@ -15,9 +15,6 @@ returns-then-t-self c = steps-not _ _ _ (next_strange _ _ _ _ (sym c.in-Ok.ensur
 pub returns-then-self-t : goal.returns-then-self-t
 returns-then-self-t c = steps-done _ c.args.self _ (next-done _ _ _ _ (sym c.in-Ok.ensures) c.if-self-t.true)
 
-pub give_row-requires : goal.give_row-requires
-give_row-requires c = (sym c.in-Ok.ensures, omega (arith, c.if-t-self.false, c.if-self-t.false))
-
 pub returns : goal.returns
 returns c =
     steps_as _ _ _ (next-on _ _ _ _ (sym c.in-Ok.ensures) (omega (arith, c.if-t-self.false, c.if-self-t.false))) c.give_row.ensures
