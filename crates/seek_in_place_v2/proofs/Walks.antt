@@ -6,6 +6,7 @@ use mathlib.Core.Bool.{true, false}
 use mathlib.Core.List.{List, []}
 use mathlib.Core.Logic.{⊎_elim}
 use native.Mathlib.Omega.{arith}
+use native.Mathlib.Numerals.{unary_clauses}
 use lib.ListN.{length, take, drop}
 use lib.Seq.{take_at}
 use borrow.Author.Tests.{lt-ltb, le-ltb}
@@ -17,7 +18,8 @@ use Rattle.layout.specs.RowRead.{key_of}
 use Rattle.layout.specs.Trailer.{Trailer, trailer_of, data_of, Region, region_of, row_in}
 use Rattle.layout.specs.Number.{ended_by, number_at}
 use Rattle.layout.specs.Cursor.{ascending, Cursor, cursor_is}
-use Rattle.layout.specs.Seek.{Stop, stop_is, walk_region, Sought}
+use Rattle.layout.specs.Seek.{Stop, stop_is, walk_region, Sought, done_down, last_at_or_below, walk_down}
+use Rattle.layout.proofs.Laws.Seek.{Falling, falling-done, falling-more}
 use Rattle.layout.proofs.Laws.Res.{bind-then, cond-ok, ltb-cases, ok-inj}
 use Rattle.layout.proofs.Laws.Number.{number_in}
 use Rattle.layout.proofs.Laws.Tells.{row_in-ends}
@@ -131,3 +133,17 @@ past-region b t first i g target key at n m key' e s over h z =
     let there : at ≡ t.size = omega (arith, (tells.last (omega arith)).0, ends) in
     let index : i ≡ t.count - 1 = omega arith in
     s.counts ∙ ap₂ (number_at b t) index there
+
+-- what is left of a walk down, with n regions from the first on still to be read
+abbrev pub FallsTo : List ℕ → Trailer → Key → ℕ → ℕ → Type 0
+FallsTo b t target first zero = ok done_down ≡ walk_down (suc first) b t target first
+FallsTo b t target first (suc r) = Falling b t target first r
+
+pub falls-at : (b : List ℕ) (t : Trailer) (target : Key) (first n : ℕ) → 0 < n → FallsTo b t target first n → Falling b t target first (n - 1)
+falls-at b t target first zero h s = absurd (omega (arith, h))
+falls-at b t target first (suc r) h s = simp unary_clauses s
+
+pub falls-on : (b : List ℕ) (t : Trailer) (target : Key) (first region : ℕ) → Falling b t target first region → (g : Region) → region_of b t region ≡ ok g → (best : ℕ)
+    → last_at_or_below t.size (data_of b t) g target g.start [] g.start ≡ ok best → best ≤ g.start → FallsTo b t target first region
+falls-on b t target first zero s g e best w k = falling-done b t target first zero s g e best w k refl
+falls-on b t target first (suc r) s g e best w k = simp unary_clauses at (falling-more b t target first (suc r) s g e best w k (λ z. omega (arith, z)))

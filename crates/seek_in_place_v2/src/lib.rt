@@ -114,8 +114,7 @@ fn walk_down(block: &[u8], t: Trailer, target: &[u8], start: Start) -> Result<Fo
     ensures { (p : Place) (k : List ℕ) → Finds (bind (walk_down (suc start.region) block.now (trailer_from t) target.now start.region) (sought start.reads)) p k result k }
 {
     let size = t.size;
-    let mut index = start.region;
-    loop {
+    for index in (0..start.region + 1).rev() {
         let region = trailer::region_of(block, t, index)?;
         let last = whole_regions_v2::last_at_or_below(&block[..size], region, target)?;
         if region.start < last.at {
@@ -128,11 +127,8 @@ fn walk_down(block: &[u8], t: Trailer, target: &[u8], start: Start) -> Result<Fo
                 start.reads,
             ));
         }
-        if index == 0 {
-            return Ok(over(IterationOrder::Descending, 0, 0, 0, start.reads));
-        }
-        index -= 1;
     }
+    Ok(over(IterationOrder::Descending, 0, 0, 0, start.reads))
 }
 
 fn seek_ascending(key: &mut [u8], block: &[u8], t: Trailer, target: &[u8]) -> Result<Found, Refusal>
