@@ -1,6 +1,6 @@
 -- A plain row of the region in which a cursor goes on: the step past it, whatever room there is for its key, and the cursor that it leaves, which goes on in the
 -- region or is handed over to the next.
-use Rattle.std.specs.Prelude.{ℕ, ◌+◌, ◌-◌, ◌<◌, ◌≤◌, ◌≡◌, refl, Bool, true, false, ◌&&◌, List, [], ◌++◌, eqb, length, take, drop}
+use Rattle.std.specs.Prelude.{ℕ, ◌+◌, ◌-◌, ◌<◌, ◌≤◌, ◌≡◌, refl, Bool, true, false, ◌&&◌, List, [], ◌++◌, eqb, length, take, drop, Some}
 use Rattle.std.proofs.Common.{ap, sym, ◌∙◌, arith, length-take-le, lt-ltb, le-ltb, eq-eqb, ne_eqb, eqb-true}
 use Rattle.layout.specs.Res.{ok}
 use Rattle.layout.specs.Fixed.{unbig}
@@ -45,7 +45,7 @@ seq-read d at r f e = e ∙ ap or_zero (fixed_at-is 8 d (r.next - 9) (omega (ari
 abbrev pub moved_to : Place → ℕ → ℕ → ℕ → ℕ → Place
 moved_to p region at n len = record { order = p.order; region = region; at = at; number = n; key_len = len; done = p.done }
 
-module _ (b : List ℕ) (size : ℕ) (g : Region) (p : Place) (key : List ℕ) (i : Inside b size g (view_in p key)) {most : ℕ} (r : Plain) (m : most ≡ may_share (eqb p.at g.start) p.key_len) (e : r ≡ plain_at (take size b) p.at g.end most) (h : r.next ≡ 0 → ⊥) where
+module _ (b : List ℕ) (size : ℕ) (g : Region) (p : Place) (key : List ℕ) (i : Inside b size g (view_in p key)) {most : ℕ} (r : Plain) (m : most ≡ may_share (eqb p.at g.start) p.key_len) (e : Some r ≡ plain_at (take size b) p.at g.end most) where
   abbrev pub row_here : RowRead
   row_here = plain_read (take size b) p.at r
 
@@ -53,15 +53,15 @@ module _ (b : List ℕ) (size : ℕ) (g : Region) (p : Place) (key : List ℕ) (
   key_here = key_of (take size b) (take p.key_len key) row_here
 
   pub here-tells : PlainTells (take size b) p.at g.end most r
-  here-tells = rw (← e) at (plain_at-tells (take size b) p.at g.end most (rw (← e) (omega arith)))
+  here-tells = plain_at-tells (take size b) p.at g.end most (sym e)
 
   here-read : row_in (take size b) g p.at p.key_len ≡ ok row_here
-  here-read = plain-reads (take size b) p.at g.end p.key_len g.start r m e (omega arith)
+  here-read = plain-reads (take size b) p.at g.end p.key_len g.start r m e
 
   pub here-step : (room : ℕ) → r.shared + r.unshared ≤ room → next (view_in p key) b room ≡ ok (step_is (past_row (view_in p key) g row_here key_here) (found p.region p.number row_here key_here))
   here-step room held =
       plain_step (view_in p key) b room (trailer_is i.count size) g r i.heads i.unmarked i.read i.counted i.few i.bounds i.from
-      (omega (arith, here-tells.next-is, here-tells.within)) i.right m e (omega arith) held
+      (omega (arith, here-tells.next-is, here-tells.within)) i.right m e held
 
   pub here-fits : (x : PlainRow) → plain_from x ≡ r → PlainFits (length (take size b)) p.at x
   here-fits x q =
@@ -130,9 +130,9 @@ pub share-key : (at start len : ℕ) → (at ≡ start → ⊥) → len ≡ may_
 share-key at start len h = rw (ne_eqb at start h) refl
 
 -- the bytes of the key do not matter
-pub bounds-inside : (p : Place) (key b : List ℕ) {r : Bounds} → BoundsOf p b r → (r.region.end ≡ 0 → ⊥) → Inside b r.size (region_from r.region) (view_in p key)
-bounds-inside p key b e h =
-    let i = stretch_inside (view_in p []) b e h in
+pub bounds-inside : (p : Place) (key b : List ℕ) {r : Bounds} → BoundsOf p b (Some r) → Inside b r.size (region_from r.region) (view_in p key)
+bounds-inside p key b e =
+    let i = stretch_inside (view_in p []) b e in
     record { count = i.count; heads = i.heads; unmarked = i.unmarked; read = i.read; counted = i.counted; few = i.few; bounds = i.bounds; from = i.from; right = i.right }
 
 -- ---- no row left

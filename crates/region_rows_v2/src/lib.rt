@@ -3,7 +3,6 @@
 #![tactic(auto)]
 
 ghost use Rattle.std.specs.Prelude.{◌≡◌};
-ghost use Rattle.region_rows_v2.specs.Bounds.{no_stretch, stretch_from};
 ghost use Rattle.region_rows_v2.specs.Promise.{BoundsOf};
 
 use basics::IterationOrder;
@@ -17,48 +16,37 @@ pub struct Bounds {
     pub region: Region,
 }
 
-fn no_bounds() -> Bounds
-    ensures { stretch_from result ≡ no_stretch }
-{
-    let region = Region {
-        start: 0,
-        end: 0,
-        reach: 0,
-    };
-    Bounds { size: 0, region }
-}
-
-// The region that an ascending cursor goes on in. All 0 where it goes on in none, for whatever reason: a step tells which. (A region ends past 0.)
-pub fn bounds_of(block: &[u8], p: Place) -> Bounds
+// The region that an ascending cursor goes on in. None where it goes on in none, for whatever reason: a step tells which.
+pub fn bounds_of(block: &[u8], p: Place) -> Option<Bounds>
     ensures { BoundsOf p block.now result }
 {
     let order = p.order;
     let IterationOrder::Ascending = order else {
-        return no_bounds();
+        return None;
     };
     if p.done {
-        return no_bounds();
+        return None;
     }
     let Ok(t) = trailer::trailer_of(block) else {
-        return no_bounds();
+        return None;
     };
     if t.count <= p.region {
-        return no_bounds();
+        return None;
     }
     if basics::MAX_KEY < p.key_len {
-        return no_bounds();
+        return None;
     }
     let Ok(region) = trailer::region_of(block, t, p.region) else {
-        return no_bounds();
+        return None;
     };
     if p.at < region.start {
-        return no_bounds();
+        return None;
     }
     if basics::wrong_after(p.at - region.start, p.number) {
-        return no_bounds();
+        return None;
     }
-    Bounds {
+    Some(Bounds {
         size: t.size,
         region,
-    }
+    })
 }

@@ -1,4 +1,4 @@
--- `bounds_of` answers the trailer and the region that the definition does, or all 0 where one of its tests is not passed.
+-- `bounds_of` answers the trailer and the region that the definition does, or none where one of its tests is not passed.
 -- Each exit is one law, over what was read on the way to it.
 use Prim.Native.Nat.{◌+◌, ◌*◌, ◌<◌}
 use mathlib.Core.Path.{◌≡◌, ap, sym, ◌∙◌}
@@ -33,42 +33,36 @@ region-read n = region-known _ _ _ ((trailer_of-tells _ _ (sym n.in-Ok.ensures))
 
 pub returns-in_default : goal.returns-in_default
 returns-in_default c =
-    c.no_bounds.ensures ∙ none-down (view_in c.args.p []) c.args.block.now (ap says_order c.in_default.is)
+    none-down (view_in c.args.p []) c.args.block.now (ap says_order c.in_default.is)
 
 pub returns-then-p : goal.returns-then-p
 returns-then-p c =
-    c.no_bounds-then-p.ensures ∙ none-marked (view_in c.args.p []) c.args.block.now (heads (goal.at.returns-then-p c).In-Ascending) c.if-p.true
+    none-marked (view_in c.args.p []) c.args.block.now (heads (goal.at.returns-then-p c).In-Ascending) c.if-p.true
 
 pub returns-in_default-trailer_of : goal.returns-in_default-trailer_of
 returns-in_default-trailer_of c =
-    c.no_bounds-in_default-trailer_of.ensures
-    ∙ none-trailer (view_in c.args.p []) c.args.block.now (heads (goal.at.returns-in_default-trailer_of c).In-Ascending) c.if-p.false (sym c.in_default-trailer_of.ensures)
+    none-trailer (view_in c.args.p []) c.args.block.now (heads (goal.at.returns-in_default-trailer_of c).In-Ascending) c.if-p.false (sym c.in_default-trailer_of.ensures)
 
 pub returns-then-t-p : goal.returns-then-t-p
 returns-then-t-p c =
-    c.no_bounds-then-t-p.ensures
-    ∙ none-region (cursor (goal.at.returns-then-t-p c).In-Ok) c.args.block.now (heads (goal.at.returns-then-t-p c).In-Ascending) c.if-p.false _ (trailer-read (goal.at.returns-then-t-p c).In-Ok) c.if-t-p.true
+    none-region (cursor (goal.at.returns-then-t-p c).In-Ok) c.args.block.now (heads (goal.at.returns-then-t-p c).In-Ascending) c.if-p.false _ (trailer-read (goal.at.returns-then-t-p c).In-Ok) c.if-t-p.true
 
 pub returns-then-p-gt-MAX_KEY : goal.returns-then-p-gt-MAX_KEY
 returns-then-p-gt-MAX_KEY c =
-    c.no_bounds-then-p-gt-MAX_KEY.ensures
-    ∙ none-key (cursor (goal.at.returns-then-p-gt-MAX_KEY c).In-Ok) c.args.block.now (heads (goal.at.returns-then-p-gt-MAX_KEY c).In-Ascending) c.if-p.false _ (trailer-read (goal.at.returns-then-p-gt-MAX_KEY c).In-Ok) c.if-t-p.false c.if-p-gt-MAX_KEY.true
+    none-key (cursor (goal.at.returns-then-p-gt-MAX_KEY c).In-Ok) c.args.block.now (heads (goal.at.returns-then-p-gt-MAX_KEY c).In-Ascending) c.if-p.false _ (trailer-read (goal.at.returns-then-p-gt-MAX_KEY c).In-Ok) c.if-t-p.false c.if-p-gt-MAX_KEY.true
 
 pub returns-in_default-region_of : goal.returns-in_default-region_of
 returns-in_default-region_of c =
-    c.no_bounds-in_default-region_of.ensures
-    ∙ none-bounds (cursor (goal.at.returns-in_default-region_of c).In-Ok) c.args.block.now (heads (goal.at.returns-in_default-region_of c).In-Ascending) c.if-p.false _ (trailer-read (goal.at.returns-in_default-region_of c).In-Ok) c.if-t-p.false c.if-p-gt-MAX_KEY.false
+    none-bounds (cursor (goal.at.returns-in_default-region_of c).In-Ok) c.args.block.now (heads (goal.at.returns-in_default-region_of c).In-Ascending) c.if-p.false _ (trailer-read (goal.at.returns-in_default-region_of c).In-Ok) c.if-t-p.false c.if-p-gt-MAX_KEY.false
     (region-known _ _ _ (has (goal.at.returns-in_default-region_of c).After-region_of) c.in_default-region_of.ensures)
 
 pub returns-then-p-region : goal.returns-then-p-region
 returns-then-p-region c =
-    c.no_bounds-then-p-region.ensures
-    ∙ none_before (cursor (goal.at.returns-then-p-region c).In-Ok) c.args.block.now (heads (goal.at.returns-then-p-region c).In-Ascending) c.if-p.false _ (trailer-read (goal.at.returns-then-p-region c).In-Ok) c.if-t-p.false c.if-p-gt-MAX_KEY.false _ (region-read (goal.at.returns-then-p-region c).In-Ok-region_of) c.if-p-region.true
+    none_before (cursor (goal.at.returns-then-p-region c).In-Ok) c.args.block.now (heads (goal.at.returns-then-p-region c).In-Ascending) c.if-p.false _ (trailer-read (goal.at.returns-then-p-region c).In-Ok) c.if-t-p.false c.if-p-gt-MAX_KEY.false _ (region-read (goal.at.returns-then-p-region c).In-Ok-region_of) c.if-p-region.true
 
 pub returns-then-wrong_after : goal.returns-then-wrong_after
 returns-then-wrong_after c =
-    c.no_bounds-then-wrong_after.ensures
-    ∙ none_wrong (cursor (goal.at.returns-then-wrong_after c).In-Ok) c.args.block.now (heads (goal.at.returns-then-wrong_after c).In-Ascending) c.if-p.false _ (trailer-read (goal.at.returns-then-wrong_after c).In-Ok) c.if-t-p.false c.if-p-gt-MAX_KEY.false _ (region-read (goal.at.returns-then-wrong_after c).In-Ok-region_of) c.if-p-region.false
+    none_wrong (cursor (goal.at.returns-then-wrong_after c).In-Ok) c.args.block.now (heads (goal.at.returns-then-wrong_after c).In-Ascending) c.if-p.false _ (trailer-read (goal.at.returns-then-wrong_after c).In-Ok) c.if-t-p.false c.if-p-gt-MAX_KEY.false _ (region-read (goal.at.returns-then-wrong_after c).In-Ok-region_of) c.if-p-region.false
     (sym c.wrong_after.ensures ∙ c.if-wrong_after.true)
 
 pub returns : goal.returns
