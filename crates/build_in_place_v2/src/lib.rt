@@ -98,10 +98,7 @@ fn restart_overhead(restart: bool) -> usize
 fn has_room(counter: usize, block_size: usize, size: usize) -> bool
     ensures { result ≡ (eqb counter 0 || leb size block_size) }
 {
-    if counter == 0 {
-        return true;
-    }
-    size <= block_size
+    counter == 0 || size <= block_size
 }
 
 // The fit question, with what was found on the way: 18, 1, 2, 3, 4. Of the value its length is enough, and nothing is written.
@@ -160,19 +157,13 @@ pub fn would_fit_in_place(
 fn restart_too_far(restart: bool, used: usize) -> bool
     ensures { result ≡ (restart && ltb max_offset used) }
 {
-    if restart {
-        return basics::MAX_OFFSET < used;
-    }
-    false
+    restart && basics::MAX_OFFSET < used
 }
 
 fn no_place_left(restart: bool, places_len: usize, restarts: usize) -> bool
     ensures { result ≡ (restart && leb places_len restarts) }
 {
-    if restart {
-        return places_len <= restarts;
-    }
-    false
+    restart && places_len <= restarts
 }
 
 // All tests of adding: the fit question's, then 5, 6.
