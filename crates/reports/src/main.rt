@@ -5,63 +5,33 @@
 // and writes beside each refused block the number that the rules give for what was put wrong in it.
 #![tactic(auto)]
 
-mod show;
-
-use replay_text::input;
+use replay_text::{input, parse};
 use std::io;
-use std::io::Write;
 
 const MOST_INPUT: usize = 8192;
 
-// The digit that `b` spells; what is none is 0.
-fn digit(b: u8) -> u8 {
-    match b {
-        b'0'..=b'9' => b - b'0',
-        b'a'..=b'f' => b - b'a' + 10,
-        _ => 0,
-    }
-}
-
-// The byte with one more digit, of which the last two count.
-fn joined(byte: u8, digit: u8) -> u8 {
-    byte % 16 * 16 + digit % 16
-}
-
-fn report_start(rt: &impl Print, block: &[u8], n: usize) -> io::Result<()> {
-    if n <= block.len() {
-        show::report(rt, &block[..n])?;
-    }
-    Ok(())
-}
-
-// Puts one more digit into the block, after so many; at a line's end reports on the block, and starts again. Digits that it has no room for are dropped.
-fn taken(rt: &impl Print, block: &mut [u8], digits: usize, b: u8) -> io::Result<usize> {
-    let at = digits / 2;
-    if b == b'\n' {
-        report_start(rt, block, at)?;
-        return Ok(0);
-    }
-    if block.len() <= at {
-        return Ok(digits);
-    }
-    block[at] = joined(block[at], digit(b));
-    Ok(digits.wrapping_add(1))
-}
-
-fn report_all(rt: &impl Print, text: &[u8]) -> io::Result<()> {
+// Digits that the block has no room for are dropped.
+fn report_line(rt: &impl Print, digits: &[u8]) -> io::Result<()> {
     let mut block = [0u8; 512];
-    let mut digits = 0;
-    for b in text {
-        digits = taken(rt, &mut block, digits, *b)?;
+    let n = parse::bytes(digits, &mut block);
+    report_text::report(rt, &block[..n])
+}
+
+// What follows the last line's end is no line.
+fn report_all(rt: &impl Print, text: &[u8]) -> io::Result<()> {
+    for ended in text.split_inclusive(|b| *b == b'\n') {
+        if let [digits @ .., b'\n'] = ended {
+            report_line(rt, digits)?;
+        }
     }
     Ok(())
 }
 
 fn main(rt: HostRuntime) -> io::Result<()> {
-    let mut text = [0u8; 8193];
+    let mut text = [0u8; MOST_INPUT + 1];
     let n = input::read_full(&mut rt.reader(), &mut text)?;
     if MOST_INPUT < n {
-        return io::writer(&rt).write_all(b"input too long\n");
+        return println!(&rt; "input too long");
     }
     report_all(&rt, &text[..n])
 }
