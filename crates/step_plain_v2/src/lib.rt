@@ -1,4 +1,4 @@
-// One step of an ascending cursor past a plain row, by numbers alone: no enum is made, and the key goes from
+// One step of an ascending cursor past a plain row, by numbers alone: no row is made, and the key goes from
 // the block to where it is carried and to the lent buffer at once. What is not plain is not stepped past
 // here, and nothing is written then. Follows slatedb 0.16.0, src/block_iterator_v2.rs (Apache License 2.0),
 // for the rows that most rows are.
