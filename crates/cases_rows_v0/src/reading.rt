@@ -8,7 +8,10 @@ use std::io;
 pub fn alone(rt: &impl Print, s: &[u8], first_len: usize) -> io::Result<()> {
     match row_decode_v0::decode(s, first_len) {
         Ok(found) => {
-            print!(rt; "read: share {}, suffix {}, ", found.shared, found.suffix_len)?;
+            print!(rt;
+                "read: share {}, suffix {}, ",
+                found.shared, found.suffix_len
+            )?;
             print!(rt; "up to {} ", found.next)?;
             show::row(rt, s, found)?;
             println!(rt;)
