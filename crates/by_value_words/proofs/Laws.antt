@@ -9,7 +9,8 @@ use borrow.Author.Tests.{eq-eqb, ne_eqb, le-ltb}
 use Rattle.layout.specs.Limits.{max_key}
 use Rattle.layout.specs.Place.{splice, after_put}
 use Rattle.buf_mut.specs.Promise.{Puts}
-use Rattle.buf_mut.specs.declared.Put.{Put}
+use Rattle.std.specs.Prelude.{Result}
+use Rattle.basics.specs.declared.Refusal.{Refusal}
 use Rattle.buf_mut.proofs.Laws.{copied}
 use Rattle.state_v2.specs.declared.State.{State}
 use Rattle.block_v2.specs.Says.{builder_from as builder_over}
@@ -33,7 +34,7 @@ over-whole last {s} {t} {r} h e m =
 -- ---- a cursor
 
 -- a copy over all bytes leaves what was copied
-pub copied-whole : (src : List ℕ) {key ys : List ℕ} {p : Put} → length key ≡ max_key → length src ≡ max_key → Puts src key 0 p ys → ys ≡ src
+pub copied-whole : (src : List ℕ) {key ys : List ℕ} {p : Result ℕ Refusal} → length key ≡ max_key → length src ≡ max_key → Puts src key 0 p ys → ys ≡ src
 unfolding splice
 copied-whole src {key} h k q =
     copied (omega (arith, h, k)) q ∙ rw (drop_of_length-le key {i = 0 + length src} (omega (arith, h, k)), append-nil src) refl

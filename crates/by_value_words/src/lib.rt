@@ -12,7 +12,7 @@ pub fn builder_over(s: State, last_key: &[u8]) -> BlockBuilderV2
     ensures { MakesOver s last_key.now result }
 {
     let mut key = [0; basics::MAX_KEY];
-    buf_mut::copy_in(&mut key, 0, last_key);
+    let _ = buf_mut::copy_in(&mut key, 0, last_key);
     BlockBuilderV2 {
         state: s,
         last_key: key,
@@ -29,8 +29,7 @@ pub fn put_iterator(cursor: &mut [u64], key: &mut [u8], c: BlockIteratorV2) -> b
     if key.len() != basics::MAX_KEY {
         return false;
     }
-    let place = c.place;
-    block_words::put_cursor(cursor, place);
-    buf_mut::copy_in(key, 0, &c.key);
+    block_words::put_cursor(cursor, c.place);
+    let _ = buf_mut::copy_in(key, 0, &c.key);
     true
 }
