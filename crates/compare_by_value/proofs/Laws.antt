@@ -4,6 +4,7 @@ use Prim.Native.Nat.{ℕ}
 use mathlib.Core.Path.{◌≡◌, refl, ap, sym, ◌∙◌}
 use mathlib.Core.List.{List}
 use lib.ListN.{length, take}
+use Rattle.std.specs.Prelude.{Ok, Err, Some, None}
 use Rattle.layout.specs.Res.{Res, ok, refuse, whether}
 use Rattle.layout.specs.Builder.{Builder}
 use Rattle.layout.specs.Cursor.{next}
@@ -14,12 +15,11 @@ use Rattle.basics.specs.Number.{number}
 use Rattle.basics.specs.declared.Refusal.{Refusal}
 use Rattle.row_flags.specs.Says.{fields_from}
 use Rattle.row_decode_v2.specs.Says.{row_from}
-use Rattle.row_decode_v2.specs.declared.Row.{Row}
+use Rattle.block_iterator_v2.specs.declared.Found.{Found}
 use Rattle.row_flags.specs.declared.RowFields.{RowFields}
 use Rattle.block_v2.specs.Promise.{Adds, builder_after}
 use Rattle.block_v2.specs.Says.{builder_from as builder_over, view_of as view_of_builder}
 use Rattle.basics.specs.Answers.{says_verdict}
-use Rattle.basics.specs.declared.Verdict.TheVariants.{Good, Refused}
 use Rattle.block_v2.specs.declared.Added.{Added}
 use Rattle.block_v2.specs.declared.BlockBuilderV2.{BlockBuilderV2}
 use Rattle.place_v2.specs.Says.{view_in}
@@ -27,7 +27,6 @@ use Rattle.place_v2.specs.declared.Place.{Place}
 use Rattle.block_iterator_v2.specs.Promise.{StepsNext}
 use Rattle.block_iterator_v2.specs.Says.{view_of, says_next}
 use Rattle.block_iterator_v2.specs.declared.Next.{Next}
-use Rattle.block_iterator_v2.specs.declared.NextAnswer.TheVariants.{Found as NextFound, Done as NextDone, Refused as NextRefused}
 use Rattle.row_words.specs.Words.{done_code, builder_from, builder_words, cursor_in, cursor_words, fields_in, row_words_of, builder_count, row_count}
 use Rattle.builder_words.specs.Says.{state_in}
 use Rattle.by_value_words.specs.Promise.{iterator_over}
@@ -47,7 +46,7 @@ module _ (ws last bytes places key value fs : List ℕ) (f : RowFields) (h : len
   wanted = add_wanted ws last bytes places key value f
 
   module _ (r : Added) (bytes' places' : List ℕ) (p : Adds (builder_over (state_in ws) last) bytes places key value f r bytes' places') where
-    pub adds-good : {ws' last' : List ℕ} → r.answer ≡ Good → ws' ≡ builder_words (view_of_builder r.builder) → last' ≡ r.builder.last_key
+    pub adds-good : {ws' last' : List ℕ} → r.answer ≡ Ok tt → ws' ≡ builder_words (view_of_builder r.builder) → last' ≡ r.builder.last_key
         → AddsFlat ws last bytes places key value fs 0 ws' last' bytes' places'
     adds-good e s l =
         some wanted (yes says_verdict p.answer e) λ w z.
@@ -57,7 +56,7 @@ module _ (ws last bytes places key value fs : List ℕ) (f : RowFields) (h : len
         (s ∙ ap (λ (x : BlockBuilderV2). builder_words (view_of_builder x)) whole)
         (l ∙ ap (λ (x : BlockBuilderV2). x.last_key) whole))
 
-    pub adds-turned-down : {x : Refusal} {code : ℕ} → r.answer ≡ Refused x → code ≡ number x → AddsFlat ws last bytes places key value fs code ws last bytes' places'
+    pub adds-turned-down : {x : Refusal} {code : ℕ} → r.answer ≡ Err x → code ≡ number x → AddsFlat ws last bytes places key value fs code ws last bytes' places'
     adds-turned-down {x} e c =
         let z = whether-refused wanted (number x) (yes says_verdict p.answer e) in
         adds-asked ws last bytes places key value fs f h k is
@@ -67,21 +66,21 @@ module _ (ws last bytes places key value fs : List ℕ) (f : RowFields) (h : len
 
 module _ (b ws key out row : List ℕ) (p : Place) (h : length row ≡ row_count) (k : length key ≡ max_key) (is : cursor_in ws key ≡ ok (view_in p key)) where
   module _ (r : Next) (out' : List ℕ) (s : StepsNext (iterator_over p key) b out r out') where
-    pub next-found : {region n : ℕ} {x : Row} {ws' key' row' : List ℕ} → r.answer ≡ NextFound region n x → ws' ≡ cursor_words (view_of r.iterator) → key' ≡ r.iterator.key
-        → row' ≡ row_words_of region n (row_from x) → StepsFlat b ws key out row 0 ws' key' out' row'
-    next-found {region} {n} {x} {ws'} {key'} e w q z =
+    pub next-found : {f : Found} {ws' key' row' : List ℕ} → r.answer ≡ Ok (Some f) → ws' ≡ cursor_words (view_of r.iterator) → key' ≡ r.iterator.key
+        → row' ≡ row_words_of f.region f.number (row_from f.row) → StepsFlat b ws key out row 0 ws' key' out' row'
+    next-found {f} {ws'} {key'} e w q z =
         steps-asked b ws key out row p h k is
-        (stepped (view_of r.iterator) ws key out row ws' key' out' w (ap (take r.iterator.place.key_len) q) (view_in p key) (next (view_in p key) b (length out)) region n (row_from x)
+        (stepped (view_of r.iterator) ws key out row ws' key' out' w (ap (take r.iterator.place.key_len) q) (view_in p key) (next (view_in p key) b (length out)) f.region f.number (row_from f.row)
         (yes says_next s.answer e) s.view s.lent z)
 
-    pub next-done : {ws' key' : List ℕ} → r.answer ≡ NextDone → ws' ≡ cursor_words (view_of r.iterator) → key' ≡ r.iterator.key
+    pub next-done : {ws' key' : List ℕ} → r.answer ≡ Ok None → ws' ≡ cursor_words (view_of r.iterator) → key' ≡ r.iterator.key
         → StepsFlat b ws key out row done_code ws' key' out' row
     next-done {ws'} {key'} e w q =
         steps-asked b ws key out row p h k is
         (ended (view_of r.iterator) ws key out row ws' key' out' w (ap (take r.iterator.place.key_len) q) (view_in p key) (next (view_in p key) b (length out))
         (yes says_next s.answer e) s.view s.lent)
 
-    pub next-refused : {x : Refusal} {code : ℕ} → r.answer ≡ NextRefused x → code ≡ number x → StepsFlat b ws key out row code ws key out' row
+    pub next-refused : {x : Refusal} {code : ℕ} → r.answer ≡ Err x → code ≡ number x → StepsFlat b ws key out row code ws key out' row
     next-refused {x} {code} e q =
         let said = yes says_next s.answer e in
         let z = told-refused (next (view_in p key) b (length out)) (number x) said in

@@ -10,11 +10,8 @@ ghost use Rattle.by_value_words.specs.Promise.{iterator_over};
 ghost use Rattle.row_words.specs.Words.{builder_count};
 ghost use Rattle.compare_by_value.specs.Says.{PutsBuilder};
 
-use basics::Verdict;
-use block_iterator_v2::{BlockIteratorV2, NextAnswer};
+use block_iterator_v2::BlockIteratorV2;
 use block_v2::BlockBuilderV2;
-use block_words::CursorRead;
-use builder_words::OfferRead;
 use place_v2::Place;
 
 // ---- building a block
@@ -25,7 +22,7 @@ fn put_added(builder: &mut [u64], last_key: &mut [u8], b: BlockBuilderV2)
     ensures { PutsBuilder b builder.new last_key.new }
 {
     builder_words::put_state(builder, b.state);
-    buf_mut::copy_in(last_key, 0, &b.last_key);
+    let _ = buf_mut::copy_in(last_key, 0, &b.last_key);
 }
 
 // Adds a row: 254, 18, 1, 2, 3, 4, 5, 6.
@@ -41,18 +38,17 @@ pub extern "C" fn slatedb_builder_add_by_value(
 ) -> u8
     ensures { AddsFlat builder.old last_key.old «data».old restarts.old key.now value.now fields.now result builder.new last_key.new «data».new restarts.new }
 {
-    let loaded = builder_words::offer_in(builder, last_key, fields);
-    let OfferRead::Is { state: s, row } = loaded else {
+    let Some(offer) = builder_words::offer_in(builder, last_key, fields) else {
         return block_words::BAD_WORDS;
     };
-    let added = by_value_words::builder_over(s, last_key).add(data, restarts, key, value, row);
-    let answer = added.answer;
-    match answer {
-        Verdict::Good => {
+    let before = by_value_words::builder_over(offer.state, last_key);
+    let added = before.add(data, restarts, key, value, offer.row);
+    match added.answer {
+        Ok(()) => {
             put_added(builder, last_key, added.builder);
             block_words::GOOD
         }
-        Verdict::Refused(refusal) => basics::number(refusal),
+        Err(refusal) => u8::from(refusal),
     }
 }
 
@@ -64,7 +60,7 @@ fn iterator_over(p: Place, key: &[u8]) -> BlockIteratorV2
     ensures { result ≡ iterator_over p key.now }
 {
     let mut carried = [0; basics::MAX_KEY];
-    buf_mut::copy_in(&mut carried, 0, key);
+    let _ = buf_mut::copy_in(&mut carried, 0, key);
     BlockIteratorV2 {
         place: p,
         key: carried,
@@ -83,26 +79,19 @@ pub extern "C" fn slatedb_next_by_value(
 ) -> u8
     ensures { StepsFlat block.now cursor.old key.old out.old row.old result cursor.new key.new out.new row.new }
 {
-    let loaded = block_words::step_in(cursor, key, row);
-    let CursorRead::Is(p) = loaded else {
+    let Some(p) = block_words::step_in(cursor, key, row) else {
         return block_words::BAD_WORDS;
     };
     let next = iterator_over(p, key).next(block, out);
-    let answer = next.answer;
-    match answer {
-        NextAnswer::Found {
-            region,
-            number,
-            row: r,
-        } => {
+    match next.answer {
+        Ok(stepped) => {
             by_value_words::put_iterator(cursor, key, next.iterator);
-            row_words::put_row(row, region, number, r);
+            let Some(found) = stepped else {
+                return block_words::DONE;
+            };
+            row_words::put_row(row, found.region, found.number, found.row);
             block_words::GOOD
         }
-        NextAnswer::Done => {
-            by_value_words::put_iterator(cursor, key, next.iterator);
-            block_words::DONE
-        }
-        NextAnswer::Refused(refusal) => basics::number(refusal),
+        Err(refusal) => u8::from(refusal),
     }
 }
