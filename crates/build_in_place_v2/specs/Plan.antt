@@ -1,5 +1,5 @@
 -- What the private functions answer and write: a row that is tested, with what was found on the way; a row that is written.
-use Rattle.std.specs.Prelude.{ℕ, ◌+◌, ◌-◌, ◌^◌, ◌≤◌, ◌<◌, ◌≡◌, Bool, cond, List, [], ◌∷◌, ◌++◌, length, drop, set, Result}
+use Rattle.std.specs.Prelude.{ℕ, ◌+◌, ◌-◌, ◌^◌, ◌≤◌, ◌<◌, ◌≡◌, Bool, cond, List, [], ◌∷◌, ◌++◌, length, drop, set, Option, Some, None, Result}
 use Rattle.layout.specs.Res.{Res, ok, refuse, bind}
 use Rattle.layout.specs.Block.{share_of}
 use Rattle.layout.specs.Builder.{Builder, at_restart, next_row, grown_size, would_fit, grown, add}
@@ -40,12 +40,12 @@ accepted b data_len places_len key f = bind (add b data_len places_len key f) λ
 abbrev pub Plans : (Fields → Res Planned) → RowFields → ℕ → Result Planned Refusal → Type 0
 Plans want row value_len r = (value : List ℕ) → length value ≡ value_len → says_same r ≡ want (fields_from row value)
 
--- what was found as plain numbers: a size of 0 where it is refused
-pub record FoundIs (want : Res Planned) (r : Planned) : Type 0 where
-  pub good : (r.size ≡ 0 → ⊥) → want ≡ ok (plan_is r.shared r.size r.restart)
-  pub refused : r.size ≡ 0 → (n : ℕ) × (want ≡ refuse n)
+-- what was found; nothing where it is refused
+abbrev pub FoundIs : Res Planned → Option Planned → Type 0
+FoundIs want (Some p) = want ≡ ok p
+FoundIs want None = (n : ℕ) × (want ≡ refuse n)
 
-abbrev pub Finds : (Fields → Res Planned) → RowFields → ℕ → Planned → Type 0
+abbrev pub Finds : (Fields → Res Planned) → RowFields → ℕ → Option Planned → Type 0
 Finds want row value_len r = (value : List ℕ) → length value ≡ value_len → FoundIs (want (fields_from row value)) r
 
 -- a row that passed all tests of adding, with the share and the mark that were found for it

@@ -192,18 +192,8 @@ fn accept_row(
     Ok(planned)
 }
 
-fn found_row(shared: usize, size: usize, restart: bool) -> Planned
-    ensures { result ≡ plan_is shared size restart }
-{
-    Planned {
-        shared,
-        size,
-        restart,
-    }
-}
-
-// The tests of `accept_row` again, for a row that passes them all: with no refusal to hand on, they are quick. A size of 0 is for a row that they refuse: a block with a row has more.
-// Which one is refused, and how, is left to `accept_row`.
+// The tests of `accept_row` again, for a row that passes them all: with no refusal to hand on, they are quick. Which row is refused, and how, is left to
+// `accept_row`.
 fn find_row(
     s: State,
     last_key: &[u8; basics::MAX_KEY],
@@ -212,34 +202,38 @@ fn find_row(
     key: &[u8],
     value_len: usize,
     row: RowFields,
-) -> Planned
+) -> Option<Planned>
     ensures { Finds (accepted (view_from s last_key.now) data_len places_len key.now) row value_len result }
 {
     if finish_in_place_v2::is_bad_state(s, data_len, places_len) {
-        return found_row(0, 0, false);
+        return None;
     }
     let mark = is_restart_point(s.restarts, s.counter, s.restart_interval);
     let shared = shared_bytes(mark, last_key, s.last_key_len, key);
     let Ok(n) = entry_encoded_size(shared, key.len(), value_len, row) else {
-        return found_row(0, 0, false);
+        return None;
     };
     if s.block_size < s.used {
-        return found_row(0, 0, false);
+        return None;
     }
     let size = current_size(s.used, s.restarts) + n + restart_overhead(mark);
     if has_room(s.counter, s.block_size, size) {
         if restart_too_far(mark, s.used) {
-            return found_row(0, 0, false);
+            return None;
         }
         if data_len < size {
-            return found_row(0, 0, false);
+            return None;
         }
         if no_place_left(mark, places_len, s.restarts) {
-            return found_row(0, 0, false);
+            return None;
         }
-        return found_row(shared, size, mark);
+        return Some(Planned {
+            shared,
+            size,
+            restart: mark,
+        });
     }
-    found_row(0, 0, false)
+    None
 }
 
 // ---- a row, written
@@ -367,11 +361,10 @@ pub fn add_in_place(
     let data_len = data.len();
     let places_len = restarts.len();
     let value_len = value.len();
-    let found = find_row(s, last, data_len, places_len, key, value_len, row);
-    if found.size == 0 {
+    let Some(found) = find_row(s, last, data_len, places_len, key, value_len, row) else {
         let planned = accept_row(s, last, data_len, places_len, key, value_len, row);
         return Err(basics::refusal_of(planned));
-    }
+    };
     Ok(grow(
         last_key,
         s,

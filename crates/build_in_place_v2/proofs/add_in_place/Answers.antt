@@ -9,18 +9,18 @@ use Rattle.build_in_place_v2.proofs.add_in_place.Goals as goal
 pub returns-in_default : goal.returns-in_default
 returns-in_default c = grows_strange _ _ _ _ _ _ c.in_default.ensures.1
 
-pub returns-then-found-eq0 : goal.returns-then-found-eq0
-returns-then-found-eq0 c =
+pub returns-in_default-find_row : goal.returns-in_default-find_row
+returns-in_default-find_row c =
     let w = c.in-Ok.ensures.1 in
     grows-refused _ _ _ _ _ _ w.long
-    (refusal-told c.accept_row-planned.result (rw w.same at (c.accept_row-planned.ensures _ refl)) ((rw w.same at (c.find_row-found.ensures _ refl)).refused c.if-found-eq0.true) c.refusal_of.ensures)
+    (refusal-told c.accept_row-planned.result (rw w.same at (c.accept_row-planned.ensures _ refl)) (rw w.same at (c.in_default-find_row.ensures _ refl)) c.refusal_of.ensures)
 
 pub grow-requires : goal.grow-requires
 grow-requires c =
     let w = c.in-Ok.ensures.1 in
-    record { last_key_len = w.long; tested = tested-is _ _ _ _ _ ((rw w.same at (c.find_row-found.ensures _ refl)).good c.if-found-eq0.false) }
+    record { last_key_len = w.long; tested = tested-is _ _ _ _ _ (rw w.same at (c.in-Some.ensures _ refl)) }
 
 pub returns : goal.returns
 returns c =
     let w = c.in-Ok.ensures.1 in
-    grows _ _ _ _ _ _ w.long (tested-is _ _ _ _ _ ((rw w.same at (c.find_row-found.ensures _ refl)).good c.if-found-eq0.false)) c.grow.ensures
+    grows _ _ _ _ _ _ w.long (tested-is _ _ _ _ _ (rw w.same at (c.in-Some.ensures _ refl))) c.grow.ensures
