@@ -69,9 +69,6 @@ pub loop-at-init : goal.loop-at-init
 loop-at-init c =
     (refl, the_trailer _ _ _ c.requires.block_value (stands-walks _ _ _ _ c.requires.stands c.requires.at_lt_size _ (used (goal.at.loop-at-init c).In_ok-g)))
 
-pub shape_of-key-in_err-row : goal.shape_of-key-in_err-row
-shape_of-key-in_err-row c = c.loop-at.invariant.0
-
 pub returns-in_err-row : goal.returns-in_err-row
 returns-in_err-row c =
     let p = err_from_is_err_and c.from_residual-in_err-row.result c.from_residual-in_err-row.ensures.1 in
@@ -94,18 +91,12 @@ slice_bounds-compare-start-in-loop-at c = shares (goal.at.slice_bounds-compare-s
 pub slice_bounds-compare-end-in-loop-at : goal.slice_bounds-compare-end-in-loop-at
 slice_bounds-compare-end-in-loop-at c = (walk (goal.at.slice_bounds-compare-end-in-loop-at c).At-loop-at).goes.room
 
-pub shape_of-key-then-not-may_follow : goal.shape_of-key-then-not-may_follow
-shape_of-key-then-not-may_follow c = c.loop-at.invariant.0
-
 pub returns-then-not-may_follow : goal.returns-then-not-may_follow
 returns-then-not-may_follow c =
     walks-falls _ _ _ _ (used (goal.at.returns-then-not-may_follow c).In_ok-g) _ _ _ _ _ (walk (goal.at.returns-then-not-may_follow c).At-loop-at) c.loop-at-test.true _ (read (goal.at.returns-then-not-may_follow c).In_ok-row) (may-told _ _ _ _ c.compare-order.ensures c.may_follow.ensures (not-true _ (ap not c.if-not-may_follow.true)))
 
 pub overflow_add-key_len : goal.overflow_add-key_len
 overflow_add-key_len c = omega (arith, (told (goal.at.overflow_add-key_len c).In_ok-row).fits)
-
-pub shape_of-key-then-key-key_len : goal.shape_of-key-then-key-key_len
-shape_of-key-then-key-key_len c = c.loop-at.invariant.0
 
 pub returns-then-key-key_len : goal.returns-then-key-key_len
 returns-then-key-key_len c =
@@ -131,12 +122,6 @@ loop-at-preserved c =
       the_trailer _ _ _ c.requires.block_value
           (walks_more _ _ _ _ u _ _ _ _ _ (walk (goal.at.loop-at-preserved c).At-loop-at) t _ (read (goal.at.loop-at-preserved c).In_ok-row) k (may-told _ _ _ _ c.compare-order.ensures c.may_follow.ensures (not-false _ (ap not c.if-not-may_follow.false))) _ q),
     )
-
-pub overflow_add-result : goal.overflow_add-result
-overflow_add-result c = omega (arith, (its (goal.at.overflow_add-result c).Start).1, (trailer_of-tells _ _ c.requires.block_value).0)
-
-pub shape_of-key : goal.shape_of-key
-shape_of-key c = c.loop-at.invariant.0
 
 pub returns : goal.returns
 returns c =
