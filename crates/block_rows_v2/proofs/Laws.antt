@@ -12,6 +12,7 @@ use lib.ListN.{length, take, drop_of_length-le}
 use lib.Seq.{length-take-le}
 use borrow.Author.Tests.{eq-eqb, ne_eqb}
 use borrow.Rule.Slice.PartMut.{mid_of, put_mid, mid_len, put_same}
+use Rattle.std.specs.Prelude.{Result, Ok, Err}
 use Rattle.layout.specs.Res.{Res, ok, refuse}
 use Rattle.layout.specs.Limits.{max_key}
 use Rattle.layout.specs.Place.{splice}
@@ -33,11 +34,13 @@ use Rattle.row_words.proofs.Laws.{stored}
 use Rattle.region_rows_v2.specs.Found.{Finds}
 use Rattle.layout.proofs.Laws.Step.{next-given}
 use Rattle.block_rows_v2.specs.declared.Gave.{Gave}
-use Rattle.block_rows_v2.specs.declared.Gave.TheVariants.{Rows, Refused}
+use Rattle.block_rows_v2.specs.declared.Ran.{Ran}
+use Rattle.block_rows_v2.specs.declared.Went.{Went}
+use Rattle.block_rows_v2.specs.declared.Went.TheVariants.{Stopped}
 use Rattle.block_rows_v2.specs.Rows.{Given, given_is, Run, run_is, next_rows, keys_of, words_of}
 use Rattle.block_rows_v2.specs.Chain.{Gone, gone-more, gone-full, gone-stop, gone-first, Stops, stops-refused, stops-done, rows-refused, rows-done}
 use Rattle.block_rows_v2.specs.Promise.{RowsAs, most_rows, RowsFlat}
-use Rattle.block_rows_v2.specs.Says.{End, end_is, Gives, PutsGave}
+use Rattle.block_rows_v2.specs.Says.{End, end_is, gave_is, Gives, PutsGave, StopsOn, StepsOn}
 
 -- ---- the words of one row, in their place
 
@@ -65,7 +68,7 @@ put-words rows n region number r part h s =
 -- ---- a run that is wanted
 
 gives-rows : {want : Res Run} {o : Bool} {c : Cursor} {ks : List Given} (key keys rows : List ℕ) {p : Place} {n : ℕ} {key' keys' rows' : List ℕ} → want ≡ ok (run_is o c ks) → view_in p key' ≡ c
-    → n ≡ length ks → keys' ≡ splice keys 0 (keys_of ks) → rows' ≡ splice rows 0 (words_of ks) → Gives want key keys rows (Rows o p n) key' keys' rows'
+    → n ≡ length ks → keys' ≡ splice keys 0 (keys_of ks) → rows' ≡ splice rows 0 (words_of ks) → Gives want key keys rows (Ok (gave_is o p n)) key' keys' rows'
 gives-rows {o = o} key keys rows e v m k w = rw e (record { answer = ap₂ (λ (x : Cursor) (y : ℕ). ok (end_is o x y)) v m; whole = tt; keys-given = k; row_words = w })
 
 -- a key that is found fits what is left
@@ -94,7 +97,7 @@ module _ {b keys₀ rows₀ : List ℕ} {c₀ c : Cursor} {keys rows : List ℕ}
   back o = ap (put_mid used (length keys - used) keys) o ∙ put_same used (length keys - used) keys
 
   module _ (most : ℕ) (key : List ℕ) {keys' : List ℕ} (same : keys' ≡ keys) (few : n ≤ most) (some : 0 < most) where
-    so_far : {p : Place} {key' : List ℕ} → (n ≡ 0 → ⊥) → Stops c b (length rest) → view_in p key' ≡ c → Gives (next_rows most c₀ b (length keys₀)) key keys₀ rows₀ (Rows false p n) key' keys' rows
+    so_far : {p : Place} {key' : List ℕ} → (n ≡ 0 → ⊥) → Stops c b (length rest) → view_in p key' ≡ c → Gives (next_rows most c₀ b (length keys₀)) key keys₀ rows₀ (Ok (gave_is false p n)) key' keys' rows
     so_far z stop v = gives-rows key keys₀ rows₀ (⊎_elim (λ t. gone-stop g most (length rest) t.1 z rest-long stop) (λ t. gone-full g most (omega (arith, t.1))) (ltb-cases n most)) v g.many (same ∙ g.keys-are.is) g.rows_are.is
 
     module _ (z : n ≡ 0) where
@@ -106,29 +109,38 @@ module _ {b keys₀ rows₀ : List ℕ} {c₀ c : Cursor} {keys rows : List ℕ}
           let long : length rest ≡ length keys₀ = omega (arith, rest-long, first.3) in
           rw (← first.0, ← long) e
 
-      first_done : {q : Place} {key' : List ℕ} → next c b (length rest) ≡ ok (step_is (view_in q key') done) → Gives (next_rows most c₀ b (length keys₀)) key keys₀ rows₀ (Rows true q 0) key' keys' rows
+      first_done : {q : Place} {key' : List ℕ} → next c b (length rest) ≡ ok (step_is (view_in q key') done) → Gives (next_rows most c₀ b (length keys₀)) key keys₀ rows₀ (Ok (gave_is true q 0)) key' keys' rows
       first_done e =
           gives-rows key keys₀ rows₀ (rows-done c₀ b (length keys₀) most some (from e)) refl refl
           (same ∙ first.1 ∙ sym (splice-none keys₀ 0)) (first.2 ∙ sym (splice-none rows₀ 0))
 
-      first-refused : {x : Refusal} {key' : List ℕ} → next c b (length rest) ≡ refuse (number x) → key' ≡ key → Gives (next_rows most c₀ b (length keys₀)) key keys₀ rows₀ (Refused x) key' keys' rows
+      first-refused : {x : Refusal} {key' : List ℕ} → next c b (length rest) ≡ refuse (number x) → key' ≡ key → Gives (next_rows most c₀ b (length keys₀)) key keys₀ rows₀ (Err x) key' keys' rows
       first-refused e k =
           rw (rows-refused c₀ b (length keys₀) most some (from e))
           (record { answer = refl; whole = k; keys-given = same ∙ first.1; row_words = first.2 })
 
     -- by whether there is a row yet
-    pub gives-stop : {r : Gave} (p q : Place) (key' : List ℕ) → view_in p key' ≡ c → next c b (length rest) ≡ ok (step_is (view_in q key') done) → r ≡ cond (eqb n 0) (Rows true q 0) (Rows false p n)
-        → Gives (next_rows most c₀ b (length keys₀)) key keys₀ rows₀ r key' keys' rows
+    pub gives-stop : {r : Gave} (p q : Place) (key' : List ℕ) → view_in p key' ≡ c → next c b (length rest) ≡ ok (step_is (view_in q key') done) → r ≡ cond (eqb n 0) (gave_is true q 0) (gave_is false p n)
+        → Gives (next_rows most c₀ b (length keys₀)) key keys₀ rows₀ (Ok r) key' keys' rows
     gives-stop p q key' v e is =
         ⊎_elim (λ t. rw (is, t.0) (first_done t.1 e)) (λ t. rw (is, t.0) (so_far t.1 (stops-done c b (length rest) e) v)) (eqb-cases n 0)
 
-    pub gives-refusal : {r : Gave} (p : Place) (x : Refusal) (key' : List ℕ) → view_in p key' ≡ c → next c b (length rest) ≡ refuse (number x) → (n ≡ 0 → key' ≡ key)
-        → r ≡ cond (eqb n 0) (Refused x) (Rows false p n) → Gives (next_rows most c₀ b (length keys₀)) key keys₀ rows₀ r key' keys' rows
+    pub gives-refusal : {r : Result Gave Refusal} (p : Place) (x : Refusal) (key' : List ℕ) → view_in p key' ≡ c → next c b (length rest) ≡ refuse (number x) → (n ≡ 0 → key' ≡ key)
+        → r ≡ cond (eqb n 0) (Err x) (Ok (gave_is false p n)) → Gives (next_rows most c₀ b (length keys₀)) key keys₀ rows₀ r key' keys' rows
     gives-refusal p x key' v e k is =
         ⊎_elim (λ t. rw (is, t.0) (first-refused t.1 e (k t.1))) (λ t. rw (is, t.0) (so_far t.1 (stops-refused c b (length rest) e) v)) (eqb-cases n 0)
 
+-- what is answered of a refusal is what one more step leads to
+pub steps-refused : (b : List ℕ) (here : Ran) (key keys rows key' keys' rows' : List ℕ) (n : ℕ) {x : Result Went Refusal} (r : Refusal) (g : Gave) → x ≡ cond (eqb n 0) (Err r) (Ok (Stopped g))
+    → StopsOn b here key keys rows (cond (eqb n 0) (Err r) (Ok g)) key' keys' rows' → StepsOn b here key keys rows x key' keys' rows'
+steps-refused b here key keys rows key' keys' rows' n r g is p = rw is (go (eqb n 0) p)
+  where
+    go : (t : Bool) → StopsOn b here key keys rows (cond t (Err r) (Ok g)) key' keys' rows' → StepsOn b here key keys rows (cond t (Err r) (Ok (Stopped g))) key' keys' rows'
+    go true p = p
+    go false p = p
+
 pub all-given : {b keys₀ rows₀ : List ℕ} {c₀ c : Cursor} {keys rows : List ℕ} {used n : ℕ} → Gone b keys₀ rows₀ c₀ c keys rows used n → (most : ℕ) (key : List ℕ) {p : Place} {key' : List ℕ} → n ≡ most → view_in p key' ≡ c
-    → Gives (next_rows most c₀ b (length keys₀)) key keys₀ rows₀ (Rows false p n) key' keys rows
+    → Gives (next_rows most c₀ b (length keys₀)) key keys₀ rows₀ (Ok (gave_is false p n)) key' keys rows
 all-given {keys₀ = keys₀} {rows₀ = rows₀} g most key h v = gives-rows key keys₀ rows₀ (gone-full g most h) v g.many g.keys-are.is g.rows_are.is
 
 -- "done" leaves the carried key, so the cursor of the rows before stands
@@ -152,11 +164,11 @@ module _ (b ws key keys rows : List ℕ) (n : ℕ) where
     rows-asked e r = rw (eq-eqb (length key) max_key k, e) r
 
 -- whatever was given, and what `put_gave` left of it
-pub rows-put : (ws key keys rows : List ℕ) (n : ℕ) (want : Res Run) (r : Gave) {code : ℕ} {ws' key' keys' rows' : List ℕ} {n' : ℕ} → Gives want key keys rows r key' keys' rows' → PutsGave r ws n code ws' n'
+pub rows-put : (ws key keys rows : List ℕ) (n : ℕ) (want : Res Run) (r : Result Gave Refusal) {code : ℕ} {ws' key' keys' rows' : List ℕ} {n' : ℕ} → Gives want key keys rows r key' keys' rows' → PutsGave r ws n code ws' n'
     → RowsAs want ws key keys rows n code ws' key' keys' rows' n'
-rows-put ws key keys rows n (ok run) (Rows o p m) {key' = key'} g q =
-    let e : end_is o (view_in p key') m ≡ end_is run.over run.cursor (length run.rows) = ok-inj g.answer in
-    let c : view_in p key' ≡ run.cursor = ap (λ (x : End). x.cursor) e in
+rows-put ws key keys rows n (ok run) (Ok a) {key' = key'} g q =
+    let e : end_is a.over (view_in a.place key') a.count ≡ end_is run.over run.cursor (length run.rows) = ok-inj g.answer in
+    let c : view_in a.place key' ≡ run.cursor = ap (λ (x : End). x.cursor) e in
     record {
       answer = q.answer ∙ ap (λ (x : End). cond x.over done_code 0) e;
       state = q.state ∙ ap cursor_words c;
@@ -165,9 +177,9 @@ rows-put ws key keys rows n (ok run) (Rows o p m) {key' = key'} g q =
       row_words = g.row_words;
       number = q.number ∙ ap (λ (x : End). x.count) e;
     }
-rows-put ws key keys rows n (ok run) (Refused x) g q = absurd (apart (sym g.answer))
-rows-put ws key keys rows n (refuse k) (Rows o p m) g q = absurd (apart g.answer)
-rows-put ws key keys rows n (refuse k) (Refused x) g q =
+rows-put ws key keys rows n (ok run) (Err x) g q = absurd (apart (sym g.answer))
+rows-put ws key keys rows n (refuse k) (Ok a) g q = absurd (apart g.answer)
+rows-put ws key keys rows n (refuse k) (Err x) g q =
     record {
       answer = q.answer ∙ ap code_of g.answer;
       state = q.state;

@@ -21,7 +21,8 @@ use Rattle.layout.specs.Laws.Splice.{Wrote}
 use Rattle.layout.proofs.Laws.Splice.{take-splice, drop-splice, drop-past-splice, take-past-splice, length-splice, splice-splice, wrote-rest, wrote-length}
 use Rattle.layout.proofs.Laws.Plain.{or-false}
 use Rattle.buf_mut.specs.Promise.{Puts}
-use Rattle.buf_mut.specs.declared.Put.{Put}
+use Rattle.std.specs.Prelude.{Some, Result}
+use Rattle.basics.specs.declared.Refusal.{Refusal}
 use Rattle.buf_mut.proofs.Laws.{copied, copied-part}
 use Rattle.row_plain_v2.specs.Promise.{plain_from}
 use Rattle.row_plain_v2.specs.declared.PlainRow.{PlainRow}
@@ -80,7 +81,7 @@ module _ (key out d : List ℕ) (at : ℕ) (r : PlainRow) (whole : length key �
   suffix-long = length-take-le r.unshared (drop (at + 3) d) (rw length-drop (omega (arith, f.ends, f.inside)))
 
   -- the suffix over the carried key, and then all of it
-  pub carried-plainly : {key' out' : List ℕ} {p o : Put} → r.shared + r.unshared ≤ length out → Puts (take (at + 3 + r.unshared - (at + 3)) (drop (at + 3) d)) key r.shared p key'
+  pub carried-plainly : {key' out' : List ℕ} {p o : Result ℕ Refusal} → r.shared + r.unshared ≤ length out → Puts (take (at + 3 + r.unshared - (at + 3)) (drop (at + 3) d)) key r.shared p key'
       → Puts (take (r.shared + r.unshared) key') out 0 o out' → Carried key out d at r key' out'
   carried-plainly {key'} room put-key put-out =
       let fits : r.shared + r.unshared ≤ length key = omega (arith, f.shared-small, f.unshared-small) in
@@ -95,7 +96,7 @@ module _ (key out d : List ℕ) (at : ℕ) (r : PlainRow) (whole : length key �
 
   -- sixteen bytes of the carried key and the suffix over them; sixteen bytes from where the suffix stands
   pub carried-wide : {key' out₁ out' : List ℕ} → 16 ≤ r.shared + r.unshared → r.shared ≤ 16 → r.unshared ≤ 16 → 16 ≤ length d - (at + 3) → r.shared + r.unshared ≤ length out
-      → out₁ ≡ splice out 0 (take 16 (drop 0 key)) → {p : Put} → Puts (take (at + 3 + r.unshared - (at + 3)) (drop (at + 3) d)) out₁ r.shared p out' → key' ≡ splice key r.shared (take 16 (drop (at + 3) d))
+      → out₁ ≡ splice out 0 (take 16 (drop 0 key)) → {p : Result ℕ Refusal} → Puts (take (at + 3 + r.unshared - (at + 3)) (drop (at + 3) d)) out₁ r.shared p out' → key' ≡ splice key r.shared (take 16 (drop (at + 3) d))
       → Carried key out d at r key' out'
   carried-wide {key'} {out₁} {out'} h k n l room o₁ put q =
       let first : length (take 16 key) ≡ 16 = length-take-le 16 key (omega arith) in
@@ -126,18 +127,18 @@ wide-tests whole s n l e =
 
 -- ---- a turn of the run
 
-module _ (b : List ℕ) (size : ℕ) (g : Region) (p : Place) (key : List ℕ) (i : Inside b size g (view_in p key)) (whole : length key ≡ max_key) {most : ℕ} (r : PlainRow) (m : most ≡ may_share (eqb p.at g.start) p.key_len) (e : plain_from r ≡ plain_at (take size b) p.at g.end most) (h : r.next ≡ 0 → ⊥) where
+module _ (b : List ℕ) (size : ℕ) (g : Region) (p : Place) (key : List ℕ) (i : Inside b size g (view_in p key)) (whole : length key ≡ max_key) {most : ℕ} (r : PlainRow) (m : most ≡ may_share (eqb p.at g.start) p.key_len) (e : Some (plain_from r) ≡ plain_at (take size b) p.at g.end most) where
   abbrev here-row : RowRead
-  here-row = row_here b size g p key i (plain_from r) m e h
+  here-row = row_here b size g p key i (plain_from r) m e
 
   abbrev here-key : List ℕ
-  here-key = key_here b size g p key i (plain_from r) m e h
+  here-key = key_here b size g p key i (plain_from r) m e
 
   abbrev here-given : Given
   here-given = given_is p.region p.number here-row here-key
 
   parts : key_at key (take size b) p.at r ≡ here-key
-  parts = here-parts b size g p key i (plain_from r) m e h whole
+  parts = here-parts b size g p key i (plain_from r) m e whole
 
   module _ (keys : List ℕ) (used n : ℕ) {rows : List ℕ} (inside : used ≤ length keys) (room : r.shared + r.unshared ≤ length keys - used) {key' out' rows' : List ℕ} (q : Carried key (mid_of used (length keys - used) keys) (take size b) p.at r key' out') {x : RowRead} (is : x ≡ here-row) (w : Wrote rows (n * row_count) (row_words_of p.region p.number x) rows' ((n + 1) * row_count)) where
     carried : take (r.shared + r.unshared) key' ≡ here-key
@@ -145,7 +146,7 @@ module _ (b : List ℕ) (size : ℕ) (g : Region) (p : Place) (key : List ℕ) (
 
     pub given-key : Wrote keys used here-key (put_mid used (length keys - used) keys out') (used + (r.shared + r.unshared))
     given-key =
-        let long : length here-key ≡ r.shared + r.unshared = here-long b size g p key i (plain_from r) m e h whole in
+        let long : length here-key ≡ r.shared + r.unshared = here-long b size g p key i (plain_from r) m e whole in
         wrote-rest keys used (used + (r.shared + r.unshared)) here-key out' (omega (arith, long)) (omega (arith, long)) (q.given ∙ ap (splice (mid_of used (length keys - used) keys) 0) parts)
 
     given : (keys₀ rows₀ : List ℕ) (c₀ d : Cursor) → d ≡ past_row (view_in p key) g here-row here-key → Gone b keys₀ rows₀ c₀ (view_in p key) keys rows used n
@@ -153,21 +154,21 @@ module _ (b : List ℕ) (size : ℕ) (g : Region) (p : Place) (key : List ℕ) (
     given keys₀ rows₀ c₀ d v k =
         let rest : length (mid_of used (length keys - used) keys) ≡ length keys - used = mid_len used (length keys) keys (omega arith) in
         let step : next (view_in p key) b (length (mid_of used (length keys - used) keys)) ≡ ok (step_is d (found_of here-given)) =
-        here-step b size g p key i (plain_from r) m e h (length (mid_of used (length keys - used) keys)) (omega (arith, rest)) ∙ ap (λ (c : Cursor). ok (step_is c (found_of here-given))) (sym v) in
+        here-step b size g p key i (plain_from r) m e (length (mid_of used (length keys - used) keys)) (omega (arith, rest)) ∙ ap (λ (c : Cursor). ok (step_is c (found_of here-given))) (sym v) in
         gone-more k (length (mid_of used (length keys - used) keys)) d here-given (rest ∙ ap (λ (l : ℕ). l - used) (wrote-length k.keys-are)) step
         given-key (rw is at w)
 
     pub given-over : (keys₀ rows₀ : List ℕ) (c₀ : Cursor) → g.reach < r.next → Gone b keys₀ rows₀ c₀ (view_in p key) keys rows used n
         → Gone b keys₀ rows₀ c₀ (view_in (moved_to p (p.region + 1) r.next 0 0) key') (put_mid used (length keys - used) keys out') rows' (used + (r.shared + r.unshared)) (n + 1)
-    given-over keys₀ rows₀ c₀ k = given keys₀ rows₀ c₀ _ (here-over b size g p key i (plain_from r) m e h whole key' carried k)
+    given-over keys₀ rows₀ c₀ k = given keys₀ rows₀ c₀ _ (here-over b size g p key i (plain_from r) m e whole key' carried k)
 
     module _ (k : r.next ≤ g.reach) where
       pub given_stays : (keys₀ rows₀ : List ℕ) (c₀ : Cursor) → Gone b keys₀ rows₀ c₀ (view_in p key) keys rows used n
           → Gone b keys₀ rows₀ c₀ (view_in (moved_to p p.region r.next (p.number + 1) (r.shared + r.unshared)) key') (put_mid used (length keys - used) keys out') rows' (used + (r.shared + r.unshared)) (n + 1)
-      given_stays keys₀ rows₀ c₀ = given keys₀ rows₀ c₀ _ (here-stays b size g p key i (plain_from r) m e h whole key' carried k)
+      given_stays keys₀ rows₀ c₀ = given keys₀ rows₀ c₀ _ (here-stays b size g p key i (plain_from r) m e whole key' carried k)
 
       pub given_inside : Inside b size g (view_in (moved_to p p.region r.next (p.number + 1) (r.shared + r.unshared)) key')
-      given_inside = here-inside b size g p key i (plain_from r) m e h whole key' carried k
+      given_inside = here-inside b size g p key i (plain_from r) m e whole key' carried k
 
 -- ---- the exits of a run
 

@@ -1,17 +1,18 @@
 -- What the private functions answer and leave.
-use Rattle.std.specs.Prelude.{ℕ, ◌+◌, ◌*◌, ◌<◌, ◌≤◌, Bool, true, false, cond, ◌≡◌, List, [], ◌++◌, length, take, drop}
-use Rattle.layout.specs.Res.{Res, ok, refuse, bind}
+use Rattle.std.specs.Prelude.{ℕ, ◌+◌, ◌*◌, ◌<◌, ◌≤◌, Bool, true, false, cond, ◌≡◌, List, [], ◌++◌, length, take, drop, Result, Ok, Err}
+use Rattle.layout.specs.Res.{Res, ok, bind}
 use Rattle.layout.specs.Cursor.{Cursor, done, step_is, next}
 use Rattle.layout.specs.Limits.{max_key}
 use Rattle.layout.specs.Place.{splice}
+use Rattle.basics.specs.Answers.{says}
 use Rattle.basics.specs.Number.{number}
+use Rattle.basics.specs.declared.Refusal.{Refusal}
 use Rattle.step_in_place_v2.specs.Promise.{Kept}
 use Rattle.row_plain_v2.specs.declared.PlainRow.{PlainRow}
 use Rattle.place_v2.specs.Says.{view_in}
 use Rattle.place_v2.specs.declared.Place.{Place}
 use Rattle.row_words.specs.Words.{done_code, set_by, cursor_words, row_count}
 use Rattle.block_rows_v2.specs.declared.Gave.{Gave}
-use Rattle.block_rows_v2.specs.declared.Gave.TheVariants.{Rows, Refused}
 use Rattle.block_rows_v2.specs.declared.Ran.{Ran}
 use Rattle.block_rows_v2.specs.declared.Went.{Went}
 use Rattle.block_rows_v2.specs.declared.Went.TheVariants.{On, Stopped}
@@ -30,11 +31,13 @@ end_is o c n = record { over = o; cursor = c; count = n }
 abbrev pub end_of : Run → Res End
 end_of r = ok (end_is r.over r.cursor (length r.rows))
 
-abbrev pub says_gave : List ℕ → Gave → Res End
-says_gave key (Rows o p n) = ok (end_is o (view_in p key) n)
-says_gave key (Refused x) = refuse (number x)
+abbrev pub gave_is : Bool → Place → ℕ → Gave
+gave_is o p n = record { over = o; place = p; count = n }
 
-pub record Gives (want : Res Run) (key keys rows : List ℕ) (r : Gave) (key' keys' rows' : List ℕ) : Type 0 where
+abbrev pub says_gave : List ℕ → Result Gave Refusal → Res End
+says_gave key = says (λ g. end_is g.over (view_in g.place key) g.count)
+
+pub record Gives (want : Res Run) (key keys rows : List ℕ) (r : Result Gave Refusal) (key' keys' rows' : List ℕ) : Type 0 where
   pub answer : says_gave key' r ≡ bind want end_of
   pub whole : Kept want key' key
   pub keys-given : keys' ≡ set_by want (λ x. splice keys 0 (keys_of x.rows)) keys
@@ -42,19 +45,19 @@ pub record Gives (want : Res Run) (key keys rows : List ℕ) (r : Gave) (key' ke
 
 -- ---- what is stored of it
 
-abbrev pub gave_code : Gave → ℕ
-gave_code (Rows o p n) = cond o done_code 0
-gave_code (Refused x) = number x
+abbrev pub gave_code : Result Gave Refusal → ℕ
+gave_code (Ok g) = cond g.over done_code 0
+gave_code (Err x) = number x
 
-abbrev pub gave_words : Gave → List ℕ → List ℕ
-gave_words (Rows o p n) ws = cursor_words (view_in p [])
-gave_words (Refused x) ws = ws
+abbrev pub gave_words : Result Gave Refusal → List ℕ → List ℕ
+gave_words (Ok g) ws = cursor_words (view_in g.place [])
+gave_words (Err x) ws = ws
 
-abbrev pub gave_count : Gave → ℕ → ℕ
-gave_count (Rows o p n) old = n
-gave_count (Refused x) old = old
+abbrev pub gave_count : Result Gave Refusal → ℕ → ℕ
+gave_count (Ok g) old = g.count
+gave_count (Err x) old = old
 
-pub record PutsGave (g : Gave) (ws : List ℕ) (n code : ℕ) (ws' : List ℕ) (n' : ℕ) : Type 0 where
+pub record PutsGave (g : Result Gave Refusal) (ws : List ℕ) (n code : ℕ) (ws' : List ℕ) (n' : ℕ) : Type 0 where
   pub answer : code ≡ gave_code g
   pub state : ws' ≡ gave_words g ws
   pub number : n' ≡ gave_count g n
@@ -99,9 +102,14 @@ pub record RunsOn (b : List ℕ) (most : ℕ) (came : Ran) (key keys rows : List
   pub still : r.ended ≡ true → r.count ≡ came.count
   pub ends : Ended b r key'
 
--- one more row; or what is answered of all that were asked for
-abbrev pub StepsOn : List ℕ → Ran → List ℕ → List ℕ → List ℕ → Went → List ℕ → List ℕ → List ℕ → Type 0
-StepsOn b here key keys rows (On r) key' keys' rows' = RunsOn b (here.count + 1) here key keys rows r key' keys' rows' × (r.count ≡ here.count + 1) × (r.ended ≡ false)
-StepsOn b here key keys rows (Stopped a) key' keys' rows' =
+-- what is answered of all that were asked for
+abbrev pub StopsOn : List ℕ → Ran → List ℕ → List ℕ → List ℕ → Result Gave Refusal → List ℕ → List ℕ → List ℕ → Type 0
+StopsOn b here key keys rows a key' keys' rows' =
     (most : ℕ) (key₀ keys₀ rows₀ : List ℕ) (c₀ : Cursor) → here.count < most → (here.count ≡ 0 → key ≡ key₀)
     → Gone b keys₀ rows₀ c₀ (view_in here.place key) keys rows here.used here.count → Gives (next_rows most c₀ b (length keys₀)) key₀ keys₀ rows₀ a key' keys' rows'
+
+-- one more row; or what is answered
+abbrev pub StepsOn : List ℕ → Ran → List ℕ → List ℕ → List ℕ → Result Went Refusal → List ℕ → List ℕ → List ℕ → Type 0
+StepsOn b here key keys rows (Ok (On r)) key' keys' rows' = RunsOn b (here.count + 1) here key keys rows r key' keys' rows' × (r.count ≡ here.count + 1) × (r.ended ≡ false)
+StepsOn b here key keys rows (Ok (Stopped g)) key' keys' rows' = StopsOn b here key keys rows (Ok g) key' keys' rows'
+StepsOn b here key keys rows (Err x) key' keys' rows' = StopsOn b here key keys rows (Err x) key' keys' rows'

@@ -3,7 +3,7 @@
 // refusal is answered only where no row is given.
 #![tactic(auto)]
 
-ghost use Rattle.std.specs.Prelude.{true, false, cond, ◌≡◌, ◌+◌, ◌*◌, ◌≤◌, eqb, length, take, drop};
+ghost use Rattle.std.specs.Prelude.{Ok, Err, true, false, cond, ◌≡◌, ◌+◌, ◌*◌, ◌≤◌, eqb, length, take, drop};
 ghost use Rattle.layout.specs.Limits.{max_key};
 ghost use Rattle.layout.specs.Laws.Splice.{Wrote};
 ghost use Rattle.layout.specs.Place.{splice};
@@ -17,26 +17,22 @@ ghost use Rattle.block_rows_v2.specs.Rows.{next_rows};
 ghost use Rattle.block_rows_v2.specs.Promise.{most_rows, RowsFlat};
 ghost use Rattle.region_rows_v2.specs.Bounds.{Inside};
 ghost use Rattle.region_rows_v2.specs.Region.{PlainFits};
-ghost use Rattle.block_rows_v2.specs.Says.{Gives, PutsGave, Roomy, Ended, RunsOn, StepsOn, Carried, ran_to_of, marked_at};
-ghost use Rattle.block_rows_v2.specs.declared.Gave.TheVariants.{Rows, Refused};
+ghost use Rattle.block_rows_v2.specs.Says.{Gives, PutsGave, Roomy, Ended, RunsOn, StepsOn, Carried, gave_is, ran_to_of, marked_at};
+ghost use Rattle.block_rows_v2.specs.declared.Went.TheVariants.{Stopped};
 
-use basics::{Refusal, Time, ValueDeletable};
-use block_words::CursorRead;
+use basics::{Refusal, ValueDeletable};
 use place_v2::Place;
 use region_rows_v2::Bounds;
 use row_decode_v2::Row;
 use row_plain_v2::PlainRow;
 use step_in_place_v2::Moved;
 
-// The cursor past the rows that were given, how many these are, and whether "done" came at once; or the refusal of the first row.
+// The cursor past the rows that were given, how many these are, and whether "done" came at once. The first row's refusal stands in its place.
 #[derive(Clone, Copy)]
-enum Gave {
-    Rows {
-        over: bool,
-        place: Place,
-        count: usize,
-    },
-    Refused(Refusal),
+struct Gave {
+    over: bool,
+    place: Place,
+    count: usize,
 }
 
 // Puts the words of the call's row `n`, with the numbers that name it in the block.
@@ -74,12 +70,12 @@ fn carry(key: &mut [u8], out: &mut [u8], data: &[u8], at: usize, row: PlainRow)
     let from = at + 3;
     let end = from + row.unshared;
     if (whole < 16) | (16 < shared) | (16 < row.unshared) | (data.len() - from < 16) {
-        buf_mut::copy_in(key, shared, &data[from..end]);
-        buf_mut::copy_in(out, 0, &key[..whole]);
+        let _ = buf_mut::copy_in(key, shared, &data[from..end]);
+        let _ = buf_mut::copy_in(out, 0, &key[..whole]);
         return;
     }
     copy_16(out, 0, key, 0);
-    buf_mut::copy_in(out, shared, &data[from..end]);
+    let _ = buf_mut::copy_in(out, shared, &data[from..end]);
     copy_16(key, shared, data, from);
 }
 
@@ -100,8 +96,8 @@ fn row_of(data: &[u8], at: usize, row: PlainRow) -> Row
             len: row.value_len,
         },
         seq: buf::eight(data, row.next - 9),
-        expire: Time::Absent,
-        create: Time::Absent,
+        expire: None,
+        create: None,
     }
 }
 
@@ -145,10 +141,9 @@ fn run(
     while n < most {
         let at = p.at;
         let share = if at == g.start { 0 } else { p.key_len };
-        let row = row_plain_v2::plain_at(&block[..size], at, g.end, share);
-        if row.next == 0 {
+        let Some(row) = row_plain_v2::plain_at(&block[..size], at, g.end, share) else {
             return ran_to(p, used, n);
-        }
+        };
         let whole = row.shared + row.unshared;
         if keys.len() - used < whole {
             return ran_to(p, used, n);
@@ -196,11 +191,10 @@ fn run_here(
 {
     let mut here = came;
     let place = came.place;
-    let b = region_rows_v2::bounds_of(block, place);
-    let g = b.region;
-    if g.end == 0 {
+    let Some(b) = region_rows_v2::bounds_of(block, place) else {
         return here;
-    }
+    };
+    let g = b.region;
     if (g.reach == place.at) & (g.end == place.at) {
         here.ended = true;
         return here;
@@ -212,33 +206,34 @@ fn run_here(
 
 // What is answered once a step finds no row, and leaves the cursor at `after`: that step, if it is the first, else the rows so far.
 fn stop(n: usize, p: Place, after: Place) -> Gave
-    ensures { result ≡ cond (eqb n 0) (Rows true after 0) (Rows false p n) }
+    ensures { result ≡ cond (eqb n 0) (gave_is true after 0) (gave_is false p n) }
 {
     if n == 0 {
-        return Gave::Rows {
+        return Gave {
             over: true,
             place: after,
             count: 0,
         };
     }
-    Gave::Rows {
+    Gave {
         over: false,
         place: p,
         count: n,
     }
 }
 
-fn refuse(n: usize, p: Place, refusal: Refusal) -> Gave
-    ensures { result ≡ cond (eqb n 0) (Refused refusal) (Rows false p n) }
+// The same of a step that refuses.
+fn refuse(n: usize, p: Place, refusal: Refusal) -> Result<Went, Refusal>
+    ensures { result ≡ cond (eqb n 0) (Err refusal) (Ok (Stopped (gave_is false p n))) }
 {
     if n == 0 {
-        return Gave::Refused(refusal);
+        return Err(refusal);
     }
-    Gave::Rows {
+    Ok(Went::Stopped(Gave {
         over: false,
         place: p,
         count: n,
-    }
+    }))
 }
 
 fn marked(p: Place) -> Place
@@ -250,7 +245,13 @@ fn marked(p: Place) -> Place
 }
 
 // One more step from where a run stands, and its row given.
-fn step_row(block: &[u8], key: &mut [u8], keys: &mut [u8], rows: &mut [u64], here: Ran) -> Went
+fn step_row(
+    block: &[u8],
+    key: &mut [u8],
+    keys: &mut [u8],
+    rows: &mut [u64],
+    here: Ran,
+) -> Result<Went, Refusal>
     requires roomy { Roomy here (here.count + 1) key.old keys.old rows.old }
     requires ended { Ended block.now here key.old }
     ensures { StepsOn block.now here key.old keys.old rows.old result key.new keys.new rows.new }
@@ -259,9 +260,12 @@ fn step_row(block: &[u8], key: &mut [u8], keys: &mut [u8], rows: &mut [u64], her
     let n = here.count;
     let used = here.used;
     if here.ended {
-        return Went::Stopped(stop(n, p, marked(p)));
+        return Ok(Went::Stopped(stop(n, p, marked(p))));
     }
-    let moved = step_in_place_v2::next_in_place(key, p, block, &mut keys[used..]);
+    let moved = match step_in_place_v2::next_in_place(key, p, block, &mut keys[used..]) {
+        Ok(moved) => moved,
+        Err(refusal) => return refuse(n, p, refusal),
+    };
     match moved {
         Moved::Found {
             place,
@@ -270,20 +274,25 @@ fn step_row(block: &[u8], key: &mut [u8], keys: &mut [u8], rows: &mut [u64], her
             row,
         } => {
             put_nth(rows, n, region, number, row);
-            Went::On(Ran {
+            Ok(Went::On(Ran {
                 place,
                 used: used + (row.shared + row.suffix_len),
                 count: n + 1,
                 ended: false,
-            })
+            }))
         }
-        Moved::Done(place) => Went::Stopped(stop(n, p, place)),
-        Moved::Refused(refusal) => Went::Stopped(refuse(n, p, refusal)),
+        Moved::Done(place) => Ok(Went::Stopped(stop(n, p, place))),
     }
 }
 
 // Steps until `rows` is full, or a step finds no row: that step is not made, unless it is the first.
-fn give_rows(block: &[u8], start: Place, key: &mut [u8], keys: &mut [u8], rows: &mut [u64]) -> Gave
+fn give_rows(
+    block: &[u8],
+    start: Place,
+    key: &mut [u8],
+    keys: &mut [u8],
+    rows: &mut [u64],
+) -> Result<Gave, Refusal>
     requires { length key.old ≡ max_key }
     ensures { Gives (next_rows (most_rows rows.old) (view_in start key.old) block.now (length keys.old)) key.old keys.old rows.old result key.new keys.new rows.new }
 {
@@ -298,45 +307,40 @@ fn give_rows(block: &[u8], start: Place, key: &mut [u8], keys: &mut [u8], rows: 
         let before = here.count;
         here = run_here(block, key, keys, rows, here, most);
         if here.count == before {
-            let went = step_row(block, key, keys, rows, here);
+            let went = step_row(block, key, keys, rows, here)?;
             match went {
                 Went::On(next) => {
                     here = next;
                 }
                 Went::Stopped(gave) => {
-                    return gave;
+                    return Ok(gave);
                 }
             }
         }
     }
-    let last = here.place;
-    Gave::Rows {
+    Ok(Gave {
         over: false,
-        place: last,
+        place: here.place,
         count: here.count,
-    }
+    })
 }
 
 // Stores the cursor and the count, unless the first row was refused.
-fn put_gave(cursor: &mut [u64], count: &mut u64, gave: Gave) -> u8
+fn put_gave(cursor: &mut [u64], count: &mut u64, gave: Result<Gave, Refusal>) -> u8
     requires { length cursor.old ≡ cursor_count }
     ensures { PutsGave gave cursor.old count.old result cursor.new count.new }
 {
     match gave {
-        Gave::Rows {
-            over,
-            place,
-            count: n,
-        } => {
-            block_words::put_cursor(cursor, place);
-            *count = n as u64;
-            if over {
+        Ok(g) => {
+            block_words::put_cursor(cursor, g.place);
+            *count = g.count as u64;
+            if g.over {
                 block_words::DONE
             } else {
                 block_words::GOOD
             }
         }
-        Gave::Refused(refusal) => basics::number(refusal),
+        Err(refusal) => u8::from(refusal),
     }
 }
 
@@ -355,8 +359,7 @@ pub fn next_rows(
     if key.len() != basics::MAX_KEY {
         return block_words::BAD_WORDS;
     }
-    let loaded = block_words::cursor_in(cursor);
-    let CursorRead::Is(p) = loaded else {
+    let Some(p) = block_words::cursor_in(cursor) else {
         return block_words::BAD_WORDS;
     };
     let gave = give_rows(block, p, key, keys, rows);

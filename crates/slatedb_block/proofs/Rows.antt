@@ -5,32 +5,26 @@ use mathlib.Core.Path.{◌≡◌, refl, ap, sym, ◌∙◌}
 use mathlib.Core.List.{List}
 use lib.ListN.{length}
 use borrow.Author.Tests.{eq-eqb}
+use Rattle.std.specs.Prelude.{Result, Ok, Err, ⊤}
 use Rattle.layout.specs.Res.{Res, ok, refuse, bind}
 use Rattle.layout.specs.Builder.{would_fit}
 use Rattle.layout.specs.Limits.{max_key}
 use Rattle.layout.specs.Row.{encode_row, written}
 use Rattle.layout.specs.RowRead.{decode_row}
 use Rattle.layout.proofs.Laws.Res.{ok-inj}
-use Rattle.basics.specs.Answers.{apart, yes, no}
+use Rattle.basics.specs.Answers.{apart, yes, says_same}
 use Rattle.basics.specs.Number.{number}
 use Rattle.basics.specs.declared.Refusal.{Refusal}
 use Rattle.row_encode_v2.specs.Promise.{Encodes}
 use Rattle.row_decode_v2.specs.Promise.{Decodes}
 use Rattle.row_flags.specs.Says.{fields_from}
-use Rattle.row_encode_v2.specs.Says.{says_encoded}
-use Rattle.row_decode_v2.specs.Says.{row_from, says_row, refusal_of_row}
-use Rattle.row_encode_v2.specs.declared.Encoded.{Encoded}
-use Rattle.row_encode_v2.specs.declared.Encoded.TheVariants.{Bytes, Refused as EncodedRefused}
+use Rattle.row_decode_v2.specs.Says.{row_from, says_row}
 use Rattle.row_decode_v2.specs.declared.Row.{Row}
 use Rattle.row_flags.specs.declared.RowFields.{RowFields}
-use Rattle.row_decode_v2.specs.declared.RowRead.{RowRead}
-use Rattle.row_decode_v2.specs.declared.RowRead.TheVariants.{Read as ReadRow, Refused as RowRefused}
 use Rattle.build_in_place_v2.proofs.Writes.{entered-is}
 use Rattle.build_in_place_v2.specs.Promise.{FitsInPlace}
 use Rattle.state_v2.specs.Says.{view_from}
 use Rattle.basics.specs.Answers.{says_verdict}
-use Rattle.basics.specs.declared.Verdict.{Verdict}
-use Rattle.basics.specs.declared.Verdict.TheVariants.{Good, Refused}
 use Rattle.state_v2.specs.declared.State.{State}
 use Rattle.row_words.specs.Words.{bad_words, code_of, builder_from, fields_in, single_words, builder_count, single_count}
 use Rattle.builder_words.specs.Says.{state_in, Gain, gain_is}
@@ -54,13 +48,13 @@ module _ (prev_len shared : ℕ) (suffix value fs out : List ℕ) (n : ℕ) wher
   pub encodes_bad : fields_in fs value ≡ refuse bad_words → EncodesFlat prev_len shared suffix value fs out n bad_words out n
   encodes_bad e = rw e (record { answer = refl; number = refl; bytes = refl })
 
-  module _ (f : RowFields) (r : Encoded) (out' : List ℕ) (is : fields_in fs value ≡ ok (fields_from f value)) (p : Encodes prev_len shared suffix value f out r out') where
-    pub encodes-good : {k : ℕ} → r ≡ Bytes k → EncodesFlat prev_len shared suffix value fs out n 0 out' k
-    encodes-good {k} e = rw is (laid (encode_row prev_len shared suffix (fields_from f value) (length out)) out out' n k (yes says_encoded p.answer e) p.bytes)
+  module _ (f : RowFields) (r : Result ℕ Refusal) (out' : List ℕ) (is : fields_in fs value ≡ ok (fields_from f value)) (p : Encodes prev_len shared suffix value f out r out') where
+    pub encodes-good : {k : ℕ} → r ≡ Ok k → EncodesFlat prev_len shared suffix value fs out n 0 out' k
+    encodes-good {k} e = rw is (laid (encode_row prev_len shared suffix (fields_from f value) (length out)) out out' n k (yes says_same p.answer e) p.bytes)
 
-    pub encodes-refused : {x : Refusal} {code : ℕ} → r ≡ EncodedRefused x → code ≡ number x → EncodesFlat prev_len shared suffix value fs out n code out' n
+    pub encodes-refused : {x : Refusal} {code : ℕ} → r ≡ Err x → code ≡ number x → EncodesFlat prev_len shared suffix value fs out n code out' n
     encodes-refused {x} {code} e q =
-        rw is (unlaid (encode_row prev_len shared suffix (fields_from f value) (length out)) out out' n (number x) code (yes says_encoded p.answer e) p.bytes q)
+        rw is (unlaid (encode_row prev_len shared suffix (fields_from f value) (length out)) out out' n (number x) code (yes says_same p.answer e) p.bytes q)
 
 -- ---- decode
 
@@ -68,12 +62,12 @@ module _ (s : List ℕ) (prev_len : ℕ) (row : List ℕ) where
   pub decodes-short : (length row ≡ single_count → ⊥) → DecodesFlat s prev_len row bad_words row
   decodes-short h = sets-refused (counted-not row single_count (decode_row s prev_len) h) refl
 
-  module _ (a : RowRead) (h : length row ≡ single_count) (d : Decodes s prev_len a) where
-    pub decodes-good : {r : Row} {row' : List ℕ} → a ≡ ReadRow r → row' ≡ single_words (row_from r) → DecodesFlat s prev_len row 0 row'
+  module _ (a : Result Row Refusal) (h : length row ≡ single_count) (d : Decodes s prev_len a) where
+    pub decodes-good : {r : Row} {row' : List ℕ} → a ≡ Ok r → row' ≡ single_words (row_from r) → DecodesFlat s prev_len row 0 row'
     decodes-good {r} e q = sets-good (row_from r) (counted-so row single_count (decode_row s prev_len) h ∙ yes says_row d e) q
 
-    pub decodes-refused : {y x : Refusal} {code : ℕ} → a ≡ RowRefused y → x ≡ refusal_of_row a → code ≡ number x → DecodesFlat s prev_len row code row
-    decodes-refused {y} {x} e t q = sets-refused (counted-so row single_count (decode_row s prev_len) h ∙ no says_row refusal_of_row d e refl t) q
+    pub decodes-refused : {x : Refusal} {code : ℕ} → a ≡ Err x → code ≡ number x → DecodesFlat s prev_len row code row
+    decodes-refused e q = sets-refused (counted-so row single_count (decode_row s prev_len) h ∙ yes says_row d e) q
 
 -- ---- the fit question
 
@@ -81,7 +75,7 @@ module _ (ws last : List ℕ) (data_len places_len : ℕ) (key value fs : List �
   pub fits_bad : offer_in ws last fs value ≡ refuse bad_words → FitsFlat ws last data_len places_len key value fs bad_words
   fits_bad e = sym (ap code_of (offer_bad ws last fs value (λ (o : Gain). would_fit o.builder data_len places_len key o.fields) e))
 
-  module _ (s : State) (f : RowFields) (a : Verdict) (e : offer_in ws last fs value ≡ ok (gain_is (view_from s last) (fields_from f value)))
+  module _ (s : State) (f : RowFields) (a : Result ⊤ Refusal) (e : offer_in ws last fs value ≡ ok (gain_is (view_from s last) (fields_from f value)))
       (p : FitsInPlace s last data_len places_len key value f a) where
     o : Offers ws last fs value s f
     o = offer-tells ws last fs value s f e
@@ -90,8 +84,8 @@ module _ (ws last : List ℕ) (data_len places_len : ℕ) (key value fs : List �
     said : says_verdict a ≡ would_fit (builder_from ws last) data_len places_len key (fields_from f value)
     said = rw (o.state, entered-is (state_in ws) last o.long) at p
 
-    pub fits-yes : a ≡ Good → FitsFlat ws last data_len places_len key value fs 0
+    pub fits-yes : a ≡ Ok tt → FitsFlat ws last data_len places_len key value fs 0
     fits-yes z = rw (eq-eqb (length ws) builder_count o.six, eq-eqb (length last) max_key o.long, o.fields) (sym (ap code_of (yes says_verdict said z)))
 
-    pub fits_refused : {x : Refusal} {code : ℕ} → a ≡ Refused x → code ≡ number x → FitsFlat ws last data_len places_len key value fs code
+    pub fits_refused : {x : Refusal} {code : ℕ} → a ≡ Err x → code ≡ number x → FitsFlat ws last data_len places_len key value fs code
     fits_refused {x} z q = rw (eq-eqb (length ws) builder_count o.six, eq-eqb (length last) max_key o.long, o.fields) (q ∙ sym (ap code_of (yes says_verdict said z)))

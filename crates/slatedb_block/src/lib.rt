@@ -9,16 +9,6 @@ ghost use Rattle.block_words.specs.Exports.{StepsFlat};
 ghost use Rattle.seek_words.specs.Promise.{SeeksFlat};
 ghost use Rattle.slatedb_block.specs.Promise.{EncodesFlat, DecodesFlat, MakesFlat, FitsFlat, EmptiesFlat, BuildsFlat, ChecksFlat, OpensFlat, TellsFlat};
 
-use basics::Verdict;
-use block_check_v2::Checked;
-use block_words::{CursorRead, OrderRead};
-use builder_words::{OfferRead, StateRead};
-use finish_in_place_v2::BuildAnswer;
-use place_v2::EmptyRead;
-use row_decode_v2::RowRead;
-use row_encode_v2::Encoded;
-use row_words::FieldsRead;
-
 // ---- one row
 
 // Writes a row after a key of `previous_len` bytes, of which it shares the first `shared`: 254, 13, 1, 2, 3, 6. Good sets `count` to its bytes.
@@ -34,17 +24,15 @@ pub extern "C" fn slatedb_encode(
 ) -> u8
     ensures { EncodesFlat previous_len shared key_suffix.now value.now fields.now output.old count.old result output.new count.new }
 {
-    let loaded = row_words::fields_in(fields);
-    let FieldsRead::Is(row) = loaded else {
+    let Some(row) = row_words::fields_in(fields) else {
         return block_words::BAD_WORDS;
     };
-    let encoded = row_encode_v2::encode(output, previous_len, shared, key_suffix, value, row);
-    match encoded {
-        Encoded::Bytes(n) => {
+    match row_encode_v2::encode(output, previous_len, shared, key_suffix, value, row) {
+        Ok(n) => {
             *count = n as u64;
             block_words::GOOD
         }
-        Encoded::Refused(refusal) => basics::number(refusal),
+        Err(refusal) => u8::from(refusal),
     }
 }
 
@@ -56,12 +44,13 @@ pub extern "C" fn slatedb_decode(input: &[u8], previous_len: usize, row: &mut [u
     if row.len() != row_words::SINGLE_WORDS {
         return block_words::BAD_WORDS;
     }
-    let read = row_decode_v2::decode(input, previous_len);
-    let RowRead::Read(r) = read else {
-        return basics::number(row_decode_v2::row_refusal(read));
-    };
-    row_words::put_single(row, r);
-    block_words::GOOD
+    match row_decode_v2::decode(input, previous_len) {
+        Ok(r) => {
+            row_words::put_single(row, r);
+            block_words::GOOD
+        }
+        Err(refusal) => u8::from(refusal),
+    }
 }
 
 // ---- building a block
@@ -79,13 +68,12 @@ pub extern "C" fn slatedb_builder_new(
         return block_words::BAD_WORDS;
     }
     let new = state_v2::new_state(block_size, restart_interval);
-    let answer = new.answer;
-    match answer {
-        Verdict::Good => {
+    match new.answer {
+        Ok(()) => {
             builder_words::put_state(builder, new.state);
             block_words::GOOD
         }
-        Verdict::Refused(refusal) => basics::number(refusal),
+        Err(refusal) => u8::from(refusal),
     }
 }
 
@@ -102,22 +90,21 @@ pub extern "C" fn slatedb_builder_would_fit(
 ) -> u8
     ensures { FitsFlat builder.now last_key.now data_len restarts_len key.now value.now fields.now result }
 {
-    let loaded = builder_words::offer_in(builder, last_key, fields);
-    let OfferRead::Is { state: s, row } = loaded else {
+    let Some(offer) = builder_words::offer_in(builder, last_key, fields) else {
         return block_words::BAD_WORDS;
     };
     let fit = build_in_place_v2::would_fit_in_place(
         last_key,
-        s,
+        offer.state,
         data_len,
         restarts_len,
         key,
         value,
-        row,
+        offer.row,
     );
     match fit {
-        Verdict::Good => block_words::GOOD,
-        Verdict::Refused(refusal) => basics::number(refusal),
+        Ok(()) => block_words::GOOD,
+        Err(refusal) => u8::from(refusal),
     }
 }
 
@@ -142,8 +129,7 @@ pub extern "C" fn slatedb_builder_add(
 pub extern "C" fn slatedb_builder_is_empty(builder: &[u64], empty: &mut u64) -> u8
     ensures { EmptiesFlat builder.now empty.old result empty.new }
 {
-    let words = builder_words::state_in(builder);
-    let StateRead::Is(s) = words else {
+    let Some(s) = builder_words::state_in(builder) else {
         return block_words::BAD_WORDS;
     };
     *empty = row_words::truth_word(state_v2::is_empty_state(s));
@@ -160,17 +146,15 @@ pub extern "C" fn slatedb_builder_build(
 ) -> u8
     ensures { BuildsFlat builder.now «data».old restarts.now count.old result «data».new count.new }
 {
-    let words = builder_words::state_in(builder);
-    let StateRead::Is(s) = words else {
+    let Some(s) = builder_words::state_in(builder) else {
         return block_words::BAD_WORDS;
     };
-    let built = finish_in_place_v2::build_in_place(s, data, restarts);
-    match built {
-        BuildAnswer::Block(len) => {
+    match finish_in_place_v2::build_in_place(s, data, restarts) {
+        Ok(len) => {
             *count = len as u64;
             block_words::GOOD
         }
-        BuildAnswer::Refused(refusal) => basics::number(refusal),
+        Err(refusal) => u8::from(refusal),
     }
 }
 
@@ -181,13 +165,12 @@ pub extern "C" fn slatedb_builder_build(
 pub extern "C" fn slatedb_check(block: &[u8], count: &mut u64) -> u8
     ensures { ChecksFlat block.now count.old result count.new }
 {
-    let checked = block_check_v2::check(block);
-    match checked {
-        Checked::Rows(rows) => {
+    match block_check_v2::check(block) {
+        Ok(rows) => {
             *count = rows as u64;
             block_words::GOOD
         }
-        Checked::Refused(refusal) => basics::number(refusal),
+        Err(refusal) => u8::from(refusal),
     }
 }
 
@@ -199,18 +182,16 @@ pub extern "C" fn slatedb_open(block: &[u8], order: u64, cursor: &mut [u64]) -> 
     if cursor.len() != block_words::CURSOR_WORDS {
         return block_words::BAD_WORDS;
     }
-    let ordered = block_words::order_in(order);
-    let OrderRead::Is(o) = ordered else {
+    let Some(o) = row_words::order_in(order) else {
         return block_words::BAD_WORDS;
     };
     let opened = place_v2::open_place(block, o);
-    let answer = opened.answer;
-    match answer {
-        Verdict::Good => {
+    match opened.answer {
+        Ok(()) => {
             block_words::put_cursor(cursor, opened.place);
             block_words::GOOD
         }
-        Verdict::Refused(refusal) => basics::number(refusal),
+        Err(refusal) => u8::from(refusal),
     }
 }
 
@@ -219,17 +200,15 @@ pub extern "C" fn slatedb_open(block: &[u8], order: u64, cursor: &mut [u64]) -> 
 pub extern "C" fn slatedb_is_empty(block: &[u8], cursor: &[u64], empty: &mut u64) -> u8
     ensures { TellsFlat block.now cursor.now empty.old result empty.new }
 {
-    let loaded = block_words::cursor_in(cursor);
-    let CursorRead::Is(p) = loaded else {
+    let Some(p) = block_words::cursor_in(cursor) else {
         return block_words::BAD_WORDS;
     };
-    let read = place_v2::is_empty_place(p, block);
-    match read {
-        EmptyRead::Is(b) => {
+    match place_v2::is_empty_place(p, block) {
+        Ok(b) => {
             *empty = row_words::truth_word(b);
             block_words::GOOD
         }
-        EmptyRead::Refused(refusal) => basics::number(refusal),
+        Err(refusal) => u8::from(refusal),
     }
 }
 

@@ -6,13 +6,13 @@ use Rattle.trailer.specs.Says.{region_from}
 use Rattle.region_rows_v2.specs.Region.{bounds-inside, ends-here}
 use Rattle.block_rows_v2.proofs.run_here.Goals as goal
 
-pub returns-then-g-eq0 : goal.returns-then-g-eq0
-returns-then-g-eq0 c =
+pub returns-in_default : goal.returns-in_default
+returns-in_default c =
     record { more = omega arith; few = c.requires.roomy.few; on = λ ks rs c₀ g. g; long = refl; kept = λ z. refl; still = λ t. refl; ends = λ t room. absurd (clash t c.requires.ended_value) }
 
 pub returns-then-g-place : goal.returns-then-g-place
 returns-then-g-place c =
-    let b = c.bounds_of-b in
+    let b = c.in-Some.b in
     record {
       more = omega arith;
       few = c.requires.roomy.few;
@@ -20,9 +20,9 @@ returns-then-g-place c =
       long = refl;
       kept = λ z. refl;
       still = λ t. refl;
-      ends = λ t room. ends-here c.args.block.now b.result.size (region_from b.result.region) c.args.came.place c.args.key.now (bounds-inside c.args.came.place c.args.key.now c.args.block.now b.ensures c.if-g-eq0.false) c.if-g-place.true room;
+      ends = λ t room. ends-here c.args.block.now b.size (region_from b.region) c.args.came.place c.args.key.now (bounds-inside c.args.came.place c.args.key.now c.args.block.now c.in-Some.ensures) c.if-g-place.true room;
     }
 
 pub run-requires : goal.run-requires
 run-requires c =
-    record { roomy = c.requires.roomy; inside = bounds-inside c.args.came.place _ c.args.block.now c.bounds_of-b.ensures c.if-g-eq0.false }
+    record { roomy = c.requires.roomy; inside = bounds-inside c.args.came.place _ c.args.block.now c.in-Some.ensures }

@@ -6,12 +6,12 @@ use Rattle.slatedb_block.proofs.slatedb_builder_build.Goals as goal
 
 pub returns-in_default : goal.returns-in_default
 returns-in_default c =
-    builds-short c.args.builder.now _ _ _ (state-none c.args.builder.now c.state_in-words.ensures c.in_default.is)
+    builds-short c.args.builder.now _ _ _ (state-none c.args.builder.now (rw c.in_default.is at c.state_in.ensures))
 
-pub returns-in-Block : goal.returns-in-Block
-returns-in-Block c =
-    builds-block c.args.builder.now _ _ _ _ _ (state-counts c.args.builder.now c.state_in-words.ensures c.in-Is.is) (rw (state-is c.args.builder.now c.state_in-words.ensures c.in-Is.is) at c.build_in_place-built.ensures) c.in-Block.is
+pub returns-in-Ok : goal.returns-in-Ok
+returns-in-Ok c =
+    builds-block c.args.builder.now _ _ _ _ _ (state-counts c.args.builder.now (rw c.in-Some.is at c.state_in.ensures)) (rw (state-is c.args.builder.now (rw c.in-Some.is at c.state_in.ensures)) at c.build_in_place.ensures) c.in-Ok.is
 
-pub returns-in-Refused : goal.returns-in-Refused
-returns-in-Refused c =
-    builds-refused c.args.builder.now _ _ _ _ _ (state-counts c.args.builder.now c.state_in-words.ensures c.in-Is.is) (rw (state-is c.args.builder.now c.state_in-words.ensures c.in-Is.is) at c.build_in_place-built.ensures) c.in-Refused.is c.number.ensures
+pub returns-in-Err : goal.returns-in-Err
+returns-in-Err c =
+    builds-refused c.args.builder.now _ _ _ _ _ (state-counts c.args.builder.now (rw c.in-Some.is at c.state_in.ensures)) (rw (state-is c.args.builder.now (rw c.in-Some.is at c.state_in.ensures)) at c.build_in_place.ensures) c.in-Err.is c.from.ensures

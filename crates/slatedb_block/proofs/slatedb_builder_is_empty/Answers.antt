@@ -7,8 +7,8 @@ use Rattle.slatedb_block.proofs.slatedb_builder_is_empty.Goals as goal
 
 pub returns-in_default : goal.returns-in_default
 returns-in_default c =
-    empties-short c.args.builder.now _ (state-none c.args.builder.now c.state_in-words.ensures c.in_default.is)
+    empties-short c.args.builder.now _ (state-none c.args.builder.now (rw c.in_default.is at c.state_in.ensures))
 
 pub returns : goal.returns
 returns c =
-    empties c.args.builder.now _ _ _ (state-counts c.args.builder.now c.state_in-words.ensures c.in-Is.is) (rw (state-is c.args.builder.now c.state_in-words.ensures c.in-Is.is) at (c.is_empty_state.ensures [])) c.truth_word.ensures
+    empties c.args.builder.now _ _ _ (state-counts c.args.builder.now (rw c.in-Some.is at c.state_in.ensures)) (rw (state-is c.args.builder.now (rw c.in-Some.is at c.state_in.ensures)) at (c.is_empty_state.ensures [])) c.truth_word.ensures

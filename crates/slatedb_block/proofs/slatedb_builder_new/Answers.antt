@@ -7,10 +7,10 @@ use Rattle.slatedb_block.proofs.slatedb_builder_new.Goals as goal
 pub returns-then-builder-ne-BUILDER_WORDS : goal.returns-then-builder-ne-BUILDER_WORDS
 returns-then-builder-ne-BUILDER_WORDS c = makes-short c.args.builder.now _ _ c.if-builder-ne-BUILDER_WORDS.true
 
-pub returns-in-Good : goal.returns-in-Good
-returns-in-Good c =
-    makes-good c.args.builder.now _ _ _ c.if-builder-ne-BUILDER_WORDS.false c.new_state-new.ensures c.in-Good.is (stored c.if-builder-ne-BUILDER_WORDS.false c.put_state.ensures)
+pub returns-in-Ok : goal.returns-in-Ok
+returns-in-Ok c =
+    makes-good c.args.builder.now _ _ _ c.if-builder-ne-BUILDER_WORDS.false c.new_state-new.ensures c.in-Ok.is (stored c.if-builder-ne-BUILDER_WORDS.false c.put_state.ensures)
 
-pub returns-in-Refused : goal.returns-in-Refused
-returns-in-Refused c =
-    makes-refused c.args.builder.now _ _ _ c.if-builder-ne-BUILDER_WORDS.false c.new_state-new.ensures c.in-Refused.is c.number.ensures
+pub returns-in-Err : goal.returns-in-Err
+returns-in-Err c =
+    makes-refused c.args.builder.now _ _ _ c.if-builder-ne-BUILDER_WORDS.false c.new_state-new.ensures c.in-Err.is c.from.ensures

@@ -7,10 +7,10 @@ use Rattle.slatedb_block.proofs.slatedb_decode.Goals as goal
 pub returns-then-row-ne-SINGLE_WORDS : goal.returns-then-row-ne-SINGLE_WORDS
 returns-then-row-ne-SINGLE_WORDS c = decodes-short _ _ c.args.row.now c.if-row-ne-SINGLE_WORDS.true
 
-pub returns-in_default : goal.returns-in_default
-returns-in_default c =
-    decodes-refused _ _ c.args.row.now _ c.if-row-ne-SINGLE_WORDS.false c.decode-read.ensures c.in_default.is c.row_refusal.ensures c.number.ensures
+pub returns-in-Err : goal.returns-in-Err
+returns-in-Err c =
+    decodes-refused _ _ c.args.row.now _ c.if-row-ne-SINGLE_WORDS.false c.decode.ensures c.in-Err.is c.from.ensures
 
-pub returns : goal.returns
-returns c =
-    decodes-good _ _ c.args.row.now _ c.if-row-ne-SINGLE_WORDS.false c.decode-read.ensures c.in-Read.is (stored c.if-row-ne-SINGLE_WORDS.false c.put_single.ensures)
+pub returns-in-Ok : goal.returns-in-Ok
+returns-in-Ok c =
+    decodes-good _ _ c.args.row.now _ c.if-row-ne-SINGLE_WORDS.false c.decode.ensures c.in-Ok.is (stored c.if-row-ne-SINGLE_WORDS.false c.put_single.ensures)

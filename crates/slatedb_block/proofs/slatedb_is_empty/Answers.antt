@@ -7,12 +7,12 @@ use Rattle.slatedb_block.proofs.Laws.{empty-no-cursor, empty-told, empty-refused
 use Rattle.slatedb_block.proofs.slatedb_is_empty.Goals as goal
 
 pub returns-in_default : goal.returns-in_default
-returns-in_default c = empty-no-cursor _ _ _ (yes (says_cursor []) (c.cursor_in-loaded.ensures []) c.in_default.is)
+returns-in_default c = empty-no-cursor _ _ _ (yes (says_cursor []) (c.cursor_in.ensures []) c.in_default.is)
 
-pub returns-in-Is-read : goal.returns-in-Is-read
-returns-in-Is-read c =
-    empty-told _ _ _ c.in-Is.p _ (yes (says_cursor []) (c.cursor_in-loaded.ensures []) c.in-Is.is) c.is_empty_place-read.ensures c.in-Is-read.is c.truth_word.ensures
+pub returns-in-Ok : goal.returns-in-Ok
+returns-in-Ok c =
+    empty-told _ _ _ c.in-Some.p _ (yes (says_cursor []) (c.cursor_in.ensures []) c.in-Some.is) c.is_empty_place.ensures c.in-Ok.is c.truth_word.ensures
 
-pub returns-in-Refused : goal.returns-in-Refused
-returns-in-Refused c =
-    empty-refused _ _ _ c.in-Is.p _ (yes (says_cursor []) (c.cursor_in-loaded.ensures []) c.in-Is.is) c.is_empty_place-read.ensures c.in-Refused.is c.number.ensures
+pub returns-in-Err : goal.returns-in-Err
+returns-in-Err c =
+    empty-refused _ _ _ c.in-Some.p _ (yes (says_cursor []) (c.cursor_in.ensures []) c.in-Some.is) c.is_empty_place.ensures c.in-Err.is c.from.ensures
