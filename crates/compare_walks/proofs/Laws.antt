@@ -1,6 +1,7 @@
 -- The loop of a walk, whatever carries the cursor: the walk from here on, with what is left of the limit, put upon the rows and the sum so far, is the whole.
 -- And what each exit of an export answers and stores.
 use Rattle.std.proofs.Common.{◌≡◌, ℕ, suc, ◌+◌, ◌-◌, ◌%◌, ◌^◌, ◌<◌, ◌≤◌, Bool, true, false, cond, List, [], ◌∷◌, length, get_or, take, set, replicate, sym, refl, ap, ◌∙◌, subst, ap₂, arith, length-take-le, get_or-take, eq-eqb, ne_eqb}
+use Rattle.std.specs.Prelude.{Result, Ok, Err}
 use Rattle.layout.specs.Res.{Res, ok, refuse, bind}
 use Rattle.layout.specs.Limits.{max_key}
 use Rattle.layout.specs.Key.{Key}
@@ -15,7 +16,6 @@ use Rattle.basics.specs.declared.IterationOrder.{IterationOrder}
 use Rattle.place_v2.specs.Promise.{OpensPlace}
 use Rattle.place_v2.specs.Says.{view_in}
 use Rattle.place_v2.specs.declared.OpenedPlace.{OpenedPlace}
-use Rattle.basics.specs.declared.Verdict.TheVariants.{Good as GoodOpen, Refused as OpenRefused}
 use Rattle.row_words.specs.Words.{bad_words, done_code, order_in}
 use Rattle.row_words.proofs.Stores.{all-stored}
 use Rattle.compare_walks.specs.declared.Ran.{Ran}
@@ -70,29 +70,29 @@ module _ {want : Res Walk} (b : List ℕ) (limit : ℕ) (c : Cursor) (rows sum :
 -- ---- one way after another
 
 module _ {b : List ℕ} {limit : ℕ} {a q : Ran} {k k' : List ℕ} (x : RunsOn b limit a k q k') where
-  pub ends-then : (w : Walked) → Ends b limit q k' w → Ends b limit a k w
+  pub ends-then : (w : Result Walked Refusal) → Ends b limit q k' w → Ends b limit a k w
   ends-then w y want u = y want (x.on want u)
 
   pub runs_then : {r : Ran} {k'' : List ℕ} → RunsOn b limit q k' r k'' → RunsOn b limit a k r k''
   runs_then y = record { most = omega (arith, x.most, y.most); on = λ want w. y.on want (x.on want w) }
 
   -- and what more was gone, by how it went
-  module _ (g : Went) (k'' : List ℕ) (y : Goes b limit q k' g k'') where
-    pub went_on : {r : Ran} → g ≡ On r → RunsOn b limit a k r k''
-    went_on e = runs_then (subst (λ (z : Went). Goes b limit q k' z k'') e y)
+  module _ (g : Result Went Refusal) (k'' : List ℕ) (y : Goes b limit q k' g k'') where
+    pub went_on : {r : Ran} → g ≡ Ok (On r) → RunsOn b limit a k r k''
+    went_on e = runs_then (subst (λ (z : Result Went Refusal). Goes b limit q k' z k'') e y)
 
-    pub went_over : (room : ℕ) {w : Walked} → g ≡ Over w → Goes b limit a k g k'' × Stops limit room g
-    went_over room {w} e = subst (λ (z : Went). Goes b limit a k z k'' × Stops limit room z) (sym e) (ends-then w (subst (λ (z : Went). Goes b limit q k' z k'') e y), tt)
+    pub went_over : (room : ℕ) {w : Walked} → g ≡ Ok (Over w) → Goes b limit a k g k'' × Stops limit room g
+    went_over room {w} e = subst (λ (z : Result Went Refusal). Goes b limit a k z k'' × Stops limit room z) (sym e) (ends-then (Ok w) (subst (λ (z : Result Went Refusal). Goes b limit q k' z k'') e y), tt)
 
 -- the case of an answer is known, so what it tells is
-pub goes_as : (b : List ℕ) (limit : ℕ) (a : Ran) (k : List ℕ) {g h : Went} (k' : List ℕ) → Goes b limit a k g k' → g ≡ h → Goes b limit a k h k'
-goes_as b limit a k k' y e = subst (λ (z : Went). Goes b limit a k z k') e y
+pub goes_as : (b : List ℕ) (limit : ℕ) (a : Ran) (k : List ℕ) {g h : Result Went Refusal} (k' : List ℕ) → Goes b limit a k g k' → g ≡ h → Goes b limit a k h k'
+goes_as b limit a k k' y e = subst (λ (z : Result Went Refusal). Goes b limit a k z k') e y
 
-pub stops-on : (limit room : ℕ) {g : Went} {r : Ran} → Stops limit room g → g ≡ On r → (r.rows < limit) × (room ≡ max_key → ⊥)
-stops-on limit room y e = subst (λ (z : Went). Stops limit room z) e y
+pub stops-on : (limit room : ℕ) {g : Result Went Refusal} {r : Ran} → Stops limit room g → g ≡ Ok (On r) → (r.rows < limit) × (room ≡ max_key → ⊥)
+stops-on limit room y e = subst (λ (z : Result Went Refusal). Stops limit room z) e y
 
-pub one_more : (here : Ran) {g : Went} {r : Ran} → OneMore here g → g ≡ On r → r.rows ≡ here.rows + 1
-one_more here o e = subst (λ (z : Went). OneMore here z) e o
+pub one_more : (here : Ran) {g : Result Went Refusal} {r : Ran} → OneMore here g → g ≡ Ok (On r) → r.rows ≡ here.rows + 1
+one_more here o e = subst (λ (z : Result Went Refusal). OneMore here z) e o
 
 -- ---- what a row adds, summed piece by piece
 
@@ -123,13 +123,13 @@ module _ (b : List ℕ) (order limit : ℕ) (sums : List ℕ) where
   walks-no-order h o = rw (eq-eqb (length sums) 2 h, o) (record { answer = refl; words = refl })
 
   module _ (r : OpenedPlace) (o : IterationOrder) (h : length sums ≡ 2) (is : order_in order ≡ ok (says_order o)) (opens : OpensPlace b o r) where
-    opened-so : r.answer ≡ GoodOpen → (key : List ℕ) → open_block b (says_order o) ≡ ok (view_in r.place key)
+    opened-so : r.answer ≡ Ok tt → (key : List ℕ) → open_block b (says_order o) ≡ ok (view_in r.place key)
     opened-so e key = whether-good (open_block b (says_order o)) (view_in r.place key) (yes says_verdict opens.answer e) (λ a z. opens.view key ∙ ap (cursor_or (says_order o)) z)
 
     -- what the walk from the opened cursor answers is what is told; it carries no key, so that zeros do for its bytes
-    pub walks-told : {want : Res Walk} {code : ℕ} {sums' : List ℕ} → r.answer ≡ GoodOpen → want ≡ bind (walk limit (view_in r.place (replicate max_key 0)) b) wrapped → Tells want sums code sums'
+    pub walks-told : {want : Res Walk} {code : ℕ} {sums' : List ℕ} → r.answer ≡ Ok tt → want ≡ bind (walk limit (view_in r.place (replicate max_key 0)) b) wrapped → Tells want sums code sums'
         → WalksFlat b order limit sums code sums'
     walks-told e w t = rw (eq-eqb (length sums) 2 h, is, opened-so e (replicate max_key 0), ← w) t
 
-    pub walks-not-opened : {x : Refusal} {code : ℕ} → r.answer ≡ OpenRefused x → code ≡ number x → WalksFlat b order limit sums code sums
+    pub walks-not-opened : {x : Refusal} {code : ℕ} → r.answer ≡ Err x → code ≡ number x → WalksFlat b order limit sums code sums
     walks-not-opened {x} e q = rw (eq-eqb (length sums) 2 h, is, whether-refused (open_block b (says_order o)) (number x) (yes says_verdict opens.answer e), q) (record { answer = refl; words = refl })

@@ -1,6 +1,7 @@
 -- What a step tells a walk, whose buffer is as long as the longest key: its row's key has a byte, fits the buffer and stands whole at its start.
 -- The laws are those of any step (`region_rows_v2`, Found), at that length.
 use Rattle.std.proofs.Common.{◌≡◌, ℕ, ◌+◌, ◌≤◌, List, length, take, sym, ap, ◌∙◌, arith}
+use Rattle.std.specs.Prelude.{Result, Ok, Err}
 use Rattle.layout.specs.Res.{ok, refuse, bind}
 use Rattle.layout.specs.Limits.{max_key}
 use Rattle.layout.specs.Key.{Key}
@@ -18,7 +19,7 @@ use Rattle.step_in_place_v2.specs.Promise.{StepsInPlace}
 use Rattle.step_in_place_v2.specs.Says.{row, none, told}
 use Rattle.place_v2.specs.Says.{view_in}
 use Rattle.step_in_place_v2.specs.declared.Moved.{Moved}
-use Rattle.step_in_place_v2.specs.declared.Moved.TheVariants.{Found, Done, Refused}
+use Rattle.step_in_place_v2.specs.declared.Moved.TheVariants.{Found, Done}
 use Rattle.place_v2.specs.declared.Place.{Place}
 
 -- ---- a row found: the step from c to d, whose key stands at the start of what the buffer then holds
@@ -55,12 +56,12 @@ refuses b c room h t = rw h at (any.refuses (next c b room) t)
 
 -- ---- the same of a step in place, whose key bytes are as many
 
-module _ (p : Place) (key b out : List ℕ) (r : Moved) (key' out' : List ℕ) (k : length key ≡ max_key) (h : length out ≡ max_key) (m : StepsInPlace p key b out r key' out') where
-  pub moved-finds : {q : Place} {region n : ℕ} {x : Row} → r ≡ Found q region n x → Finds b (view_in p key) (view_in q key') region n (row_from x) out'
+module _ (p : Place) (key b out : List ℕ) (r : Result Moved Refusal) (key' out' : List ℕ) (k : length key ≡ max_key) (h : length out ≡ max_key) (m : StepsInPlace p key b out r key' out') where
+  pub moved-finds : {q : Place} {region n : ℕ} {x : Row} → r ≡ Ok (Found q region n x) → Finds b (view_in p key) (view_in q key') region n (row_from x) out'
   moved-finds {q} {region} {n} {x} e = at-start b (view_in p key) (view_in q key') region n (row_from x) out out' h (any.moved-finds p key b out r key' out' k m e)
 
-  pub moved_ends : {q : Place} → r ≡ Done q → next (view_in p key) b max_key ≡ ok (step_is (view_in q key') done)
+  pub moved_ends : {q : Place} → r ≡ Ok (Done q) → next (view_in p key) b max_key ≡ ok (step_is (view_in q key') done)
   moved_ends e = rw h at (any.moved_ends p key b out r key' out' k m e).0
 
-  pub moved-refuses : {x : Refusal} → r ≡ Refused x → next (view_in p key) b max_key ≡ refuse (number x)
+  pub moved-refuses : {x : Refusal} → r ≡ Err x → next (view_in p key) b max_key ≡ refuse (number x)
   moved-refuses e = rw h at (any.moved-refuses p key b out r key' out' k m e).0

@@ -1,12 +1,13 @@
 -- The loop of a walk: the walk from here on, with what is left of the limit, put upon the rows and the sum so far, is the whole. What the private functions that go
 -- over plain rows ask and leave.
-use Rattle.std.specs.Prelude.{◌≡◌, ℕ, ◌+◌, ◌-◌, ◌%◌, ◌^◌, ◌<◌, ◌≤◌, Bool, true, List, length, take, drop, ◌≢◌}
+use Rattle.std.specs.Prelude.{◌≡◌, ℕ, ◌+◌, ◌-◌, ◌%◌, ◌^◌, ◌<◌, ◌≤◌, Bool, true, List, length, take, drop, ◌≢◌, Result, Ok, Err}
 use Rattle.layout.specs.Res.{Res, ok, bind}
 use Rattle.layout.specs.Cursor.{Cursor, marked, done, step_is, next}
 use Rattle.layout.specs.Fixed.{unbig}
 use Rattle.layout.specs.Key.{Key}
 use Rattle.layout.specs.Limits.{max_key}
 use Rattle.layout.specs.Place.{splice}
+use Rattle.basics.specs.declared.Refusal.{Refusal}
 use Rattle.row_plain_v2.specs.declared.PlainRow.{PlainRow}
 use Rattle.place_v2.specs.Says.{view_in}
 use Rattle.place_v2.specs.declared.Place.{Place}
@@ -42,25 +43,28 @@ pub record RunsOn (b : List ℕ) (limit : ℕ) (came : Ran) (key : List ℕ) (r 
   pub on : (want : Res Walk) → Walking want b limit (view_in came.place key) came.rows came.sum → Walking want b limit (view_in r.place key') r.rows r.sum
 
 -- the end of whatever walk was under way
-abbrev pub Ends : List ℕ → ℕ → Ran → List ℕ → Walked → Type 0
+abbrev pub Ends : List ℕ → ℕ → Ran → List ℕ → Result Walked Refusal → Type 0
 Ends b limit came key w = (want : Res Walk) → Walking want b limit (view_in came.place key) came.rows came.sum → says_walked w ≡ want
 
-abbrev pub Goes : List ℕ → ℕ → Ran → List ℕ → Went → List ℕ → Type 0
-Goes b limit came key (On r) key' = RunsOn b limit came key r key'
-Goes b limit came key (Over w) key' = Ends b limit came key w
+abbrev pub Goes : List ℕ → ℕ → Ran → List ℕ → Result Went Refusal → List ℕ → Type 0
+Goes b limit came key (Ok (On r)) key' = RunsOn b limit came key r key'
+Goes b limit came key (Ok (Over w)) key' = Ends b limit came key (Ok w)
+Goes b limit came key (Err x) key' = Ends b limit came key (Err x)
 
-abbrev pub OneMore : Ran → Went → Type 0
-OneMore here (On r) = r.rows ≡ here.rows + 1
-OneMore here (Over w) = Unit {0}
+abbrev pub OneMore : Ran → Result Went Refusal → Type 0
+OneMore here (Ok (On r)) = r.rows ≡ here.rows + 1
+OneMore here (Ok (Over w)) = Unit {0}
+OneMore here (Err x) = Unit {0}
 
 -- a step finds one row, if the limit leaves any
-abbrev pub StepsOn : List ℕ → Ran → List ℕ → Went → List ℕ → Type 0
+abbrev pub StepsOn : List ℕ → Ran → List ℕ → Result Went Refusal → List ℕ → Type 0
 StepsOn b here key r key' = ((limit : ℕ) → here.rows < limit → Goes b limit here key r key') × OneMore here r
 
 -- where a walk stops that is still under way: before a row whose key has no room
-abbrev pub Stops : ℕ → ℕ → Went → Type 0
-Stops limit room (On r) = (r.rows < limit) × (room ≢ max_key)
-Stops limit room (Over w) = Unit {0}
+abbrev pub Stops : ℕ → ℕ → Result Went Refusal → Type 0
+Stops limit room (Ok (On r)) = (r.rows < limit) × (room ≢ max_key)
+Stops limit room (Ok (Over w)) = Unit {0}
+Stops limit room (Err x) = Unit {0}
 
 -- at the end of the last region a step says "done"
 abbrev pub TellsOver : Place → List ℕ → Bool → Type 0

@@ -1,10 +1,13 @@
--- What each case of a private answer says to the definitions.
-use Rattle.layout.specs.Res.{Res, ok, refuse}
-use Rattle.basics.specs.Number.{number}
+-- What a private answer says to the definitions.
+use Rattle.std.specs.Prelude.{Result}
+use Rattle.layout.specs.Res.{Res}
+use Rattle.basics.specs.Answers.{says}
+use Rattle.basics.specs.declared.Refusal.{Refusal}
 use Rattle.compare_walks.specs.declared.Walked.{Walked}
-use Rattle.compare_walks.specs.declared.Walked.TheVariants.{Ended, Refused}
 use Rattle.compare_walks.specs.Walk.{Walk, walk_is}
 
-abbrev pub says_walked : Walked → Res Walk
-says_walked (Ended over rows sum) = ok (walk_is over rows sum)
-says_walked (Refused r) = refuse (number r)
+abbrev pub walk_from : Walked → Walk
+walk_from w = walk_is w.over w.rows w.sum
+
+abbrev pub says_walked : Result Walked Refusal → Res Walk
+says_walked = says walk_from

@@ -18,9 +18,8 @@ ghost use Rattle.compare_walks.specs.Loop.{added, PassesPlain, RunsOn, Ends, Goe
 ghost use Rattle.compare_walks.specs.Says.{says_walked};
 ghost use Rattle.compare_walks.specs.Promise.{Tells, WalksFlat};
 
-use basics::{Refusal, ValueDeletable, Verdict};
-use block_iterator_v2::{BlockIteratorV2, NextAnswer};
-use block_words::OrderRead;
+use basics::{Refusal, ValueDeletable};
+use block_iterator_v2::BlockIteratorV2;
 use place_v2::Place;
 use region_rows_v2::Bounds;
 use row_decode_v2::Row;
@@ -31,27 +30,28 @@ const SUMS_WORDS: usize = 2;
 
 // How many rows a walk found, their sum, and whether "done" ended it.
 #[derive(Clone, Copy)]
-enum Walked {
-    Ended { over: bool, rows: u64, sum: u64 },
-    Refused(Refusal),
+struct Walked {
+    over: bool,
+    rows: u64,
+    sum: u64,
 }
 
 // Stores what a walk found, and gives its code.
-fn tell(walked: Walked, sums: &mut [u64]) -> u8
+fn tell(walked: Result<Walked, Refusal>, sums: &mut [u64]) -> u8
     requires { length sums.old ≡ 2 }
     ensures { Tells (says_walked walked) sums.old result sums.new }
 {
     match walked {
-        Walked::Ended { over, rows, sum } => {
-            sums[0] = rows;
-            sums[1] = sum;
-            if over {
+        Ok(w) => {
+            sums[0] = w.rows;
+            sums[1] = w.sum;
+            if w.over {
                 block_words::DONE
             } else {
                 block_words::GOOD
             }
         }
-        Walked::Refused(refusal) => basics::number(refusal),
+        Err(refusal) => u8::from(refusal),
     }
 }
 
@@ -67,12 +67,6 @@ fn value_len(held: ValueDeletable) -> u64
     }
 }
 
-fn wide(byte: u8) -> u64
-    ensures { result ≡ byte }
-{
-    byte as u64
-}
-
 // The sum with a row more, by its parts: its key is the first `n` bytes of `key`, its value has `held` bytes.
 fn with_parts(sum: u64, seq: u64, held: u64, key: &[u8], n: usize) -> u64
     requires { (1 ≤ n) × (n ≤ length key.now) × (length key.now ≡ max_key) }
@@ -80,7 +74,7 @@ fn with_parts(sum: u64, seq: u64, held: u64, key: &[u8], n: usize) -> u64
 {
     let last = n - 1;
     let lengths = std::num::wrapping_add_u64(n as u64, held);
-    let named = std::num::wrapping_add_u64(seq, wide(key[last]));
+    let named = std::num::wrapping_add_u64(seq, u64::from(key[last]));
     std::num::wrapping_add_u64(sum, std::num::wrapping_add_u64(named, lengths))
 }
 
@@ -89,11 +83,10 @@ fn with_row(sum: u64, row: Row, key: &[u8]) -> u64
     requires { (1 ≤ row.shared + row.suffix_len) × (row.shared + row.suffix_len ≤ length key.now) × (length key.now ≡ max_key) }
     ensures { result ≡ (sum + amount (row_from row) (take (row.shared + row.suffix_len) key.now)) % 2 ^ 64 }
 {
-    let held = row.held;
     with_parts(
         sum,
         row.seq,
-        value_len(held),
+        value_len(row.held),
         key,
         row.shared + row.suffix_len,
     )
@@ -101,7 +94,7 @@ fn with_row(sum: u64, row: Row, key: &[u8]) -> u64
 
 // ---- by value
 
-fn by_value(block: &[u8], start: Place, limit: u64) -> Walked
+fn by_value(block: &[u8], start: Place, limit: u64) -> Result<Walked, Refusal>
     ensures { says_walked result ≡ bind (walk limit (view_in start (replicate max_key 0)) block.now) wrapped }
 {
     let mut c = BlockIteratorV2 {
@@ -113,34 +106,22 @@ fn by_value(block: &[u8], start: Place, limit: u64) -> Walked
     let mut sum = 0;
     while rows < limit {
         let next = c.next(block, &mut key);
-        let answer = next.answer;
-        match answer {
-            NextAnswer::Found {
-                region: _,
-                number: _,
-                row,
-            } => {
-                sum = with_row(sum, row, &key);
-                rows += 1;
-                c = next.iterator;
-            }
-            NextAnswer::Done => {
-                return Walked::Ended {
-                    over: true,
-                    rows,
-                    sum,
-                };
-            }
-            NextAnswer::Refused(refusal) => {
-                return Walked::Refused(refusal);
-            }
-        }
+        let Some(found) = next.answer? else {
+            return Ok(Walked {
+                over: true,
+                rows,
+                sum,
+            });
+        };
+        sum = with_row(sum, found.row, &key);
+        rows += 1;
+        c = next.iterator;
     }
-    Walked::Ended {
+    Ok(Walked {
         over: false,
         rows,
         sum,
-    }
+    })
 }
 
 // ---- in place
@@ -152,7 +133,7 @@ fn pass_plain(key: &mut [u8], data: &[u8], at: usize, row: PlainRow, sum: u64) -
 {
     let from = at + 3;
     let end = from + row.unshared;
-    buf_mut::copy_in(key, row.shared, &data[from..end]);
+    let _ = buf_mut::copy_in(key, row.shared, &data[from..end]);
     let seq = buf::eight(data, row.next - 9);
     with_parts(
         sum,
@@ -186,14 +167,13 @@ fn run(block: &[u8], b: Bounds, key: &mut [u8], came: Ran, limit: u64) -> Ran
     while rows < limit {
         let at = p.at;
         let most = if at == g.start { 0 } else { p.key_len };
-        let row = row_plain_v2::plain_at(&block[..size], at, g.end, most);
-        if row.next == 0 {
+        let Some(row) = row_plain_v2::plain_at(&block[..size], at, g.end, most) else {
             return Ran {
                 place: p,
                 rows,
                 sum,
             };
-        }
+        };
         sum = pass_plain(key, &block[..size], at, row, sum);
         rows += 1;
         p.at = row.next;
@@ -222,16 +202,13 @@ fn run_here(block: &[u8], key: &mut [u8], came: Ran, limit: u64) -> Ran
     requires { length key.old ≡ max_key }
     ensures { RunsOn block.now limit came key.old result key.new }
 {
-    let place = came.place;
-    let b = region_rows_v2::bounds_of(block, place);
-    let g = b.region;
-    if g.end == 0 {
+    let Some(b) = region_rows_v2::bounds_of(block, came.place) else {
         return came;
-    }
+    };
     run(block, b, key, came, limit)
 }
 
-// Where a walk has come to, still under way; or how it ended.
+// Where a walk has come to, still under way; or what it found by its end.
 #[derive(Clone, Copy)]
 enum Went {
     On(Ran),
@@ -239,35 +216,39 @@ enum Went {
 }
 
 // One more step, with its row added.
-fn step_row(block: &[u8], carried: &mut [u8], out: &mut [u8], here: Ran) -> Went
+fn step_row(block: &[u8], carried: &mut [u8], out: &mut [u8], here: Ran) -> Result<Went, Refusal>
     requires { (length carried.old ≡ max_key) × (length out.old ≡ max_key) × (here.rows + 1 < 2 ^ 64) }
     ensures { StepsOn block.now here carried.old result carried.new }
 {
     let rows = here.rows;
     let sum = here.sum;
-    let moved = step_in_place_v2::next_in_place(carried, here.place, block, out);
-    match moved {
+    match step_in_place_v2::next_in_place(carried, here.place, block, out)? {
         Moved::Found {
             place,
             region: _,
             number: _,
             row,
-        } => Went::On(Ran {
+        } => Ok(Went::On(Ran {
             place,
             rows: rows + 1,
             sum: with_row(sum, row, out),
-        }),
-        Moved::Done(_) => Went::Over(Walked::Ended {
+        })),
+        Moved::Done(_) => Ok(Went::Over(Walked {
             over: true,
             rows,
             sum,
-        }),
-        Moved::Refused(refusal) => Went::Over(Walked::Refused(refusal)),
+        })),
     }
 }
 
 // Plain rows a region at a time, any other row by a step of its own; to the first of these, unless `out` has room for every key.
-fn walk_rows(block: &[u8], carried: &mut [u8], out: &mut [u8], came: Ran, limit: u64) -> Went
+fn walk_rows(
+    block: &[u8],
+    carried: &mut [u8],
+    out: &mut [u8],
+    came: Ran,
+    limit: u64,
+) -> Result<Went, Refusal>
     requires { length carried.old ≡ max_key }
     ensures { Goes block.now limit came carried.old result carried.new × Stops limit (length out.old) result }
 {
@@ -277,57 +258,56 @@ fn walk_rows(block: &[u8], carried: &mut [u8], out: &mut [u8], came: Ran, limit:
         here = run_here(block, carried, here, limit);
         if here.rows == before {
             if out.len() != basics::MAX_KEY {
-                return Went::On(here);
+                return Ok(Went::On(here));
             }
-            let went = step_row(block, carried, out, here);
+            let went = step_row(block, carried, out, here)?;
             let Went::On(next) = went else {
-                return went;
+                return Ok(went);
             };
             here = next;
         }
     }
-    Went::Over(Walked::Ended {
+    Ok(Went::Over(Walked {
         over: false,
         rows: here.rows,
         sum: here.sum,
-    })
+    }))
 }
 
 // Whether an ascending cursor stands at the end of the last region, where a step says "done".
 fn is_over(block: &[u8], p: Place) -> bool
     ensures { TellsOver p block.now result }
 {
-    let b = region_rows_v2::bounds_of(block, p);
-    let g = b.region;
-    if g.end == 0 {
+    let Some(b) = region_rows_v2::bounds_of(block, p) else {
         return false;
-    }
+    };
+    let g = b.region;
     (g.reach == p.at) & (g.end == p.at)
 }
 
 // The rest of a walk that came to no plain row. The bytes for a key that a step gives are made, and cleared, only here.
-fn walk_rest(block: &[u8], carried: &mut [u8], here: Ran, limit: u64) -> Walked
+fn walk_rest(block: &[u8], carried: &mut [u8], here: Ran, limit: u64) -> Result<Walked, Refusal>
     requires { (length carried.old ≡ max_key) × (here.rows < limit) }
     ensures { Ends block.now limit here carried.old result }
 {
     if is_over(block, here.place) {
-        return Walked::Ended {
+        return Ok(Walked {
             over: true,
             rows: here.rows,
             sum: here.sum,
-        };
+        });
     }
     let mut out = [0; basics::MAX_KEY];
-    let went = walk_rows(block, carried, &mut out, here, limit);
+    let went = walk_rows(block, carried, &mut out, here, limit)?;
     // Never on: every key has room.
     let Went::Over(walked) = went else {
-        return Walked::Refused(Refusal::BadState);
+        return Err(Refusal::BadState);
     };
-    walked
+    Ok(walked)
 }
 
 // Plain rows alone, as long as there are some: their keys go from the block to the carried one, so that nothing is lent for them.
-fn in_place(block: &[u8], start: Place, limit: u64) -> Walked
+fn in_place(block: &[u8], start: Place, limit: u64) -> Result<Walked, Refusal>
     ensures { says_walked result ≡ bind (walk limit (view_in start (replicate max_key 0)) block.now) wrapped }
 {
     let mut carried = [0; basics::MAX_KEY];
@@ -337,10 +317,9 @@ fn in_place(block: &[u8], start: Place, limit: u64) -> Walked
         rows: 0,
         sum: 0,
     };
-    let went = walk_rows(block, &mut carried, &mut none, came, limit);
-    match went {
+    match walk_rows(block, &mut carried, &mut none, came, limit)? {
         Went::On(here) => walk_rest(block, &mut carried, here, limit),
-        Went::Over(walked) => walked,
+        Went::Over(walked) => Ok(walked),
     }
 }
 
@@ -353,15 +332,13 @@ fn walk_flat(block: &[u8], order: u64, limit: u64, sums: &mut [u64], moves: bool
     if sums.len() != SUMS_WORDS {
         return block_words::BAD_WORDS;
     }
-    let ordered = block_words::order_in(order);
-    let OrderRead::Is(o) = ordered else {
+    let Some(o) = row_words::order_in(order) else {
         return block_words::BAD_WORDS;
     };
     let opened = place_v2::open_place(block, o);
     let place = opened.place;
-    let answer = opened.answer;
-    match answer {
-        Verdict::Good => {
+    match opened.answer {
+        Ok(()) => {
             if moves {
                 let walked = by_value(block, place, limit);
                 return tell(walked, sums);
@@ -369,7 +346,7 @@ fn walk_flat(block: &[u8], order: u64, limit: u64, sums: &mut [u64], moves: bool
             let walked = in_place(block, place, limit);
             tell(walked, sums)
         }
-        Verdict::Refused(refusal) => basics::number(refusal),
+        Err(refusal) => u8::from(refusal),
     }
 }
 

@@ -6,10 +6,10 @@ use Rattle.region_rows_v2.specs.Region.{bounds-inside, ends-here}
 use Rattle.std.proofs.Common.{refl}
 use Rattle.compare_walks.proofs.is_over.Goals as goal
 
-pub returns-then-g-eq0 : goal.returns-then-g-eq0
-returns-then-g-eq0 c = λ e. absurd (clash e refl)
+pub returns-in_default : goal.returns-in_default
+returns-in_default c = λ e. absurd (clash e refl)
 
 pub returns : goal.returns
 returns c =
-    let b = c.bounds_of-b in
-    λ e key. ends-here c.args.block.now b.result.size (region_from b.result.region) c.args.p key (bounds-inside c.args.p key c.args.block.now b.ensures c.if-g-eq0.false) e max_key
+    let b = c.in-Some.b in
+    λ e key. ends-here c.args.block.now b.size (region_from b.region) c.args.p key (bounds-inside c.args.p key c.args.block.now c.in-Some.ensures) e max_key

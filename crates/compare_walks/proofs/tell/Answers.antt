@@ -6,13 +6,13 @@ use Rattle.compare_walks.specs.Says.{says_walked}
 use Rattle.compare_walks.proofs.Laws.{told-ended, told-refused}
 use Rattle.compare_walks.proofs.tell.Goals as goal
 
-pub returns-then-over : goal.returns-then-over
-returns-then-over c =
-    told-ended c.args.sums.now _ _ _ c.requires (ap says_walked c.in-Ended.is) (sym (ap (λ (o : Bool). cond o done_code 0) c.if-over.true))
+pub returns-then-w : goal.returns-then-w
+returns-then-w c =
+    told-ended c.args.sums.now _ _ _ c.requires (ap says_walked c.in-Ok.is) (sym (ap (λ (o : Bool). cond o done_code 0) c.if-w.true))
 
-pub returns-else-over : goal.returns-else-over
-returns-else-over c =
-    told-ended c.args.sums.now _ _ _ c.requires (ap says_walked c.in-Ended.is) (sym (ap (λ (o : Bool). cond o done_code 0) c.if-over.false))
+pub returns-else-w : goal.returns-else-w
+returns-else-w c =
+    told-ended c.args.sums.now _ _ _ c.requires (ap says_walked c.in-Ok.is) (sym (ap (λ (o : Bool). cond o done_code 0) c.if-w.false))
 
-pub returns-in-Refused : goal.returns-in-Refused
-returns-in-Refused c = told-refused c.args.sums.now (ap says_walked c.in-Refused.is) c.number.ensures
+pub returns-in-Err : goal.returns-in-Err
+returns-in-Err c = told-refused c.args.sums.now (ap says_walked c.in-Err.is) c.from.ensures

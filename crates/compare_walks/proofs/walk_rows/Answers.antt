@@ -1,7 +1,9 @@
-use Rattle.std.proofs.Common.{◌≡◌, ◌<◌, length, refl, ◌∙◌, arith}
+use Rattle.std.proofs.Common.{◌≡◌, ◌<◌, length, refl, ap, ◌∙◌, arith}
+use Rattle.std.specs.Prelude.{Ok, Err}
+use Rattle.std.proofs.lemmas.Result.{err_from_is_err_and}
 use Rattle.compare_walks.specs.Loop.{RunsOn, Goes}
-use Rattle.compare_walks.proofs.Laws.{walking_whole, runs_then, went_on, went_over, one_more}
-use Rattle.compare_walks.proofs.walk_rows.Goals.{After-run_here-here, After-step_row-went, Then-here-before}
+use Rattle.compare_walks.proofs.Laws.{walking_whole, ends-then, runs_then, went_on, went_over, one_more}
+use Rattle.compare_walks.proofs.walk_rows.Goals.{After-run_here-here, After-step_row, In_ok-went, Then-here-before}
 use Rattle.compare_walks.proofs.walk_rows.Goals as goal
 
 -- past the plain rows of a region
@@ -16,14 +18,14 @@ few : (n : Then-here-before) → n.run_here-here.result.rows < n.args.limit
 few n = omega (arith, n.if-here-before.true, n.loop-here-test.true)
 
 -- past it
-made : (t : After-step_row-went) → Goes t.args.block.now t.args.limit t.run_here-here.result t.run_here-here.new.key t.step_row-went.result t.step_row-went.new.carried
-made t = t.step_row-went.ensures.0 t.args.limit (omega (arith, t.if-here-before.true, t.loop-here-test.true))
+made : (t : In_ok-went) → Goes t.args.block.now t.args.limit t.run_here-here.result t.run_here-here.new.key (Ok t.in_ok-went.went) t.step_row.new.carried
+made t = t.in_ok-went.ensures.0 t.args.limit (omega (arith, t.if-here-before.true, t.loop-here-test.true))
 
-carried-kept : (t : After-step_row-went) → length t.step_row-went.new.carried ≡ length t.args.carried.now
-carried-kept t = t.step_row-went.auto.carried ∙ (t.run_here-here.auto.key ∙ t.loop-here.invariant.1)
+carried-kept : (t : After-step_row) → length t.step_row.new.carried ≡ length t.args.carried.now
+carried-kept t = t.step_row.auto.carried ∙ (t.run_here-here.auto.key ∙ t.loop-here.invariant.1)
 
-out-kept : (t : After-step_row-went) → length t.step_row-went.new.out ≡ length t.args.out.now
-out-kept t = t.step_row-went.auto.out ∙ t.loop-here.invariant.2
+out-kept : (t : After-step_row) → length t.step_row.new.out ≡ length t.args.out.now
+out-kept t = t.step_row.auto.out ∙ t.loop-here.invariant.2
 
 pub loop-here-init : goal.loop-here-init
 loop-here-init c = (record { most = omega arith; on = λ want w. w }, refl, refl)
@@ -40,27 +42,39 @@ shape_of-out-then-out-ne-MAX_KEY c = c.loop-here.invariant.2
 pub returns-then-out-ne-MAX_KEY : goal.returns-then-out-ne-MAX_KEY
 returns-then-out-ne-MAX_KEY c = (so_far (goal.at.returns-then-out-ne-MAX_KEY c).After-run_here-here, (few (goal.at.returns-then-out-ne-MAX_KEY c).Then-here-before, λ e. c.if-out-ne-MAX_KEY.true (c.loop-here.invariant.2 ∙ e)))
 
-pub step_row-went-requires : goal.step_row-went-requires
-step_row-went-requires c =
-    (whole (goal.at.step_row-went-requires c).After-run_here-here ∙ c.requires, c.if-out-ne-MAX_KEY.false, omega (arith, few (goal.at.step_row-went-requires c).Then-here-before))
+pub step_row-requires : goal.step_row-requires
+step_row-requires c =
+    (whole (goal.at.step_row-requires c).After-run_here-here ∙ c.requires, c.if-out-ne-MAX_KEY.false, omega (arith, few (goal.at.step_row-requires c).Then-here-before))
 
 pub shape_of-carried-in_default : goal.shape_of-carried-in_default
-shape_of-carried-in_default c = carried-kept (goal.at.shape_of-carried-in_default c).After-step_row-went
+shape_of-carried-in_default c = carried-kept (goal.at.shape_of-carried-in_default c).After-step_row
 
 pub shape_of-out-in_default : goal.shape_of-out-in_default
-shape_of-out-in_default c = out-kept (goal.at.shape_of-out-in_default c).After-step_row-went
+shape_of-out-in_default c = out-kept (goal.at.shape_of-out-in_default c).After-step_row
+
+pub shape_of-carried-in_err-went : goal.shape_of-carried-in_err-went
+shape_of-carried-in_err-went c = carried-kept (goal.at.shape_of-carried-in_err-went c).After-step_row
+
+pub shape_of-out-in_err-went : goal.shape_of-out-in_err-went
+shape_of-out-in_err-went c = out-kept (goal.at.shape_of-out-in_err-went c).After-step_row
+
+pub returns-in_err-went : goal.returns-in_err-went
+returns-in_err-went c =
+    let p = err_from_is_err_and c.from_residual.result c.from_residual.ensures.1 in
+    rw (p.1, p.2)
+    (ends-then (so_far (goal.at.returns-in_err-went c).After-run_here-here) (Err _) (c.in_err-went.ensures.0 c.args.limit (few (goal.at.returns-in_err-went c).Then-here-before)), tt)
 
 pub returns-in_default : goal.returns-in_default
 returns-in_default c =
-    went_over (so_far (goal.at.returns-in_default c).After-run_here-here) _ _ (made (goal.at.returns-in_default c).After-step_row-went) _ c.in_default.is
+    went_over (so_far (goal.at.returns-in_default c).After-run_here-here) _ _ (made (goal.at.returns-in_default c).In_ok-went) _ (ap Ok c.in_default.is)
 
 pub loop-here-smaller-then-here-before : goal.loop-here-smaller-then-here-before
 loop-here-smaller-then-here-before c =
-    omega (arith, one_more c.run_here-here.result c.step_row-went.ensures.1 c.in-On.is, few (goal.at.loop-here-smaller-then-here-before c).Then-here-before, c.if-here-before.true)
+    omega (arith, one_more c.run_here-here.result c.in_ok-went.ensures.1 (ap Ok c.in-On.is), few (goal.at.loop-here-smaller-then-here-before c).Then-here-before, c.if-here-before.true)
 
 pub loop-here-preserved-then-here-before : goal.loop-here-preserved-then-here-before
 loop-here-preserved-then-here-before c =
-    (went_on (so_far (goal.at.loop-here-preserved-then-here-before c).After-run_here-here) _ _ (made (goal.at.loop-here-preserved-then-here-before c).After-step_row-went) c.in-On.is, carried-kept (goal.at.loop-here-preserved-then-here-before c).After-step_row-went, out-kept (goal.at.loop-here-preserved-then-here-before c).After-step_row-went)
+    (went_on (so_far (goal.at.loop-here-preserved-then-here-before c).After-run_here-here) _ _ (made (goal.at.loop-here-preserved-then-here-before c).In_ok-went) (ap Ok c.in-On.is), carried-kept (goal.at.loop-here-preserved-then-here-before c).After-step_row, out-kept (goal.at.loop-here-preserved-then-here-before c).After-step_row)
 
 pub loop-here-smaller : goal.loop-here-smaller
 loop-here-smaller c =

@@ -6,4 +6,4 @@ use Rattle.compare_walks.proofs.with_parts.Goals as goal
 pub returns : goal.returns
 returns c =
     row-added c.args.sum c.args.seq c.args.held c.args.key.now c.args.n c.requires.0 c.requires.1
-    c.wrapping_add_u64-lengths.ensures.value c.wide.ensures c.wrapping_add_u64-named.ensures.value c.wrapping_add_u64.ensures.value c.wrapping_add_u64-2.ensures.value
+    c.wrapping_add_u64-lengths.ensures.value c.from.ensures c.wrapping_add_u64-named.ensures.value c.wrapping_add_u64.ensures.value c.wrapping_add_u64-2.ensures.value
