@@ -24,14 +24,10 @@ fn put_be(buf: &mut [u8], at: usize, v: u64, n: usize) -> Result<usize, Refusal>
     if numbers::rest_from(buf.len(), at) < n {
         return Err(Refusal::BufferTooSmall);
     }
-    let mut i = at;
-    let mut k = n;
-    while 0 < k {
-        k -= 1;
-        buf[i] = ((v >> (8 * k)) % 256) as u8;
-        i += 1;
+    for i in 0..n {
+        buf[at + i] = ((v >> (8 * (n - i - 1))) % 256) as u8;
     }
-    Ok(i)
+    Ok(at + n)
 }
 
 // Writes `v` at `at` in two bytes, high byte first.

@@ -36,8 +36,7 @@ fn get_varint(s: &[u8], at: usize, first: u32) -> Result<Read<u32>, Refusal>
 {
     let mut acc: u32 = first - 128;
     let mut w: u32 = 128;
-    let mut i: usize = 1;
-    while i < 4 {
+    for i in 1..4 {
         if s.len() <= at + i {
             return Err(Refusal::InputEnds);
         }
@@ -45,19 +44,18 @@ fn get_varint(s: &[u8], at: usize, first: u32) -> Result<Read<u32>, Refusal>
         if b < 128 {
             return ended(acc, w, b, at + i + 1);
         }
-        acc = acc + w * (b - 128);
-        w = w * 128;
-        i = i + 1;
+        acc += w * (b - 128);
+        w *= 128;
     }
-    if s.len() <= at + i {
+    if s.len() <= at + 4 {
         return Err(Refusal::InputEnds);
     }
-    let b = wide32(s[at + i]);
+    let b = wide32(s[at + 4]);
     // The fifth byte has the top four of 32 bits, and none follows it.
     if 15 < b {
         return Err(Refusal::VarintTooLarge);
     }
-    ended(acc, w, b, at + i + 1)
+    ended(acc, w, b, at + 5)
 }
 
 // Reads the varint at `at`. Most are one byte: these take two tests.

@@ -83,7 +83,8 @@ pub returns-then-b-gt15 : goal.returns-then-b-gt15
 returns-then-b-gt15 c =
     let l = c.loop-i in
     let b = c.wide32-b-2 in
-    varint_at-no _ _ _ (reading_fifth l.invariant.0 (omega arith) (omega arith) b.ensures.0 (omega arith))
+    let four : l.i ≡ 4 = omega arith in
+    varint_at-no _ _ _ (reading_fifth (rw four at l.invariant.0) (omega arith) (omega arith) b.ensures.0 (omega arith))
 
 pub ended-requires-2 : goal.ended-requires-2
 ended-requires-2 c =
@@ -95,4 +96,5 @@ pub returns : goal.returns
 returns c =
     let l = c.loop-i in
     let b = c.wide32-b-2 in
-    rw c.ended-2.ensures (ends l.invariant.0 _ _ l.invariant.1 (omega arith) b.ensures.0 (inr (omega arith, omega arith)) (omega arith))
+    let four : l.i ≡ 4 = omega arith in
+    rw c.ended-2.ensures (ends (rw four at l.invariant.0) _ _ (omega arith) (omega arith) b.ensures.0 (inr (omega arith, omega arith)) (omega arith))

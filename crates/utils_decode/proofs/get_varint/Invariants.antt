@@ -6,6 +6,3 @@ use Rattle.utils_decode.proofs.get_varint.Given as goal
 
 abbrev pub invariant-loop-i : goal.invariant-loop-i
 invariant-loop-i l = Reading l.s l.at l.acc l.w l.i × (1 ≤ l.i)
-
-abbrev pub decreases-loop-i : goal.decreases-loop-i
-decreases-loop-i l = 4 - l.i
