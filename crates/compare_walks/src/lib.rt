@@ -102,9 +102,8 @@ fn by_value(block: &[u8], start: Place, limit: u64) -> Result<Walked, Refusal>
         key: [0; basics::MAX_KEY],
     };
     let mut key = [0; basics::MAX_KEY];
-    let mut rows = 0;
     let mut sum = 0;
-    while rows < limit {
+    for rows in 0..limit {
         let next = c.next(block, &mut key);
         let Some(found) = next.answer? else {
             return Ok(Walked {
@@ -114,12 +113,11 @@ fn by_value(block: &[u8], start: Place, limit: u64) -> Result<Walked, Refusal>
             });
         };
         sum = with_row(sum, found.row, &key);
-        rows += 1;
         c = next.iterator;
     }
     Ok(Walked {
         over: false,
-        rows,
+        rows: limit,
         sum,
     })
 }

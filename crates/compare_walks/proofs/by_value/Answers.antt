@@ -1,10 +1,12 @@
-use Rattle.std.proofs.Common.{◌≡◌, length, sym, ap, ◌∙◌, arith, length-take-le, rules}
+use Rattle.std.proofs.Common.{◌≡◌, ℕ, false, length, sym, ap, ◌∙◌, arith, length-take-le, rules}
 use Rattle.std.specs.Prelude.{Ok}
+use Rattle.layout.specs.Res.{ok}
 use Rattle.layout.specs.Limits.{max_key}
 use Rattle.basics.specs.Answers.{yes, handed-on}
 use Rattle.row_decode_v2.specs.Says.{row_from}
 use Rattle.block_iterator_v2.specs.Says.{view_of, says_next}
 use Rattle.compare_walks.specs.Says.{walk_from}
+use Rattle.compare_walks.specs.Walk.{walk_is}
 use Rattle.compare_walks.proofs.Steps.{Finds, finds, ends, refuses}
 use Rattle.compare_walks.proofs.Laws.{walking_start, walking_whole, walking_done, walking_refused, walking_more}
 use Rattle.compare_walks.proofs.by_value.Goals.{After-next-next, In-Some}
@@ -48,4 +50,6 @@ returns-in_err-found c =
     (walking_refused _ _ _ _ _ c.loop-rows.invariant.0 c.loop-rows-test.true (refuses _ _ _ c.loop-rows.invariant.1 (yes says_next c.next-next.ensures.answer c.in_err-found.was)))
 
 pub returns : goal.returns
-returns c = walking_whole _ _ _ _ _ c.loop-rows.invariant.0 c.loop-rows-test.false
+returns c =
+    let all : c.args.limit ≡ c.loop-rows.rows = omega (arith, c.loop-rows.auto.rows-end, c.loop-rows-test.false) in
+    ap (λ (n : ℕ). ok (walk_is false n c.loop-rows.sum)) all ∙ walking_whole _ _ _ _ _ c.loop-rows.invariant.0 c.loop-rows-test.false
