@@ -9,20 +9,13 @@ ghost use Rattle.buf.specs.Promise.{ReadsWord, ReadsSigned, ReadsEight, ReadsNar
 
 use basics::{Read, Refusal};
 
-// A byte as a wider number, with its bound said once for all sums of bytes.
-fn wide64(x: u8) -> u64
-    ensures { (result ≡ x) × (result < 256) }
-{
-    x as u64
-}
-
 // Two bytes, high byte first.
 fn two_at(s: &[u8], at: usize) -> u64
     requires { at + 2 ≤ length s.now }
     ensures { (result ≡ pair_at s.now at) × (result < 65536) }
 {
-    let a = wide64(s[at]);
-    let b = wide64(s[at + 1]);
+    let a = u64::from(s[at]);
+    let b = u64::from(s[at + 1]);
     a * 256 + b
 }
 
@@ -31,11 +24,11 @@ fn four_at(s: &[u8], at: usize) -> u64
     requires { at + 4 ≤ length s.now }
     ensures { (result ≡ four_at s.now at) × (result < 4294967296) }
 {
-    let a = wide64(s[at]);
-    let b = wide64(s[at + 1]);
+    let a = u64::from(s[at]);
+    let b = u64::from(s[at + 1]);
     let half = at + 2;
-    let c = wide64(s[half]);
-    let d = wide64(s[half + 1]);
+    let c = u64::from(s[half]);
+    let d = u64::from(s[half + 1]);
     ((a * 256 + b) * 256 + c) * 256 + d
 }
 

@@ -9,12 +9,6 @@ ghost use Rattle.utils_decode.specs.Promise.{ReadsVarint};
 
 use basics::{Read, Refusal};
 
-fn wide32(x: u8) -> u32
-    ensures { (result ≡ x) × (result < 256) }
-{
-    x as u32
-}
-
 // A number with its last byte, which follows others: one of 0 adds nothing, so the number needs fewer bytes.
 fn ended(acc: u32, w: u32, b: u32, next: usize) -> Result<Read<u32>, Refusal>
     requires { acc + w * b < 2 ^ 32 }
@@ -40,7 +34,7 @@ fn get_varint(s: &[u8], at: usize, first: u32) -> Result<Read<u32>, Refusal>
         if s.len() <= at + i {
             return Err(Refusal::InputEnds);
         }
-        let b = wide32(s[at + i]);
+        let b = u32::from(s[at + i]);
         if b < 128 {
             return ended(acc, w, b, at + i + 1);
         }
@@ -50,7 +44,7 @@ fn get_varint(s: &[u8], at: usize, first: u32) -> Result<Read<u32>, Refusal>
     if s.len() <= at + 4 {
         return Err(Refusal::InputEnds);
     }
-    let b = wide32(s[at + 4]);
+    let b = u32::from(s[at + 4]);
     // The fifth byte has the top four of 32 bits, and none follows it.
     if 15 < b {
         return Err(Refusal::VarintTooLarge);
@@ -65,7 +59,7 @@ pub fn decode_varint(s: &[u8], at: usize) -> Result<Read<u32>, Refusal>
     if s.len() <= at {
         return Err(Refusal::InputEnds);
     }
-    let first = wide32(s[at]);
+    let first = u32::from(s[at]);
     if first < 128 {
         return Ok(Read {
             value: first,

@@ -23,4 +23,4 @@ pub returns-then-s-at : goal.returns-then-s-at
 returns-then-s-at c = varint_at-none _ _ c.if-s-at.true
 
 pub returns-then-first-lt128 : goal.returns-then-first-lt128
-returns-then-first-lt128 c = one_byte _ _ _ c.if-s-at.false c.wide32-first.ensures.0 c.if-first-lt128.true
+returns-then-first-lt128 c = one_byte _ _ _ c.if-s-at.false c.from-first.ensures c.if-first-lt128.true

@@ -4,6 +4,7 @@ use mathlib.Core.List.{List}
 use mathlib.Core.Logic.{⊎_elim, inl, inr}
 use native.Mathlib.Omega.{arith}
 use lib.ListN.{length, get_or}
+use borrow.Author.Rules.{rules}
 use Rattle.layout.specs.Place.{varint_at}
 use Rattle.layout.proofs.Laws.Place.{varint_at-is, varint_at-no}
 use Rattle.layout.proofs.Laws.Res.{eqb-cases}
@@ -41,26 +42,30 @@ returns-then-s-at c = varint_at-no _ _ _ (reading_end c.loop-i.invariant.0 (omeg
 pub ended-requires : goal.ended-requires
 ended-requires c =
     let l = c.loop-i in
-    let b = c.wide32-b in
-    omega (arith, reading_fits32 l.invariant.0 b.result (omega arith) b.ensures.1)
+    let b = c.from-b in
+    let small : b.result < 256 = search rules in
+    omega (arith, reading_fits32 l.invariant.0 b.result (omega arith) small)
 
 pub returns-then-b-lt128 : goal.returns-then-b-lt128
 returns-then-b-lt128 c =
     let l = c.loop-i in
-    let b = c.wide32-b in
-    rw c.ended.ensures (ends l.invariant.0 _ _ l.invariant.1 (omega arith) b.ensures.0 (inl (omega arith, omega arith)) (omega arith))
+    let b = c.from-b in
+    let small : b.result < 256 = search rules in
+    rw c.ended.ensures (ends l.invariant.0 _ _ l.invariant.1 (omega arith) b.ensures (inl (omega arith, omega arith)) (omega arith))
 
 pub overflow_mul-acc : goal.overflow_mul-acc
 overflow_mul-acc c =
     let l = c.loop-i in
-    let b = c.wide32-b in
-    omega (arith, reading_fits32 l.invariant.0 (b.result - 128) (omega arith) (omega (arith, b.ensures.1)))
+    let b = c.from-b in
+    let small : b.result < 256 = search rules in
+    omega (arith, reading_fits32 l.invariant.0 (b.result - 128) (omega arith) (omega arith))
 
 pub overflow_add-acc : goal.overflow_add-acc
 overflow_add-acc c =
     let l = c.loop-i in
-    let b = c.wide32-b in
-    omega (arith, reading_fits32 l.invariant.0 (b.result - 128) (omega arith) (omega (arith, b.ensures.1)))
+    let b = c.from-b in
+    let small : b.result < 256 = search rules in
+    omega (arith, reading_fits32 l.invariant.0 (b.result - 128) (omega arith) (omega arith))
 
 pub overflow_mul-w : goal.overflow_mul-w
 overflow_mul-w c =
@@ -70,8 +75,9 @@ overflow_mul-w c =
 pub loop-i-preserved : goal.loop-i-preserved
 loop-i-preserved c =
     let l = c.loop-i in
-    let b = c.wide32-b in
-    (reading_more l.invariant.0 (omega arith) (omega arith) b.ensures.0 (omega arith) b.ensures.1, omega arith)
+    let b = c.from-b in
+    let small : b.result < 256 = search rules in
+    (reading_more l.invariant.0 (omega arith) (omega arith) b.ensures (omega arith) small, omega arith)
 
 pub overflow_add-at-2 : goal.overflow_add-at-2
 overflow_add-at-2 c = omega (arith, c.loop-i.invariant.0.few)
@@ -82,19 +88,22 @@ returns-then-s-at-2 c = varint_at-no _ _ _ (reading_end c.loop-i.invariant.0 (om
 pub returns-then-b-gt15 : goal.returns-then-b-gt15
 returns-then-b-gt15 c =
     let l = c.loop-i in
-    let b = c.wide32-b-2 in
+    let b = c.from-b-2 in
+    let small : b.result < 256 = search rules in
     let four : l.i ≡ 4 = omega arith in
-    varint_at-no _ _ _ (reading_fifth (rw four at l.invariant.0) (omega arith) (omega arith) b.ensures.0 (omega arith))
+    varint_at-no _ _ _ (reading_fifth (rw four at l.invariant.0) (omega arith) (omega arith) b.ensures (omega arith))
 
 pub ended-requires-2 : goal.ended-requires-2
 ended-requires-2 c =
     let l = c.loop-i in
-    let b = c.wide32-b-2 in
+    let b = c.from-b-2 in
+    let small : b.result < 256 = search rules in
     omega (arith, reading_fits-last l.invariant.0 b.result (omega arith))
 
 pub returns : goal.returns
 returns c =
     let l = c.loop-i in
-    let b = c.wide32-b-2 in
+    let b = c.from-b-2 in
+    let small : b.result < 256 = search rules in
     let four : l.i ≡ 4 = omega arith in
-    rw c.ended-2.ensures (ends (rw four at l.invariant.0) _ _ (omega arith) (omega arith) b.ensures.0 (inr (omega arith, omega arith)) (omega arith))
+    rw c.ended-2.ensures (ends (rw four at l.invariant.0) _ _ (omega arith) (omega arith) b.ensures (inr (omega arith, omega arith)) (omega arith))

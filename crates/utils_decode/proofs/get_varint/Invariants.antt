@@ -1,6 +1,6 @@
 -- `get_varint` keeps its promise. The loop's invariant is the definitions' `Reading`: i bytes are read, one at least, their number is acc, and the next byte
 -- weighs w. Each thing that the loop does is one of its laws.
-use Prim.Native.Nat.{◌-◌, ◌≤◌}
+use Prim.Native.Nat.{◌≤◌}
 use Rattle.layout.proofs.Laws.Varint.{Reading}
 use Rattle.utils_decode.proofs.get_varint.Given as goal
 
