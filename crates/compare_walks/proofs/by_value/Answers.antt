@@ -1,4 +1,4 @@
-use Rattle.std.proofs.Common.{◌≡◌, ℕ, false, length, sym, ap, ◌∙◌, arith, length-take-le, rules}
+use Rattle.std.proofs.Common.{◌≡◌, ℕ, false, length, ap, ◌∙◌, arith, length-take-le, rules}
 use Rattle.std.specs.Prelude.{Ok}
 use Rattle.layout.specs.Res.{ok}
 use Rattle.layout.specs.Limits.{max_key}
@@ -26,9 +26,6 @@ row-found k =
 
 pub loop-rows-init : goal.loop-rows-init
 loop-rows-init c = (walking_start _ _ _, search rules, search rules)
-
-pub slice_bounds-next-end : goal.slice_bounds-next-end
-slice_bounds-next-end c = sym c.loop-rows.invariant.1
 
 pub with_row-sum-requires : goal.with_row-sum-requires
 with_row-sum-requires c =

@@ -3,11 +3,8 @@ use Rattle.std.proofs.Common.{ap}
 use Rattle.std.specs.Prelude.{Ok}
 use Rattle.basics.specs.Answers.{handed-on}
 use Rattle.compare_walks.specs.Says.{walk_from}
-use Rattle.compare_walks.proofs.Laws.{walking_start, goes_as, stops-on}
+use Rattle.compare_walks.proofs.Laws.{walking_start, goes_as}
 use Rattle.compare_walks.proofs.in_place.Goals as goal
-
-pub walk_rest-requires : goal.walk_rest-requires
-walk_rest-requires c = (c.walk_rows.auto.carried, (stops-on _ _ c.in_ok-here.ensures.1 (ap Ok c.in-On.is)).0)
 
 pub returns-in-On : goal.returns-in-On
 returns-in-On c = c.walk_rest.ensures _ ((goes_as _ _ _ _ _ c.in_ok-here.ensures.0 (ap Ok c.in-On.is)).on _ (walking_start _ _ _))

@@ -1,13 +1,8 @@
 -- `is_over` keeps its promise: a cursor that goes on in a region, and stands at the end that it may reach there, has no row left.
-use Rattle.layout.proofs.Laws.Res.{clash}
 use Rattle.layout.specs.Limits.{max_key}
 use Rattle.trailer.specs.Says.{region_from}
 use Rattle.region_rows_v2.specs.Region.{bounds-inside, ends-here}
-use Rattle.std.proofs.Common.{refl}
 use Rattle.compare_walks.proofs.is_over.Goals as goal
-
-pub returns-in_default : goal.returns-in_default
-returns-in_default c = λ e. absurd (clash e refl)
 
 pub returns : goal.returns
 returns c =

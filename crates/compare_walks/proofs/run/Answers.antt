@@ -20,19 +20,10 @@ fits k share =
     let l = k.loop-rows in
     plain_fits k.args.block.now k.args.b.size (region_from k.args.b.region) l.p l.key l.invariant.1 l.invariant.2 k.in-Some.row share k.in-Some.ensures
 
-pub loop-rows-init : goal.loop-rows-init
-loop-rows-init c =
-    ((λ want w. w), c.requires.inside, c.requires.key_len, omega arith)
-
 pub slice_bounds-plain_at-end : goal.slice_bounds-plain_at-end
 slice_bounds-plain_at-end c =
     let l = c.loop-rows in
     sym (inside-long c.args.block.now c.args.b.size (region_from c.args.b.region) (view_in l.p l.key) l.invariant.1)
-
-pub returns-in_default : goal.returns-in_default
-returns-in_default c =
-    let l = c.loop-rows in
-    record { most = l.invariant.3; on = l.invariant.0 }
 
 pub slice_bounds-pass_plain-end : goal.slice_bounds-pass_plain-end
 slice_bounds-pass_plain-end c =
@@ -80,6 +71,3 @@ loop-rows-preserved c =
       search rules,
       omega (arith, l.invariant.3),
     )
-
-pub returns : goal.returns
-returns c = record { most = c.loop-rows.invariant.3; on = c.loop-rows.invariant.0 }

@@ -1,4 +1,4 @@
-use Rattle.std.proofs.Common.{◌≡◌, ◌<◌, length, refl, ap, ◌∙◌, arith}
+use Rattle.std.proofs.Common.{◌≡◌, ◌<◌, length, ap, ◌∙◌, arith}
 use Rattle.std.specs.Prelude.{Ok, Err}
 use Rattle.std.proofs.lemmas.Result.{err_from_is_err_and}
 use Rattle.compare_walks.specs.Loop.{RunsOn, Goes}
@@ -27,36 +27,12 @@ carried-kept t = t.step_row.auto.carried ∙ (t.run_here-here.auto.key ∙ t.loo
 out-kept : (t : After-step_row) → length t.step_row.new.out ≡ length t.args.out.now
 out-kept t = t.step_row.auto.out ∙ t.loop-here.invariant.2
 
-pub loop-here-init : goal.loop-here-init
-loop-here-init c = (record { most = omega arith; on = λ want w. w }, refl, refl)
-
-pub run_here-here-requires : goal.run_here-here-requires
-run_here-here-requires c = c.loop-here.invariant.1 ∙ c.requires
-
-pub shape_of-carried-then-out-ne-MAX_KEY : goal.shape_of-carried-then-out-ne-MAX_KEY
-shape_of-carried-then-out-ne-MAX_KEY c = whole (goal.at.shape_of-carried-then-out-ne-MAX_KEY c).After-run_here-here
-
-pub shape_of-out-then-out-ne-MAX_KEY : goal.shape_of-out-then-out-ne-MAX_KEY
-shape_of-out-then-out-ne-MAX_KEY c = c.loop-here.invariant.2
-
 pub returns-then-out-ne-MAX_KEY : goal.returns-then-out-ne-MAX_KEY
 returns-then-out-ne-MAX_KEY c = (so_far (goal.at.returns-then-out-ne-MAX_KEY c).After-run_here-here, (few (goal.at.returns-then-out-ne-MAX_KEY c).Then-here-before, λ e. c.if-out-ne-MAX_KEY.true (c.loop-here.invariant.2 ∙ e)))
 
 pub step_row-requires : goal.step_row-requires
 step_row-requires c =
     (whole (goal.at.step_row-requires c).After-run_here-here ∙ c.requires, c.if-out-ne-MAX_KEY.false, omega (arith, few (goal.at.step_row-requires c).Then-here-before))
-
-pub shape_of-carried-in_default : goal.shape_of-carried-in_default
-shape_of-carried-in_default c = carried-kept (goal.at.shape_of-carried-in_default c).After-step_row
-
-pub shape_of-out-in_default : goal.shape_of-out-in_default
-shape_of-out-in_default c = out-kept (goal.at.shape_of-out-in_default c).After-step_row
-
-pub shape_of-carried-in_err-went : goal.shape_of-carried-in_err-went
-shape_of-carried-in_err-went c = carried-kept (goal.at.shape_of-carried-in_err-went c).After-step_row
-
-pub shape_of-out-in_err-went : goal.shape_of-out-in_err-went
-shape_of-out-in_err-went c = out-kept (goal.at.shape_of-out-in_err-went c).After-step_row
 
 pub returns-in_err-went : goal.returns-in_err-went
 returns-in_err-went c =
@@ -75,20 +51,6 @@ loop-here-smaller-then-here-before c =
 pub loop-here-preserved-then-here-before : goal.loop-here-preserved-then-here-before
 loop-here-preserved-then-here-before c =
     (went_on (so_far (goal.at.loop-here-preserved-then-here-before c).After-run_here-here) _ _ (made (goal.at.loop-here-preserved-then-here-before c).In_ok-went) (ap Ok c.in-On.is), carried-kept (goal.at.loop-here-preserved-then-here-before c).After-step_row, out-kept (goal.at.loop-here-preserved-then-here-before c).After-step_row)
-
-pub loop-here-smaller : goal.loop-here-smaller
-loop-here-smaller c =
-    omega (arith, c.run_here-here.ensures.most, c.if-here-before.false, c.loop-here-test.true)
-
-pub loop-here-preserved : goal.loop-here-preserved
-loop-here-preserved c =
-    (so_far (goal.at.loop-here-preserved c).After-run_here-here, whole (goal.at.loop-here-preserved c).After-run_here-here, c.loop-here.invariant.2)
-
-pub shape_of-carried : goal.shape_of-carried
-shape_of-carried c = c.loop-here.invariant.1
-
-pub shape_of-out : goal.shape_of-out
-shape_of-out c = c.loop-here.invariant.2
 
 pub returns : goal.returns
 returns c = ((λ want w. walking_whole _ _ _ _ _ (c.loop-here.invariant.0.on want w) c.loop-here-test.false), tt)
