@@ -61,9 +61,9 @@ fn value_len(held: ValueDeletable) -> u64
     ensures { result ≡ held_length (says_held held) }
 {
     match held {
-        ValueDeletable::Value { start: _, len } => len as u64,
+        ValueDeletable::Value { start: _, len } | ValueDeletable::Merge { start: _, len } =>
+            len as u64,
         ValueDeletable::Tombstone => 0,
-        ValueDeletable::Merge { start: _, len } => len as u64,
     }
 }
 
