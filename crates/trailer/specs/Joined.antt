@@ -1,13 +1,14 @@
 -- The joined tests of a trailer and of a region, which the code makes at once: true where the definition refuses, and else its numbers are
 -- the definition's. One law for each exit of the code.
 use Rattle.std.specs.Prelude.{ℕ, ◌+◌, ◌-◌, ◌*◌, ◌≤◌, ◌<◌, ◌≡◌, Bool, true, false, cond, ◌||◌, List, ltb, leb, eqb, length}
-use Rattle.std.proofs.Common.{sym, ⊎_elim, arith, le-leb, leb-false, ltb-false}
+use Rattle.std.proofs.Common.{sym, ◌∙◌, ⊎_elim, arith, le-leb, leb-false, ltb-false}
 use Rattle.std.proofs.lemmas.Bool.{lt-leb, eqb-false}
 use Rattle.layout.specs.Res.{ok, refuse}
 use Rattle.layout.specs.Trailer.{count_of, Trailer, trailer_is, trailer_of, offset_at, Region, region_is, first_of, region_of}
 use Rattle.layout.proofs.Laws.Res.{ltb-cases, eqb-cases, clash, bind-then}
 use Rattle.layout.proofs.Laws.Plain.{or-false}
-use Rattle.layout.proofs.Laws.Trailer.{trailer-none, trailer-long, trailer-good, region-first, region-far, region-falls, region-next-far, region-inner, region-last}
+use Rattle.layout.proofs.Laws.Trailer.{trailer-short, trailer-none, trailer-long, trailer-good, region-first, region-far, region-falls, region-next-far, region-inner, region-last}
+use Rattle.basics.specs.Answers.{apart}
 use Rattle.trailer.specs.Handed.{region_by}
 use Rattle.trailer.specs.Laws.{handed-past, handed-tells, region-used}
 
@@ -112,10 +113,41 @@ region_by-tells b r g e f =
     let k = handed-tells b t r (region_of b t r) g e₁ in
     f t q k.1 k.2
 
-module _ (b : List ℕ) (t : Trailer) (r : ℕ) (read : trailer_of b ≡ ok t) where
-  -- there is no such region
-  pub by-past : t.count ≤ r → refuse 18 ≡ region_by b r
-  by-past h = rw read (handed-past b t r (region_of b t r) h)
+-- what a count that passed leaves
+pub by-inside : (n r len : ℕ) → (leb n r || ltb len (2 + 2 * n)) ≡ false → (r < n) × (2 + 2 * n ≤ len)
+by-inside n r len e =
+    let w = or-false {a = leb n r} {b = ltb len (2 + 2 * n)} e in
+    (leb-false n r w.0, ltb-false len (2 + 2 * n) w.1)
 
-  pub by-read : r < t.count → region_of b t r ≡ region_by b r
-  by-read h = rw read (sym (region-used b t read r h))
+module _ (b : List ℕ) (r : ℕ) where
+  pub by-short : length b < 2 → refuse 14 ≡ region_by b r
+  by-short h = rw (← trailer-short b h)
+
+  -- no such region, which it is where there is none; or a trailer longer than the block
+  abbrev pub bad_by : Bool
+  bad_by = leb (count_of b) r || ltb (length b) (2 + 2 * count_of b)
+
+  abbrev pub trailer_by : Trailer
+  trailer_by = trailer_is (count_of b) (length b - (2 + 2 * count_of b))
+
+  -- a trailer that is read is no longer than the block, so it is the number that did not pass
+  pub by-past : 2 ≤ length b → (t : Trailer) → trailer_of b ≡ ok t → bad_by ≡ true → refuse 18 ≡ region_by b r
+  by-past h t read e =
+      ⊎_elim (λ x. never (trailer-none b h x.1))
+      (λ x.
+      ⊎_elim (λ y. never (trailer-long b h x.1 y.1))
+      (λ y.
+      ⊎_elim (λ z. absurd (clash e (rw (lt-leb (count_of b) r z.1, y.0))))
+      (λ z. rw (← trailer-good b h x.1 y.1) (handed-past b trailer_by r (region_of b trailer_by r) z.1))
+      (ltb-cases r (count_of b)))
+      (ltb-cases (length b) (2 + 2 * count_of b)))
+      (eqb-cases (count_of b) 0)
+    where
+      never : {A : Type 0} {n : ℕ} → refuse n ≡ trailer_of b → A
+      never q = absurd (apart (sym (q ∙ read)))
+
+  pub by-fine : 2 ≤ length b → bad_by ≡ false → region_of b trailer_by r ≡ region_by b r
+  by-fine h e =
+      let w = by-inside (count_of b) r (length b) e in
+      let read : ok trailer_by ≡ trailer_of b = trailer-good b h (λ z. absurd (omega (arith, w.0))) w.1 in
+      rw (← read) (sym (region-used b trailer_by (sym read) r w.0))

@@ -118,14 +118,25 @@ pub fn region_of(block: &[u8], t: Trailer, r: usize) -> Result<Region, Refusal>
     region_in(block, t, r)
 }
 
-// The trailer read, and region `r` of it: 14, 18, 15.
+// The trailer read, and region `r` of it: 14, 18, 15. One test serves the trailer and the number; which of them is refused is
+// asked only where it is not passed.
 pub fn region_by(block: &[u8], r: usize) -> Result<Region, Refusal>
     ensures { ReadsRegionBy block.now r result }
 {
-    let t = trailer_of(block)?;
-    if t.count <= r {
+    let len = block.len();
+    if len < 2 {
+        return Err(Refusal::BadTrailer);
+    }
+    let count = short_at(block, len - 2);
+    let taken = 2 + 2 * count;
+    if (count <= r) | (len < taken) {
+        trailer_of(block)?;
         return Err(Refusal::BadState);
     }
+    let t = Trailer {
+        count,
+        size: len - taken,
+    };
     region_in(block, t, r)
 }
 

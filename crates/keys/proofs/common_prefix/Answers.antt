@@ -1,5 +1,5 @@
 use native.Mathlib.Omega.{arith}
-use Rattle.layout.proofs.Laws.Key.{common-ended, common-left, common-over, common_differs, common-more}
+use Rattle.layout.proofs.Laws.Key.{common-ended, common-over, common_differs, common-more}
 use Rattle.keys.proofs.common_prefix.Goals as goal
 
 pub loop-n-init : goal.loop-n-init
@@ -27,4 +27,4 @@ pub returns : goal.returns
 returns c =
     let l = c.loop-n in
     let x = c.args in
-    omega (arith, common-ended x.a.now x.b.now l.n c.loop-n-test.false, common-left x.a.now x.b.now, c.common_groups-n.ensures, l.invariant)
+    omega (arith, common-ended x.a.now x.b.now l.n c.loop-n-test.false, l.invariant)
