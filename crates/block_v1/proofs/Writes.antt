@@ -1,29 +1,26 @@
 -- The promises of the builder's methods, from what `build_in_place_v1` did with its numbers and the bytes of its first key: these are always as many as the longest
 -- key has, so nothing is refused for them. The first row's key stands at their start after it; later rows leave it there.
 use Prim.Native.Nat.{ℕ, ◌≤◌}
-use mathlib.Core.Path.{◌≡◌, refl, ap, ap₂, sym, ◌∙◌}
+use mathlib.Core.Path.{◌≡◌, refl, ap₂, ◌∙◌}
 use mathlib.Core.Bool.{Bool, true, false, cond}
 use mathlib.Core.List.{List}
 use native.Mathlib.Omega.{arith}
 use lib.Dec.{eqb}
 use lib.ListN.{length, take}
-use Rattle.std.specs.Prelude.{Result, Ok, Err}
+use Rattle.std.specs.Prelude.{Result}
 use Rattle.layout.specs.Key.{Key}
 use Rattle.layout.specs.Limits.{max_key}
 use Rattle.layout.specs.Place.{splice}
 use Rattle.layout.specs.Res.{Res, ok, refuse, bind}
 use Rattle.layout.specs.Row.{Fields}
-use Rattle.layout.proofs.Laws.Res.{ok-inj}
 use Rattle.layout.proofs.Laws.Splice.{key-over}
 use Rattle.layout_v1.specs.Builder.{Builder, would_fit, grown, add}
 use Rattle.layout_v1.proofs.Laws.Builder.{add-tells}
-use Rattle.basics.specs.Answers.{apart}
-use Rattle.basics.specs.Number.{number}
 use Rattle.basics.specs.declared.Refusal.{Refusal}
 use Rattle.build_in_place_v1.specs.Promise.{entered, kept_after, AddsInPlaceAs}
+use Rattle.build_in_place_v1.specs.declared.Grown.{Grown}
 use Rattle.build_in_place_v1.proofs.Writes.{entered-is}
 use Rattle.finish_in_place_v1.specs.Promise.{Finishes}
-use Rattle.state_v1.specs.declared.State.{State}
 use Rattle.state_v1.specs.Says.{view_from, state_from}
 use Rattle.block_v1.specs.declared.BlockBuilderV1.{BlockBuilderV1}
 use Rattle.block_v1.specs.Says.{view_of, builder_from}
@@ -49,44 +46,31 @@ module _ (self : BlockBuilderV1) where
         → view_from (state_from (grown (view_of self) key f)) (kept_after (ok (grown (view_of self) key f)) self.state.rows key self.first_key) ≡ grown (view_of self) key f
     viewed h = rw (kept (eqb self.state.rows 0) h)
 
-    module _ {r : Result State Refusal} {first' bytes' places' : List ℕ}
-        (g : AddsInPlaceAs (bind (entered self.state self.first_key) λ v. add v (length bytes) (length places) key f) self.state self.first_key bytes places key f r
-        first' bytes' places') where
-      added : AddsInPlaceAs wanted self.state self.first_key bytes places key f r first' bytes' places'
-      added = rw (entered-is self.state self.first_key long) at g
-
-      pub adds-not : {x : Refusal} → r ≡ Err x → AddsAs wanted self bytes places key f (record { builder = builder_from self.state first'; answer = Err x }) bytes' places'
-      adds-not {x} q = go wanted (rw q at added)
-        where
-          go : (want : Res Builder) → AddsInPlaceAs want self.state self.first_key bytes places key f (Err x) first' bytes' places'
-              → AddsAs want self bytes places key f (record { builder = builder_from self.state first'; answer = Err x }) bytes' places'
-          go (ok b') h = absurd (apart (sym h.answer))
-          go (refuse n) h =
-              let p : ◌≡◌ {A = Res State} (refuse (number x)) (refuse n) = h.answer in
-              record {
-                answer = cc;
-                view = ap (λ (l : List ℕ). view_from self.state l) h.first-after;
-                whole = ap (λ (l : List ℕ). builder_from self.state l) h.first-after;
-                bytes_after = h.bytes_after;
-                places-after = h.places-after;
-              }
-
-      pub adds-good : {t : State} → r ≡ Ok t → AddsAs wanted self bytes places key f (record { builder = builder_from t first'; answer = Ok tt }) bytes' places'
-      adds-good {t} q = go wanted refl (rw q at added)
-        where
-          go : (want : Res Builder) → wanted ≡ want → AddsInPlaceAs want self.state self.first_key bytes places key f (Ok t) first' bytes' places'
-              → AddsAs want self bytes places key f (record { builder = builder_from t first'; answer = Ok tt }) bytes' places'
-          go (ok b') e h =
-              let a = add-tells (view_of self) (length bytes) (length places) key f b' e in
-              let n : t ≡ state_from b' = ok-inj h.answer in
-              record {
-                answer = refl;
-                view = ap₂ view_from n h.first-after ∙ rw (← a.is) (viewed a.key_fits);
-                whole = ap₂ builder_from n h.first-after;
-                bytes_after = h.bytes_after;
-                places-after = h.places-after;
-              }
-          go (refuse n) e h = absurd (apart h.answer)
+    pub adds : {r : Grown} {first' bytes' places' : List ℕ}
+        → AddsInPlaceAs (bind (entered self.state self.first_key) λ v. add v (length bytes) (length places) key f) self.state self.first_key bytes places key f r
+        first' bytes' places'
+        → AddsAs wanted self bytes places key f (record { builder = builder_from r.state first'; answer = r.answer }) bytes' places'
+    adds {r} {first'} {bytes'} {places'} g = go wanted refl (rw (entered-is self.state self.first_key long) at g)
+      where
+        go : (want : Res Builder) → wanted ≡ want → AddsInPlaceAs want self.state self.first_key bytes places key f r first' bytes' places'
+            → AddsAs want self bytes places key f (record { builder = builder_from r.state first'; answer = r.answer }) bytes' places'
+        go (ok b') e h =
+            let a = add-tells (view_of self) (length bytes) (length places) key f b' e in
+            record {
+              answer = h.answer;
+              view = ap₂ view_from h.state h.first-after ∙ rw (← a.is) (viewed a.key_fits);
+              whole = ap₂ builder_from h.state h.first-after;
+              bytes_after = h.bytes_after;
+              places-after = h.places-after;
+            }
+        go (refuse n) e h =
+            record {
+              answer = h.answer;
+              view = ap₂ view_from h.state h.first-after;
+              whole = ap₂ builder_from h.state h.first-after;
+              bytes_after = h.bytes_after;
+              places-after = h.places-after;
+            }
 
   pub builds : (bytes places : List ℕ) {r : Result ℕ Refusal} {bytes' : List ℕ} → Finishes self.state bytes places r bytes'
       → Builds self bytes places (record { builder = self; answer = r }) bytes'

@@ -8,6 +8,7 @@ ghost use Rattle.build_in_place_v1.specs.Promise.{AddsInPlace};
 ghost use Rattle.block_v1.specs.Promise.{Makes, Fits, Adds, Empties, Builds};
 
 use basics::Refusal;
+use build_in_place_v1::Grown;
 use row_flags::RowFields;
 use state_v1::State;
 
@@ -46,7 +47,7 @@ fn add_in_array(
     key: &[u8],
     value: &[u8],
     row: RowFields,
-) -> Result<State, Refusal>
+) -> Grown
     ensures { AddsInPlace s first_key.old «data».old offsets.old key.now value.now row result first_key.new «data».new offsets.new }
 {
     build_in_place_v1::add_in_place(first_key, s, data, offsets, key, value, row)
@@ -103,19 +104,11 @@ impl BlockBuilderV1 {
     {
         let s = self.state;
         let grown = add_in_array(&mut self.first_key, s, data, offsets, key, value, row);
-        match grown {
-            Ok(state) => {
-                self.state = state;
-                Added {
-                    builder: self,
-                    answer: Ok(()),
-                }
-            }
-            // Nothing is written, and the first key is as it was.
-            Err(refusal) => Added {
-                builder: self,
-                answer: Err(refusal),
-            },
+        let state = grown.state;
+        self.state = state;
+        Added {
+            builder: self,
+            answer: grown.answer,
         }
     }
 

@@ -12,8 +12,7 @@ use lib.ListN.{length, take, drop, set, length-take, length-drop}
 use lib.Seq.{take_all}
 use borrow.Author.Tests.{eq-eqb, ne_eqb}
 use borrow.Rule.Slice.PartMut.{mid_of, put_mid, mid_len}
-use Rattle.std.specs.Prelude.{Result, Ok, Err, IsErrAnd}
-use Rattle.std.proofs.lemmas.Result.{err_from_is_err_and}
+use Rattle.std.specs.Prelude.{Result, Ok, Err}
 use Rattle.layout.specs.Res.{Res, ok, refuse, bind, whether}
 use Rattle.layout.specs.Key.{Key, common}
 use Rattle.layout.specs.Limits.{max_key}
@@ -36,6 +35,7 @@ use Rattle.row_flags.specs.Says.{fields_from}
 use Rattle.row_flags.specs.declared.RowFields.{RowFields}
 use Rattle.state_v1.specs.declared.State.{State}
 use Rattle.state_v1.specs.Says.{view_from}
+use Rattle.build_in_place_v1.specs.declared.Grown.{Grown}
 use Rattle.build_in_place_v1.specs.declared.Planned.{Planned}
 use Rattle.build_in_place_v1.specs.Plan.{Planning, Tested, Fitting, Grew}
 use Rattle.build_in_place_v1.specs.Promise.{entered, AddsInPlaceAs}
@@ -137,29 +137,26 @@ module _ (s : State) (first bytes places : List ℕ) (key : Key) (f : Fields) wh
   abbrev wanted : Res Builder
   wanted = bind (entered s first) λ v. add v (length bytes) (length places) key f
 
-  abbrev Grows : Result State Refusal → List ℕ → List ℕ → List ℕ → Type 0
+  abbrev Grows : Grown → List ℕ → List ℕ → List ℕ → Type 0
   Grows r first' bytes' places' = AddsInPlaceAs wanted s first bytes places key f r first' bytes' places'
 
-  grows-not : {x : Refusal} → wanted ≡ refuse (number x) → Grows (Err x) first bytes places
-  grows-not q = rw q (record { answer = refl; first-after = refl; bytes_after = refl; places-after = refl })
+  grows-not : {x : Refusal} → wanted ≡ refuse (number x) → Grows (record { state = s; answer = Err x }) first bytes places
+  grows-not q = rw q (record { answer = refl; state = refl; first-after = refl; bytes_after = refl; places-after = refl })
 
   -- bytes that are not as many as the longest key has
-  pub grows_strange : (length first ≡ max_key → ⊥) → Grows (Err BadState) first bytes places
+  pub grows_strange : (length first ≡ max_key → ⊥) → Grows (record { state = s; answer = Err BadState }) first bytes places
   grows_strange h = grows-not (rw (entered-not s first h))
 
   module _ (long : length first ≡ max_key) where
     taken : wanted ≡ add (view_from s first) (length bytes) (length places) key f
     taken = rw (entered-is s first long)
 
-    -- a refusal that is handed on
-    pub grows-refused : (r : Result State Refusal) (x : Refusal) → IsErrAnd r (λ q. q ≡ x)
-        → whether (add (view_from s first) (length bytes) (length places) key f) ≡ refuse (number x) → Grows r first bytes places
-    grows-refused r x e q =
-        let p = err_from_is_err_and r e in
-        rw (p.1, p.2) (grows-not (taken ∙ whether-refused (add (view_from s first) (length bytes) (length places) key f) (number x) q))
+    pub grows-refused : {x : Refusal} → whether (add (view_from s first) (length bytes) (length places) key f) ≡ refuse (number x)
+        → Grows (record { state = s; answer = Err x }) first bytes places
+    grows-refused {x} q = grows-not (taken ∙ whether-refused (add (view_from s first) (length bytes) (length places) key f) (number x) q)
 
     pub grows : {shared : ℕ} {r : State} {first' bytes' places' : List ℕ} → Tested (view_from s first) bytes places key f shared
-        → Grew s first bytes places key f r first' bytes' places' → Grows (Ok r) first' bytes' places'
+        → Grew s first bytes places key f r first' bytes' places' → Grows (record { state = r; answer = Ok tt }) first' bytes' places'
     grows t g =
         rw (taken ∙ t.passed)
-        (record { answer = ap ok g.state; first-after = g.first-after; bytes_after = g.bytes_after; places-after = g.places-after })
+        (record { answer = refl; state = g.state; first-after = g.first-after; bytes_after = g.bytes_after; places-after = g.places-after })

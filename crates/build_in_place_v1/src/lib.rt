@@ -24,6 +24,13 @@ use state_v1::State;
 
 const SIZEOF_U16: usize = 2;
 
+// A refused row gives the numbers as they came.
+#[derive(Clone, Copy)]
+pub struct Grown {
+    pub state: State,
+    pub answer: Result<(), Refusal>,
+}
+
 // What the tests of a row found: how much of the first key it shares, and how large the block is with it, its offset too.
 #[derive(Clone, Copy)]
 struct Planned {
@@ -228,14 +235,23 @@ pub fn add_in_place(
     key: &[u8],
     value: &[u8],
     row: RowFields,
-) -> Result<State, Refusal>
+) -> Grown
     ensures { AddsInPlace s first_key.old «data».old offsets.old key.now value.now row result first_key.new «data».new offsets.new }
 {
     let Ok(first) = <&[u8; basics::MAX_KEY]>::try_from(&first_key[..]) else {
-        return Err(Refusal::BadState);
+        let answer = Err(Refusal::BadState);
+        return Grown { state: s, answer };
     };
     let data_len = data.len();
     let places_len = offsets.len();
-    let planned = accept_row(s, first, data_len, places_len, key, value.len(), row)?;
-    Ok(grow(first_key, s, planned.shared, data, offsets, key, value, row))
+    match accept_row(s, first, data_len, places_len, key, value.len(), row) {
+        Ok(planned) => Grown {
+            state: grow(first_key, s, planned.shared, data, offsets, key, value, row),
+            answer: Ok(()),
+        },
+        Err(refusal) => Grown {
+            state: s,
+            answer: Err(refusal),
+        },
+    }
 }

@@ -7,7 +7,6 @@ use lib.ListN.{length}
 use borrow.Author.Tests.{eq-eqb}
 use Rattle.std.specs.Prelude.{Result, Option, Ok, Err, Some, None, ⊤}
 use Rattle.layout.specs.Res.{Res, ok, refuse, bind}
-use Rattle.layout.proofs.Laws.Res.{ok-inj}
 use Rattle.layout.specs.Limits.{max_key}
 use Rattle.layout.specs.Key.{Key}
 use Rattle.layout.specs.Row.{Fields}
@@ -24,6 +23,7 @@ use Rattle.row_decode_v0.specs.Promise.{Decodes}
 use Rattle.row_decode_v2.specs.Says.{row_from, says_row}
 use Rattle.row_decode_v2.specs.declared.Row.{Row}
 use Rattle.build_in_place_v1.specs.Promise.{FitsInPlace, AddsInPlace, AddsInPlaceAs}
+use Rattle.build_in_place_v1.specs.declared.Grown.{Grown}
 use Rattle.state_v1.specs.Says.{view_from}
 use Rattle.state_v1.specs.declared.State.{State}
 use Rattle.row_words.specs.Words.{bad_words, code_of, fields_in, single_words, single_count}
@@ -101,25 +101,25 @@ module _ (ws first : List ℕ) (data_len places_len : ℕ) (key value fs : List 
 abbrev gained : Fields → Builder → Res Gain
 gained f w = ok (gain_is w f)
 
-module _ (s : State) (ws first bytes places : List ℕ) (key : Key) (f : Fields) (r : Result State Refusal) (first' bytes' places' : List ℕ) where
-  grown-good : (want : Res Builder) → AddsInPlaceAs want s first bytes places key f r first' bytes' places' → {t : State} {ws' : List ℕ} → r ≡ Ok t
-      → ws' ≡ builder_words (view_from t []) → AddsAs (bind want (gained f)) (view_from s first) key ws first bytes places 0 ws' first' bytes' places'
+module _ (s : State) (ws first bytes places : List ℕ) (key : Key) (f : Fields) (r : Grown) (first' bytes' places' : List ℕ) where
+  grown-good : (want : Res Builder) → AddsInPlaceAs want s first bytes places key f r first' bytes' places' → {ws' : List ℕ} → r.answer ≡ Ok tt
+      → ws' ≡ builder_words (view_from r.state []) → AddsAs (bind want (gained f)) (view_from s first) key ws first bytes places 0 ws' first' bytes' places'
   grown-good (ok w) p e q =
       record {
         answer = refl;
-        state = q ∙ ap (λ (x : State). builder_words (view_from x [])) (sym (ok-inj (yes says_same p.answer e)));
+        state = q ∙ ap (λ (x : State). builder_words (view_from x [])) p.state;
         first-after = p.first-after;
         bytes_after = p.bytes_after;
         places-after = p.places-after;
       }
-  grown-good (refuse n) p e q = absurd (apart (sym (yes says_same p.answer e)))
+  grown-good (refuse n) p e q = absurd (apart (sym (yes says_verdict p.answer e)))
 
-  grown-refused : (want : Res Builder) → AddsInPlaceAs want s first bytes places key f r first' bytes' places' → {x : Refusal} {code : ℕ} → r ≡ Err x
+  grown-refused : (want : Res Builder) → AddsInPlaceAs want s first bytes places key f r first' bytes' places' → {x : Refusal} {code : ℕ} → r.answer ≡ Err x
       → code ≡ number x → AddsAs (bind want (gained f)) (view_from s first) key ws first bytes places code ws first' bytes' places'
-  grown-refused (ok w) p e q = absurd (apart (yes says_same p.answer e))
+  grown-refused (ok w) p e q = absurd (apart (yes says_verdict p.answer e))
   grown-refused (refuse n) p e q =
       record {
-        answer = q ∙ sym (ap code_of (yes says_same p.answer e));
+        answer = q ∙ sym (ap code_of (yes says_verdict p.answer e));
         state = refl;
         first-after = p.first-after;
         bytes_after = p.bytes_after;
@@ -141,12 +141,12 @@ module _ (ws first bytes places key value fs : List ℕ) where
         → AddsFlat ws first bytes places key value fs code ws' first' bytes' places'
     asked a = rw (eq-eqb (length ws) builder_count h, eq-eqb (length first) max_key k, is) a
 
-    module _ (r : Result State Refusal) (first' bytes' places' : List ℕ) (p : AddsInPlace (state_in ws) first bytes places key value f r first' bytes' places') where
+    module _ (r : Grown) (first' bytes' places' : List ℕ) (p : AddsInPlace (state_in ws) first bytes places key value f r first' bytes' places') where
       whole : AddsInPlaceAs wanted (state_in ws) first bytes places key (fields_from f value) r first' bytes' places'
       whole = rw (eq-eqb (length first) max_key k) at p
 
-      pub adds-good : {t : State} {ws' : List ℕ} → r ≡ Ok t → ws' ≡ builder_words (view_from t []) → AddsFlat ws first bytes places key value fs 0 ws' first' bytes' places'
+      pub adds-good : {ws' : List ℕ} → r.answer ≡ Ok tt → ws' ≡ builder_words (view_from r.state []) → AddsFlat ws first bytes places key value fs 0 ws' first' bytes' places'
       adds-good e q = asked (grown-good (state_in ws) ws first bytes places key (fields_from f value) r first' bytes' places' wanted whole e q)
 
-      pub adds-refused : {x : Refusal} {code : ℕ} → r ≡ Err x → code ≡ number x → AddsFlat ws first bytes places key value fs code ws first' bytes' places'
+      pub adds-refused : {x : Refusal} {code : ℕ} → r.answer ≡ Err x → code ≡ number x → AddsFlat ws first bytes places key value fs code ws first' bytes' places'
       adds-refused e q = asked (grown-refused (state_in ws) ws first bytes places key (fields_from f value) r first' bytes' places' wanted whole e q)

@@ -171,9 +171,9 @@ pub extern "C" fn slatedb_v1_builder_add(
         value,
         offer.row,
     );
-    match grown {
-        Ok(state) => {
-            builder_words_v1::put_state(builder, state);
+    match grown.answer {
+        Ok(()) => {
+            builder_words_v1::put_state(builder, grown.state);
             GOOD
         }
         Err(refusal) => u8::from(refusal),

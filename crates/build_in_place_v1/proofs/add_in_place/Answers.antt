@@ -8,17 +8,17 @@ use Rattle.build_in_place_v1.proofs.add_in_place.Goals as goal
 pub returns-in_default : goal.returns-in_default
 returns-in_default c = grows_strange _ _ _ _ _ _ c.in_default.ensures.1
 
-pub returns-in_err-planned : goal.returns-in_err-planned
-returns-in_err-planned c =
-    let w = c.in-Ok.ensures.1 in
-    grows-refused _ _ _ _ _ _ w.long _ _ c.from_residual.ensures.1 (rw w.same at (c.in_err-planned.ensures _ refl))
-
 pub grow-requires : goal.grow-requires
 grow-requires c =
     let w = c.in-Ok.ensures.1 in
-    record { first_key_len = w.long; tested = tested-is _ _ _ _ _ (rw w.same at (c.in_ok-planned.ensures _ refl)) }
+    record { first_key_len = w.long; tested = tested-is _ _ _ _ _ (rw w.same at (c.in-Ok-accept_row.ensures _ refl)) }
 
-pub returns : goal.returns
-returns c =
+pub returns-in-Ok-accept_row : goal.returns-in-Ok-accept_row
+returns-in-Ok-accept_row c =
     let w = c.in-Ok.ensures.1 in
-    grows _ _ _ _ _ _ w.long (tested-is _ _ _ _ _ (rw w.same at (c.in_ok-planned.ensures _ refl))) c.grow.ensures
+    grows _ _ _ _ _ _ w.long (tested-is _ _ _ _ _ (rw w.same at (c.in-Ok-accept_row.ensures _ refl))) c.grow.ensures
+
+pub returns-in-Err : goal.returns-in-Err
+returns-in-Err c =
+    let w = c.in-Ok.ensures.1 in
+    grows-refused _ _ _ _ _ _ w.long (rw w.same at (c.in-Err.ensures _ refl))
