@@ -1,12 +1,11 @@
 -- One row counted, how a block is opened, and the loop over its rows: the rows still to come, counted from here on, make the whole.
 -- An accepted block's walk gives every row (`walk_steps`), so while there are rows to come each step finds the next one. A refused block has none to come.
 use Prim.Native.Nat.{ℕ, ◌+◌, ◌-◌, ◌<◌}
-use mathlib.Core.Path.{◌≡◌, refl, ap, sym, ◌∙◌}
+use mathlib.Core.Path.{◌≡◌, refl, ap, ap₂, sym, ◌∙◌}
 use mathlib.Core.List.{List, [], ◌∷◌}
 use native.Mathlib.Omega.{arith}
 use lib.ListN.{length, replicate}
-use Rattle.std.specs.Prelude.{Result, Ok, Err, IsErrAnd, ⊤}
-use Rattle.std.proofs.lemmas.Result.{err_from_is_err_and}
+use Rattle.std.specs.Prelude.{Result, Ok, Err}
 use Rattle.layout.specs.Res.{Res, ok, refuse}
 use Rattle.layout.specs.Limits.{max_key}
 use Rattle.layout.specs.RowRead.{RowRead}
@@ -18,14 +17,14 @@ use Rattle.demands.specs.Rows.{Rows, BothWays}
 use Rattle.demands.specs.Proof2.{rows-room}
 use Rattle.demands.specs.Demand2.{has-rows, walk_steps}
 use Rattle.layout.proofs.Laws.Res.{ok-inj}
-use Rattle.basics.specs.Answers.{apart, yes, handed-on, says_verdict}
-use Rattle.basics.specs.Number.{number}
+use Rattle.basics.specs.Answers.{apart, yes, says_same, says_verdict}
 use Rattle.basics.specs.Says.{says_held}
 use Rattle.basics.specs.declared.IterationOrder.TheVariants.{Ascending}
 use Rattle.basics.specs.declared.Refusal.{Refusal}
 use Rattle.basics.specs.declared.ValueDeletable.{ValueDeletable}
 use Rattle.basics.specs.declared.ValueDeletable.TheVariants.{Value, Tombstone, Merge}
 use Rattle.row_decode_v2.specs.Says.{row_from}
+use Rattle.block_check_v2.specs.Promise.{Checks}
 use Rattle.step_in_place_v2.specs.Lent.{lent-whole}
 use Rattle.step_in_place_v2.specs.Promise.{Moves}
 use Rattle.step_in_place_v2.specs.Says.{told-row, told-apart, says_moved, place_after}
@@ -41,7 +40,7 @@ use Rattle.tally.specs.Tally.{tally_is, added, counted, counted_rows, tally_bloc
 use Rattle.tally.specs.declared.Opening.{Opening}
 use Rattle.tally.specs.declared.Passed.{Passed}
 use Rattle.tally.specs.Says.{Told, told, after_block}
-use Rattle.tally.specs.Parts.{OpensRows, passed_of, PassesRow}
+use Rattle.tally.specs.Parts.{rows_of, OpensRows, passed_of, PassesRow}
 use Rattle.tally.specs.Promise.{CountsRow}
 use Rattle.tally.specs.Laws.{rows-tally}
 
@@ -66,52 +65,60 @@ module _ (b : List ℕ) (n : ℕ) (tr : Trailer) (rows : List Keyed) (q : Rows b
   rows-walk : BothWays b tr max_key rows
   rows-walk = walk_steps b n tr rows q max_key (rows-room b n tr rows q)
 
-module _ (b : List ℕ) where
+module _ (b : List ℕ) (a : Result ℕ Refusal) (checks : Checks b a) where
   -- the cursor that an accepted block opens with, and its zeros
-  pub opened-good : {n : ℕ} (o : Opened) → Opens b Ascending o → ok n ≡ check b → OpensRows b (Ok (record { start = o.iterator.place; rows = n }))
-  opened-good {n} o opens e =
-      let h = has-rows b n (sym e) in
+  opens-so : {n : ℕ} (o : Opened) {p : Place} → check b ≡ ok n → Opens b Ascending o → p ≡ o.iterator.place → open_block b ascending ≡ ok (view_in p (replicate max_key 0))
+  opens-so {n} o e opens q =
+      let h = has-rows b n e in
       let w = rows-walk b n h.0 h.1 h.2 in
       let view : view_of o.iterator ≡ cursor_or ascending (open_block b ascending) = opens.view in
-      record { many = e; starts = w.opens_up ∙ ap ok (sym (ap (cursor_or ascending) w.opens_up) ∙ sym view ∙ ap (view_in o.iterator.place) opens.bytes) }
+      w.opens_up ∙ ap ok (sym (ap (cursor_or ascending) w.opens_up) ∙ sym view ∙ sym (ap₂ view_in q (sym opens.bytes)))
 
-  pub opened-refused : (x : Result Opening Refusal) (r : Refusal) → IsErrAnd x (λ q. q ≡ r) → refuse (number r) ≡ check b → OpensRows b x
-  opened-refused x r e w =
-      let p = err_from_is_err_and x e in
-      record { many = handed-on (λ (o : Opening). o.rows) x r e w; starts = rw p.1 tt }
+  module _ (o : Opened) {p : Place} (opens : Opens b Ascending o) (q : p ≡ o.iterator.place) where
+    pub opened-good : {n : ℕ} → a ≡ Ok n → OpensRows b (record { start = p; rows = n; answer = Ok tt })
+    opened-good e =
+        let h = yes says_same checks e in
+        record { verdict = rw h; many = rw h; opens = λ g. opens-so o g opens q }
 
--- a refused block leaves the tally that came
-pub refused-leaves : (t : Tally) (b : List ℕ) (x : Result ⊤ Refusal) (r : Refusal) → IsErrAnd x (λ q. q ≡ r) → refuse (number r) ≡ check b
-    → told t (says_verdict x) ≡ after_block t (tally_block t b)
-unfolding tally_block
-refused-leaves t b x r e w = rw (handed-on (λ (v : ⊤). tt {0}) x r e refl, sym w) refl
+    pub opened-refused : {x : Refusal} → a ≡ Err x → OpensRows b (record { start = p; rows = 0; answer = Err x })
+    opened-refused e =
+        let h = yes says_same checks e in
+        record { verdict = rw h; many = rw h; opens = λ g. opens-so o g opens q }
 
 -- ---- the loop
 
--- the rows to come from the cursor c on, `left` of them, and what they make of the tally
-pub record Folding (want : Told) (b : List ℕ) (left : ℕ) (c : Cursor) (t : Tally) : Type 0 where
+-- the rows to come from the cursor c on, `left` of them, and what they make of the tally beside the verdict v
+pub record Folding (want : Told) (v : Res (Unit {0})) (b : List ℕ) (left : ℕ) (c : Cursor) (t : Tally) : Type 0 where
   pub rows : List Keyed
   pub last : Cursor
   pub walks : Walks b max_key c rows last
   pub all : length rows ≡ left
-  pub makes : told (counted_rows t rows) (ok tt) ≡ want
+  pub makes : told (counted_rows t rows) v ≡ want
 
-pub fold_start : (t : Tally) (b : List ℕ) (o : Opening) → OpensRows b (Ok o) → {n : ℕ} → n ≡ o.rows
-    → Folding (after_block t (tally_block t b)) b n (view_in o.start (replicate max_key 0)) t
-fold_start t b o s {n} e =
-    let a = has-rows b o.rows (sym s.many) in
-    let q : Rows b o.rows a.0 a.1 = a.2 in
-    let w : BothWays b a.0 max_key a.1 = rows-walk b o.rows a.0 a.1 q in
-    let same : opened_up ≡ view_in o.start (replicate max_key 0) = ok-inj (sym w.opens_up ∙ s.starts) in
-    rw (← same, rows-tally t b o.rows a.0 a.1 q (sym s.many))
-    (record { rows = a.1; last = w.forwards.last; walks = w.forwards.walks; all = omega (arith, q.many, e); makes = refl })
+pub fold_start : (t : Tally) (b : List ℕ) (r : Opening) → OpensRows b r → {left : ℕ} → left ≡ r.rows
+    → Folding (after_block t (tally_block t b)) (says_verdict r.answer) b left (view_in r.start (replicate max_key 0)) t
+fold_start t b r o {left} e = go (check b) refl
+  where
+    go : (x : Res ℕ) → check b ≡ x → Folding (after_block t (tally_block t b)) (says_verdict r.answer) b left (view_in r.start (replicate max_key 0)) t
+    go (ok n) h =
+        let a = has-rows b n h in
+        let q : Rows b n a.0 a.1 = a.2 in
+        let w : BothWays b a.0 max_key a.1 = rows-walk b n a.0 a.1 q in
+        let same : opened_up ≡ view_in r.start (replicate max_key 0) = ok-inj (sym w.opens_up ∙ o.opens h) in
+        let many : r.rows ≡ n = o.many ∙ ap rows_of h in
+        rw (o.verdict, h, ← same, rows-tally t b n a.0 a.1 q h)
+        (record { rows = a.1; last = w.forwards.last; walks = w.forwards.walks; all = omega (arith, q.many, many, e); makes = refl })
+    go (refuse n) h =
+        let many : left ≡ 0 = e ∙ o.many ∙ ap rows_of h in
+        rw (o.verdict, h, many)
+        (record { rows = []; last = view_in r.start (replicate max_key 0); walks = stands _; all = refl; makes = unfold tally_block counted_rows in rw h })
 
-module _ {want : Told} (b : List ℕ) (left : ℕ) (c : Cursor) (t : Tally) (s : Folding want b left c t) where
-  pub fold-whole : left ≡ 0 → told t (ok tt) ≡ want
+module _ {want : Told} {v : Res (Unit {0})} (b : List ℕ) (left : ℕ) (c : Cursor) (t : Tally) (s : Folding want v b left c t) where
+  pub fold-whole : left ≡ 0 → told t v ≡ want
   unfolding counted_rows
   fold-whole h = go s.rows (s.all ∙ h) s.makes
     where
-      go : (rows : List Keyed) → length rows ≡ 0 → told (counted_rows t rows) (ok tt) ≡ want → told t (ok tt) ≡ want
+      go : (rows : List Keyed) → length rows ≡ 0 → told (counted_rows t rows) v ≡ want → told t v ≡ want
       go [] z e = e
       go (k ∷ ks) z e = absurd (omega arith)
 
@@ -123,19 +130,19 @@ module _ {want : Told} (b : List ℕ) (left : ℕ) (c : Cursor) (t : Tally) (s :
     pub number : ℕ
     pub moved : Cursor
     pub is : next c b max_key ≡ ok (step_is moved (found region number r key))
-    pub then : Folding want b (left - 1) moved (counted t r.held)
+    pub then : Folding want v b (left - 1) moved (counted t r.held)
 
   fold-turns : 0 < left → Turns
   unfolding counted_rows
   fold-turns h = go s.last c s.rows s.walks refl s.all s.makes
     where
-      go : (last d : Cursor) (rows : List Keyed) → Walks b max_key d rows last → d ≡ c → length rows ≡ left → told (counted_rows t rows) (ok tt) ≡ want → Turns
+      go : (last d : Cursor) (rows : List Keyed) → Walks b max_key d rows last → d ≡ c → length rows ≡ left → told (counted_rows t rows) v ≡ want → Turns
       go last d rows (stands e) same z m = absurd (omega arith)
       go last d rows (gives e e' e'' k ks tr region number read named p w) same z m =
           record { r = k.row; key = k.key; region = region; number = number; moved = e'; is = rw (← same) p; then = record { rows = ks; last = e''; walks = w; all = omega arith; makes = m } }
 
 -- a step in place, over as many key bytes as the longest key has, with rows to go: it finds the next row, and hands on what that holds
-module _ {want : Told} (b : List ℕ) (left : ℕ) (p : Place) (key out : List ℕ) (t : Tally) (s : Folding want b left (view_in p key) t) (h : 0 < left)
+module _ {want : Told} {v : Res (Unit {0})} (b : List ℕ) (left : ℕ) (p : Place) (key out : List ℕ) (t : Tally) (s : Folding want v b left (view_in p key) t) (h : 0 < left)
     (k : length key ≡ max_key) (l : length out ≡ max_key) (x : Passed) (key' out' : List ℕ) (m : PassesRow p key b out x key' out') where
   turn : Turns b left (view_in p key) t s
   turn = fold-turns b left (view_in p key) t s h
@@ -143,12 +150,12 @@ module _ {want : Told} (b : List ℕ) (left : ℕ) (p : Place) (key out : List �
   whole : Moves (ok (step_is turn.moved (found turn.region turn.number turn.r turn.key))) p key out m.moved key' out'
   whole = rw (lent-whole p key b (length out) k (ap (next (view_in p key) b) l ∙ turn.is)) at m.steps
 
-  pub fold-passed : (t' : Tally) → CountsRow t x.held t' → {n : ℕ} → n + 1 ≡ left → Folding want b n (view_in x.place key') t'
+  pub fold-passed : (t' : Tally) → CountsRow t x.held t' → {n : ℕ} → n + 1 ≡ left → Folding want v b n (view_in x.place key') t'
   fold-passed t' counts {n} one =
       let fewer : left - 1 ≡ n = omega (arith, one) in
       rw (← fewer) (go m.moved refl)
     where
-      go : (y : Result Moved Refusal) → m.moved ≡ y → Folding want b (left - 1) (view_in x.place key') t'
+      go : (y : Result Moved Refusal) → m.moved ≡ y → Folding want v b (left - 1) (view_in x.place key') t'
       go (Ok (Found q g n row)) e =
           let same : turn.r ≡ row_from row = (told-row (ok-inj (yes says_moved whole.answer e))).2 in
           let at : view_in q key' ≡ turn.moved = sym (ap (λ (z : Result Moved Refusal). view_in (place_after z p) key') e) ∙ whole.view in

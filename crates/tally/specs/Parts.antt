@@ -1,6 +1,6 @@
 -- What the two functions under the loop answer: how a block is opened for counting, and what a step over a row hands on.
 use Rattle.std.specs.Prelude.{ℕ, ◌≡◌, List, replicate, Result, Ok, Err}
-use Rattle.layout.specs.Res.{Res, ok, refuse}
+use Rattle.layout.specs.Res.{Res, ok, refuse, whether}
 use Rattle.layout.specs.Limits.{max_key}
 use Rattle.layout.specs.Check.{check}
 use Rattle.layout.specs.Cursor.{ascending, open_block}
@@ -11,19 +11,19 @@ use Rattle.step_in_place_v2.specs.declared.Moved.{Moved}
 use Rattle.step_in_place_v2.specs.declared.Moved.TheVariants.{Found, Done}
 use Rattle.place_v2.specs.declared.Place.{Place}
 use Rattle.basics.specs.declared.Refusal.{Refusal}
-use Rattle.basics.specs.Answers.{says}
+use Rattle.basics.specs.Answers.{says_verdict}
 use Rattle.tally.specs.declared.Opening.{Opening}
 use Rattle.tally.specs.declared.Passed.{Passed}
 
--- a block that is not refused opens with the place before its first row
-abbrev pub Starts : List ℕ → Result Opening Refusal → Type 0
-Starts b (Ok o) = open_block b ascending ≡ ok (view_in o.start (replicate max_key 0))
-Starts b (Err x) = Unit {0}
+-- a refused block has no rows to count
+abbrev pub rows_of : Res ℕ → ℕ
+rows_of (ok n) = n
+rows_of (refuse n) = 0
 
--- how many rows there are to count, or the refusal
-pub record OpensRows (b : List ℕ) (r : Result Opening Refusal) : Type 0 where
-  pub many : says (λ (o : Opening). o.rows) r ≡ check b
-  pub starts : Starts b r
+pub record OpensRows (b : List ℕ) (r : Opening) : Type 0 where
+  pub verdict : says_verdict r.answer ≡ whether (check b)
+  pub many : r.rows ≡ rows_of (check b)
+  pub opens : {n : ℕ} → check b ≡ ok n → open_block b ascending ≡ ok (view_in r.start (replicate max_key 0))
 
 -- what is handed on of a step that finds no row does not matter
 abbrev pub passed_of : Place → Result Moved Refusal → Passed

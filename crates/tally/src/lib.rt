@@ -26,11 +26,12 @@ pub struct TalliedBlock {
     pub answer: Result<(), Refusal>,
 }
 
-// A block that is opened for counting: the place before its first row, and how many rows there are to count.
+// A block that is opened for counting: the place before its first row, how many rows there are to count, which are none in a refused block, and the answer.
 #[derive(Clone, Copy)]
 struct Opening {
     start: Place,
     rows: usize,
+    answer: Result<(), Refusal>,
 }
 
 // What a step passes: the place past the row, and what the row holds.
@@ -79,15 +80,24 @@ pub fn tally_row(t: &mut Tally, held: ValueDeletable)
 
 // ---- a block
 
-fn open(block: &[u8]) -> Result<Opening, Refusal>
+fn open(block: &[u8]) -> Opening
     ensures { OpensRows block.now result }
 {
-    let rows = block_check_v2::check(block)?;
+    let checked = block_check_v2::check(block);
     let opened = BlockIteratorV2::new(block, IterationOrder::Ascending);
-    Ok(Opening {
-        start: opened.iterator.place,
-        rows,
-    })
+    let start = opened.iterator.place;
+    match checked {
+        Ok(n) => Opening {
+            start,
+            rows: n,
+            answer: Ok(()),
+        },
+        Err(refusal) => Opening {
+            start,
+            rows: 0,
+            answer: Err(refusal),
+        },
+    }
 }
 
 // One step in place. The check has accepted the block where there are rows to count, so there each step finds its row.
@@ -124,7 +134,7 @@ fn step(
 pub fn tally_block(t: &mut Tally, block: &[u8]) -> Result<(), Refusal>
     ensures { CountsBlock t.old block.now t.new result }
 {
-    let opened = open(block)?;
+    let opened = open(block);
     let mut p = opened.start;
     let mut carried = [0; basics::MAX_KEY];
     let mut key = [0; basics::MAX_KEY];
@@ -133,7 +143,7 @@ pub fn tally_block(t: &mut Tally, block: &[u8]) -> Result<(), Refusal>
         tally_row(t, passed.held);
         p = passed.place;
     }
-    Ok(())
+    opened.answer
 }
 
 // The same for a desk that holds its tally by value: it is lent for the block, and had back.

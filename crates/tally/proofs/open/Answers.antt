@@ -1,9 +1,12 @@
 -- `open` answers the check's verdict, how many rows there are to count, and the place before the first, which is the cursor that `new` promised.
+use mathlib.Core.Path.{refl}
 use Rattle.tally.proofs.Laws.{opened-good, opened-refused}
 use Rattle.tally.proofs.open.Goals as goal
 
-pub returns-in_err-rows : goal.returns-in_err-rows
-returns-in_err-rows c = opened-refused _ _ _ c.from_residual.ensures.1 c.in_err-rows.ensures
+pub returns-in-Ok : goal.returns-in-Ok
+returns-in-Ok c =
+    opened-good _ _ c.check-checked.ensures _ c.new-opened.ensures refl c.in-Ok.is
 
-pub returns : goal.returns
-returns c = opened-good _ _ c.new-opened.ensures c.in_ok-rows.ensures
+pub returns-in-Err : goal.returns-in-Err
+returns-in-Err c =
+    opened-refused _ _ c.check-checked.ensures _ c.new-opened.ensures refl c.in-Err.is

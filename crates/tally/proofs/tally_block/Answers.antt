@@ -1,13 +1,10 @@
 use mathlib.Core.Path.{refl}
 use native.Mathlib.Omega.{arith}
-use Rattle.tally.proofs.Laws.{fold_start, fold-passed, fold-whole, refused-leaves}
+use Rattle.tally.proofs.Laws.{fold_start, fold-passed, fold-whole}
 use Rattle.tally.proofs.tally_block.Goals as goal
 
-pub returns-in_err-opened : goal.returns-in_err-opened
-returns-in_err-opened c = refused-leaves _ _ _ _ c.from_residual.ensures.1 c.in_err-opened.ensures.many
-
 pub loop-init : goal.loop-init
-loop-init c = (fold_start c.args.t.now c.args.block.now c.in_ok-opened.opened c.in_ok-opened.ensures (omega arith), refl, refl)
+loop-init c = (fold_start c.args.t.now c.args.block.now c.open-opened.result c.open-opened.ensures (omega arith), refl, refl)
 
 pub loop-preserved : goal.loop-preserved
 loop-preserved c =
