@@ -5,12 +5,12 @@ use Rattle.std.proofs.Common.{sym, ◌∙◌, ⊎_elim, arith, le-leb, leb-false
 use Rattle.std.proofs.lemmas.Bool.{lt-leb, eqb-false}
 use Rattle.layout.specs.Res.{ok, refuse}
 use Rattle.layout.specs.Trailer.{count_of, Trailer, trailer_is, trailer_of, offset_at, Region, region_is, first_of, region_of}
-use Rattle.layout.proofs.Laws.Res.{ltb-cases, eqb-cases, clash, bind-then}
+use Rattle.layout.proofs.Laws.Res.{ltb-cases, eqb-cases, bool_cases, clash, bind-then}
 use Rattle.layout.proofs.Laws.Plain.{or-false}
 use Rattle.layout.proofs.Laws.Trailer.{trailer-short, trailer-none, trailer-long, trailer-good, region-first, region-far, region-falls, region-next-far, region-inner, region-last}
 use Rattle.basics.specs.Answers.{apart}
-use Rattle.trailer.specs.Handed.{region_by}
-use Rattle.trailer.specs.Laws.{handed-past, handed-tells, region-used}
+use Rattle.trailer.specs.Handed.{region_at, region_by}
+use Rattle.trailer.specs.Laws.{handed-known, handed-past, handed-tells, region-used}
 
 -- ---- the trailer
 
@@ -34,6 +34,13 @@ module _ (b : List ℕ) where
   trailer-fine h e =
       let w = or-false {a = eqb (count_of b) 0} {b = ltb (length b) (2 + 2 * count_of b)} e in
       trailer-good b h (eqb-false (count_of b) 0 w.0) (ltb-false (length b) (2 + 2 * count_of b) w.1)
+
+  -- one that is refused is refused with 14
+  pub trailer-not : {n : ℕ} → trailer_of b ≡ refuse n → refuse 14 ≡ trailer_of b
+  trailer-not e =
+      ⊎_elim (λ x. trailer-short b x.1)
+      (λ x. ⊎_elim (trailer_bad x.1) (λ f. absurd (apart (trailer-fine x.1 f ∙ e))) (bool_cases bad_trailer))
+      (ltb-cases (length b) 2)
 
 -- ---- a region
 
@@ -104,6 +111,14 @@ module _ (b : List ℕ) (t : Trailer) (r : ℕ) where
       rw last (region-last b t r first below y.1))
       (ltb-cases (r + 1) t.count)
 
+  -- one that is refused is refused with 15
+  pub region-not : {n : ℕ} → region_of b t r ≡ refuse n → refuse 15 ≡ region_of b t r
+  region-not e = ⊎_elim region_bad (λ f. absurd (apart (region-fine f ∙ e))) (bool_cases bad_region)
+
+  -- and so is one of a trailer that is handed in and has it
+  pub known-not : (t.size + (2 + 2 * t.count) ≡ length b) × (r < t.count) → {n : ℕ} → region_at b t r ≡ refuse n → region_of b t r ≡ refuse 15
+  known-not k e = sym (region-not (sym (handed-known b t r _ k) ∙ e))
+
 -- ---- a region of the trailer that is read
 
 -- what a region that is good tells
@@ -145,6 +160,19 @@ module _ (b : List ℕ) (r : ℕ) where
     where
       never : {A : Type 0} {n : ℕ} → refuse n ≡ trailer_of b → A
       never q = absurd (apart (sym (q ∙ read)))
+
+  -- and any block is refused, by its trailer or by the number
+  pub by_bad : {A : Type 0} → 2 ≤ length b → bad_by ≡ true → ((n : ℕ) → refuse n ≡ region_by b r → A) → A
+  by_bad {A} h e f =
+      ⊎_elim (λ x. f 14 (by-not (trailer-none b h x.1)))
+      (λ x.
+      ⊎_elim (λ y. f 14 (by-not (trailer-long b h x.1 y.1)))
+      (λ y. f 18 (by-past h trailer_by (sym (trailer-good b h x.1 y.1)) e))
+      (ltb-cases (length b) (2 + 2 * count_of b)))
+      (eqb-cases (count_of b) 0)
+    where
+      by-not : {n : ℕ} → refuse n ≡ trailer_of b → refuse n ≡ region_by b r
+      by-not q = rw (← q)
 
   pub by-fine : 2 ≤ length b → bad_by ≡ false → region_of b trailer_by r ≡ region_by b r
   by-fine h e =

@@ -180,6 +180,13 @@ pub span-plain : (d : List ℕ) (at end prev_len : ℕ) (restart : Bool) {most :
     → ok (span_is p.next p.shared (at + 3) p.unshared) ≡ spans (read_row d at end prev_len restart)
 span-plain d at end prev_len restart p m e = rw (plain-is d at end prev_len restart (sym (rw m at e)))
 
+-- of a row that was read, or refused
+pub span-read : (x : Res RowRead) {r : RowRead} → x ≡ ok r → ok (span_is r.next r.shared r.suffix_at r.suffix_len) ≡ spans x
+span-read x e = rw e
+
+pub span-refused : (x : Res RowRead) {n : ℕ} → x ≡ refuse n → refuse n ≡ spans x
+span-refused x e = rw e
+
 -- what one tells: the row that was read
 pub span-row : {A : Type 0} (x : Res RowRead) (s : RowSpan) → ok s ≡ spans x → ((r : RowRead) → x ≡ ok r → span_of r ≡ s → A) → A
 span-row (ok r) s e f = f r refl (sym (ok-inj e))
