@@ -282,7 +282,7 @@ fn put_shared(data: &[u8], region: Region, there: Reached, shared: usize, out: &
         rebuild_key(data, region, region.start, 0, there.at, &mut out[..shared]);
         return;
     }
-    let n = shared.min(k.split);
+    let n = numbers::least(shared, k.split);
     let first = k.first;
     let end = first + n;
     let _ = buf_mut::copy_in(out, 0, &data[first..end]);

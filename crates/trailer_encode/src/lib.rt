@@ -24,7 +24,7 @@ pub fn put_trailer(
 ) -> Result<usize, Refusal>
     ensures { PutsTrailer offsets.now count buf.old at result buf.new }
 {
-    let n = count.min(offsets.len());
+    let n = numbers::least(count, offsets.len());
     if buf.len() < at {
         return Err(Refusal::BufferTooSmall);
     }

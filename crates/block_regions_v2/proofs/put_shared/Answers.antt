@@ -19,4 +19,4 @@ returns-then-k-shared c =
 pub returns : goal.returns
 returns c =
     let k = c.args.there.known in
-    λ before st few. shared-put _ _ _ c.args.out.now _ c.requires.shared_in_bounds before st few c.if-k-shared.false c.min-n.ensures (copied (omega (arith, part-most c.args.data.now k.first c.min-n.result)) c.copy_in.ensures) (copied (omega (arith, part-most c.args.data.now k.second (c.args.shared - c.min-n.result))) c.copy_in-2.ensures)
+    λ before st few. shared-put _ _ _ c.args.out.now _ c.requires.shared_in_bounds before st few c.if-k-shared.false c.least-n.ensures (copied (omega (arith, part-most c.args.data.now k.first c.least-n.result)) c.copy_in.ensures) (copied (omega (arith, part-most c.args.data.now k.second (c.args.shared - c.least-n.result))) c.copy_in-2.ensures)

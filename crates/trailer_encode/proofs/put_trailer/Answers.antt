@@ -79,10 +79,10 @@ pub returns-in_err-next : goal.returns-in_err-next
 returns-in_err-next c = absurd (not-refused c.loop-offset.invariant (omega arith) _ c.put_u16.ensures c.in_err-next.was)
 
 pub loop-offset-preserved : goal.loop-offset-preserved
-loop-offset-preserved c = one_more c.loop-offset.invariant (omega arith) (omega (arith, length-take c.min-n.result c.args.offsets.now)) (omega (arith, length-take c.min-n.result c.args.offsets.now)) c.put_u16.ensures c.in_ok-next.was
+loop-offset-preserved c = one_more c.loop-offset.invariant (omega arith) (omega (arith, length-take c.least-n.result c.args.offsets.now)) (omega (arith, length-take c.least-n.result c.args.offsets.now)) c.put_u16.ensures c.in_ok-next.was
 
 pub returns : goal.returns
 returns c =
     let l = c.loop-offset.invariant in
     let p = rw c.low_16.ensures at c.put_u16-2.ensures in
-    rw (fits l (omega arith) _ p) (puts-wrote (all_laid l (omega arith) c.args.offsets.now _ (omega (arith, length-take c.min-n.result c.args.offsets.now)) refl c.min-n.ensures p))
+    rw (fits l (omega arith) _ p) (puts-wrote (all_laid l (omega arith) c.args.offsets.now _ (omega (arith, length-take c.least-n.result c.args.offsets.now)) refl c.least-n.ensures p))
