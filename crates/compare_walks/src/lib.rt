@@ -151,7 +151,9 @@ struct Ran {
     place: Place,
 }
 
-// The plain rows of one region: to its end, to the first row that is not plain, or to the limit.
+// The plain rows of one region: to its end, to the first row that is not plain, or to the limit. The loop has the registers to itself: in line, what stands round it
+// takes some of them.
+#[inline(never)]
 fn run(block: &[u8], b: Bounds, key: &mut [u8], came: Ran, limit: u64) -> Ran
     requires key_len { length key.old ≡ max_key }
     requires inside { Inside block.now b.size (region_from b.region) (view_in came.place key.old) }
